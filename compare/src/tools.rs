@@ -1,0 +1,73 @@
+//! What the parts share: numbers that look random and are the same in each run, the end at a difference, and timing.
+use std::time::Instant;
+
+/// xorshift64*, from a fixed seed.
+pub struct Random(u64);
+
+impl Random {
+    pub fn new(seed: u64) -> Self {
+        Self(seed.wrapping_mul(0x9e37_79b9_7f4a_7c15) | 1)
+    }
+
+    pub fn next(&mut self) -> u64 {
+        self.0 ^= self.0 >> 12;
+        self.0 ^= self.0 << 25;
+        self.0 ^= self.0 >> 27;
+        self.0.wrapping_mul(0x2545_f491_4f6c_dd1d)
+    }
+
+    /// A number below n.
+    pub fn below(&mut self, n: usize) -> usize {
+        usize::try_from((self.next() >> 11) % u64::try_from(n).unwrap()).unwrap()
+    }
+
+    pub fn byte(&mut self) -> u8 {
+        self.next().to_be_bytes()[0]
+    }
+
+    pub fn fill(&mut self, bytes: &mut [u8]) {
+        for b in bytes {
+            *b = self.byte();
+        }
+    }
+}
+
+/// Bytes in hexadecimal, to show an input.
+pub fn hex(bytes: &[u8]) -> String {
+    bytes.iter().map(|b| format!("{b:02X}")).collect()
+}
+
+/// The end of a comparison at its first difference.
+pub fn differs(what: &str, input: &str, ours: &str, theirs: &str) -> ! {
+    eprintln!("compare: {what} differs\n  input: {input}\n  ours:  {ours}\n  Rust:  {theirs}");
+    std::process::exit(1);
+}
+
+/// Nanoseconds of one call: the least of several rounds, each long enough to be measured.
+pub fn time(mut call: impl FnMut()) -> f64 {
+    let mut turns = 1u32;
+    loop {
+        let start = Instant::now();
+        for _ in 0..turns {
+            call();
+        }
+        if start.elapsed().as_micros() >= 2000 {
+            break;
+        }
+        turns *= 2;
+    }
+    let mut best = f64::INFINITY;
+    for _ in 0..7 {
+        let start = Instant::now();
+        for _ in 0..turns {
+            call();
+        }
+        best = best.min(start.elapsed().as_secs_f64() * 1e9 / f64::from(turns));
+    }
+    best
+}
+
+/// One line of the benchmark.
+pub fn line(name: &str, ours: f64, theirs: f64) {
+    println!("{name:34} {ours:12.1} {theirs:12.1} {:7.2}", ours / theirs);
+}
