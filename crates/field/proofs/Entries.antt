@@ -1,0 +1,126 @@
+-- What stands in the table of a field: logarithms and powers, and so products and quotients. Assumes nothing.
+use mathlib.Core.Path.{_≡_, refl, sym, ap, ap₂, _∙_, subst}
+use mathlib.Core.List.{List, [], _∷_, _++_}
+use mathlib.Core.Logic.{_≢_}
+use Prim.Native.Nat.{ℕ, zero, suc, _+_, _-_, _%_, _≤_, _<_}
+use native.Mathlib.Omega.{arith}
+use native.Mathlib.Nat.{le-of-suc-le-suc}
+use native.Mathlib.Decide.{ℕ-discrete, decLt}
+use borrow.Author.Tests.{lt-ltb, le-ltb}
+use lib.Dec.{T}
+use lib.ListN.{length, getD, length-append, List·getD-append}
+use lib.Seq.{getD-append-add, getD-append-seam}
+use Rattle.field.specs.Field.{raised, power, log, times, mul}
+use Rattle.field.specs.Table.{each, logEntry, powerEntry, tableOf, polyOf, Field}
+use Rattle.field.proofs.Field.{Passes, passes, power-lt, power-log, mul-power, mul-lt, mul-comm, mul-assoc, mul-inverse, mul-one, times-pos, times-zero}
+
+pub each-length : (n : ℕ) (f : ℕ → ℕ) → length (each n f) ≡ n
+unfolding each
+each-length zero f = refl
+each-length (suc n) f = length-append (each n f) (f n ∷ []) ∙ omega (arith, each-length n f)
+
+pub each-at : (n : ℕ) (f : ℕ → ℕ) (i : ℕ) → i < n → getD (each n f) i 0 ≡ f i
+unfolding each
+each-at zero f i h = absurd (omega arith)
+each-at (suc n) f i h = elim (ℕ-discrete i n) [
+  | yes e ↦ (let s : i ≡ length (each n f) = omega (arith, each-length n f) in
+      ap (λ (k : ℕ). getD (each n f ++ (f n ∷ [])) k 0) s ∙ getD-append-seam (each n f) (f n) [] 0 ∙ ap f (sym e))
+  | no d ↦ List·getD-append (each n f) (f n ∷ []) 0 i (omega (arith, each-length n f)) ∙ each-at n f i (omega arith)
+]
+
+-- the product of two bytes that are not 0
+mul-pos : (poly a b : ℕ) → 0 < a → a < 256 → 0 < b → b < 256 → mul poly a b ≡ power poly (log poly a + log poly b)
+unfolding mul
+mul-pos poly a b pa ha pb hb =
+    let x : a % 256 ≡ a = omega arith in
+    let y : b % 256 ≡ b = omega arith in
+    ap₂ (times poly) x y ∙ times-pos poly a b pa pb
+
+pub mul-left-zero : (poly b : ℕ) → mul poly 0 b ≡ 0
+unfolding mul times
+mul-left-zero poly b = refl
+
+pub mul-right-zero : (poly a : ℕ) → mul poly a 0 ≡ 0
+unfolding mul
+mul-right-zero poly a = times-zero poly (a % 256)
+
+module _ (t : List ℕ) (F : Field t) where
+  abbrev poly : ℕ
+  poly = polyOf t
+
+  pub the-field : Passes (polyOf t)
+  the-field = passes (polyOf t) (F .test)
+
+  log-at : (a : ℕ) → a < 256 → getD t a 0 ≡ logEntry poly a
+  unfolding tableOf
+  log-at a h =
+      ap (λ (x : List ℕ). getD x a 0) (F .is)
+      ∙ List·getD-append (each 256 (logEntry poly)) (each 1024 (powerEntry poly)) 0 a (omega (arith, each-length 256 (logEntry poly)))
+      ∙ each-at 256 (logEntry poly) a h
+
+  pub log-zero : getD t 0 0 ≡ 510
+  unfolding logEntry
+  log-zero = log-at 0 (omega arith)
+
+  pub log-pos : (a : ℕ) → 0 < a → a < 256 → (getD t a 0 ≡ log poly a) × (getD t a 0 < 255)
+  unfolding logEntry
+  log-pos zero p h = absurd (omega arith)
+  log-pos (suc a) p h = let e = log-at (suc a) h in (e, omega (arith, e, the-field .onto (suc a) p h))
+
+  pub log-le : (a : ℕ) → a < 256 → getD t a 0 ≤ 510
+  log-le a h = elim (ℕ-discrete a 0) [
+    | yes e ↦ omega (arith, ap (λ (x : ℕ). getD t x 0) e, log-zero)
+    | no d ↦ omega (arith, log-pos a (omega arith) h .1)
+  ]
+
+  power-entry : (n : ℕ) → n < 1024 → getD t (256 + n) 0 ≡ powerEntry poly n
+  unfolding tableOf
+  power-entry n h =
+      ap (λ (x : List ℕ). getD x (256 + n) 0) (F .is)
+      ∙ (let e : 256 + n ≡ length (each 256 (logEntry poly)) + n = omega (arith, each-length 256 (logEntry poly)) in
+      ap (λ (k : ℕ). getD (each 256 (logEntry poly) ++ each 1024 (powerEntry poly)) k 0) e)
+      ∙ getD-append-add (each 256 (logEntry poly)) (each 1024 (powerEntry poly)) n 0
+      ∙ each-at 1024 (powerEntry poly) n h
+
+  pub power-at : (n : ℕ) → n < 510 → getD t (256 + n) 0 ≡ power poly n
+  unfolding powerEntry
+  power-at n h = power-entry n (omega arith) ∙ simp (lt-ltb n 510 h)
+
+  pub zero-at : (n : ℕ) → 510 ≤ n → n < 1024 → getD t (256 + n) 0 ≡ 0
+  unfolding powerEntry
+  zero-at n l h = power-entry n h ∙ simp (le-ltb n 510 l)
+
+  pub entry-lt : (n : ℕ) → n < 1024 → getD t (256 + n) 0 < 256
+  entry-lt n h = elim (decLt n 510) [
+    | yes l ↦ omega (arith, power-at n l, power-lt poly the-field n)
+    | no l ↦ omega (arith, zero-at n (omega arith) h)
+  ]
+
+  -- a times α^n
+  pub scaled-at : (a n : ℕ) → a < 256 → n ≤ 255 → getD t (256 + (getD t a 0 + n)) 0 ≡ mul poly a (power poly n)
+  scaled-at a n h l = elim (ℕ-discrete a 0) [
+    | yes e ↦ (let z : getD t a 0 ≡ 510 = ap (λ (x : ℕ). getD t x 0) e ∙ log-zero in
+        zero-at (getD t a 0 + n) (omega arith) (omega arith) ∙ sym (ap (λ (x : ℕ). mul poly x (power poly n)) e ∙ mul-left-zero poly (power poly n)))
+    | no d ↦ (let p = log-pos a (omega arith) h in
+        power-at (getD t a 0 + n) (omega arith)
+        ∙ ap (λ (k : ℕ). power poly (k + n)) (p .0)
+        ∙ sym (mul-power poly the-field (log poly a) n)
+        ∙ ap (λ (x : ℕ). mul poly x (power poly n)) (power-log poly the-field a (omega arith) h))
+  ]
+
+  pub product-at : (a b : ℕ) → a < 256 → b < 256 → getD t (256 + (getD t a 0 + getD t b 0)) 0 ≡ mul poly a b
+  product-at a b ha hb = elim (ℕ-discrete b 0) [
+    | yes e ↦ (let z : getD t b 0 ≡ 510 = ap (λ (x : ℕ). getD t x 0) e ∙ log-zero in
+        zero-at (getD t a 0 + getD t b 0) (omega arith) (omega (arith, log-le a ha)) ∙ sym (ap (mul poly a) e ∙ mul-right-zero poly a))
+    | no d ↦ (let p = log-pos b (omega arith) hb in
+        scaled-at a (getD t b 0) ha (omega arith) ∙ ap (mul poly a) (ap (power poly) (p .0) ∙ power-log poly the-field b (omega arith) hb))
+  ]
+
+  -- a by b
+  pub quotient-at : (a b : ℕ) → a < 256 → 0 < b → b < 256 → mul poly (getD t (256 + (getD t a 0 + (255 - getD t b 0))) 0) b ≡ a
+  quotient-at a b ha pb hb =
+      let p = log-pos b pb hb in
+      ap (λ (x : ℕ). mul poly x b) (scaled-at a (255 - getD t b 0) ha (omega arith) ∙ ap (λ (k : ℕ). mul poly a (power poly (255 - k))) (p .0))
+      ∙ mul-assoc poly the-field a (power poly (255 - log poly b)) b
+      ∙ ap (mul poly a) (mul-comm poly the-field (power poly (255 - log poly b)) b ∙ mul-inverse poly the-field b pb hb)
+      ∙ mul-one poly the-field a ∙ (let z : a % 256 ≡ a = omega arith in z)

@@ -1,0 +1,15 @@
+-- The polynomials that pass the order test: Han Xin's, and those of QR (11D hex) and Data Matrix (12D hex). Assumes nothing.
+use lib.Dec.{T}
+use Rattle.field.specs.Field.{timesAlpha, raised, powers, find, below, isOnto, isOnce, orderTest}
+
+pub passes-163 : T (orderTest 0x163)
+unfolding orderTest isOnto isOnce powers find below raised timesAlpha
+passes-163 = tt
+
+pub passes-11D : T (orderTest 0x11D)
+unfolding orderTest isOnto isOnce powers find below raised timesAlpha
+passes-11D = tt
+
+pub passes-12D : T (orderTest 0x12D)
+unfolding orderTest isOnto isOnce powers find below raised timesAlpha
+passes-12D = tt

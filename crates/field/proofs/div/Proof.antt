@@ -1,0 +1,45 @@
+use mathlib.Core.Path.{_∙_, ap, ap₂}
+use Prim.Native.Nat.{ℕ, _+_, _-_}
+use lib.ListN.{getD}
+use native.Mathlib.Omega.{arith}
+use Rattle.field.specs.Field.{mul}
+use Rattle.field.specs.Table.{polyOf}
+use Rattle.field.proofs.Entries.{quotient-at}
+use borrow.Author.Needs.{needs}
+use Rattle.field.proofs.div.Statement.{statement}
+use Rattle.field.proofs.div.Tie as tie
+
+log-entry-requires : tie.Need-log-entry-requires
+log-entry-requires c κs = search needs
+
+log-entry-requires-2 : tie.Need-log-entry-requires-2
+log-entry-requires-2 c κs = search needs
+
+sub-power-entry : tie.Need-sub-power-entry
+sub-power-entry c = omega (arith, c .log-entry2 .ensures .2 (c .before .before .pre .1))
+
+add-power-entry : tie.Need-add-power-entry
+add-power-entry c = search needs
+
+power-entry-requires : tie.Need-power-entry-requires
+power-entry-requires c κs = search needs
+
+returns : tie.Need-returns
+returns c =
+    ap (λ (x : ℕ). mul (polyOf (c .before .before .before .args .field .now)) x (c .before .before .before .args .b))
+    (c .power-entry .ensures
+    ∙ ap₂ (λ (x y : ℕ). getD (c .before .before .before .args .field .now) (256 + (x + (255 - y))) 0)
+    (c .before .before .log-entry .ensures .0) (c .before .log-entry2 .ensures .0))
+    ∙ quotient-at (c .before .before .before .args .field .now) (c .before .before .before .pre .0) (c .before .before .before .args .a)
+    (c .before .before .before .args .b) (search needs) (c .before .before .before .pre .1) (search needs)
+
+pub div-spec : {M : Type 1} → statement M
+div-spec =
+    tie.close
+    (tie.spec
+    log-entry-requires
+    log-entry-requires-2
+    sub-power-entry
+    add-power-entry
+    power-entry-requires
+    returns)
