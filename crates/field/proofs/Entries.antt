@@ -2,17 +2,17 @@
 use mathlib.Core.Path.{_≡_, refl, sym, ap, ap₂, _∙_, subst}
 use mathlib.Core.List.{List, [], _∷_, _++_}
 use mathlib.Core.Logic.{_≢_}
-use Prim.Native.Nat.{ℕ, zero, suc, _+_, _-_, _%_, _≤_, _<_}
+use Prim.Native.Nat.{ℕ, zero, suc, _+_, _-_, _*_, _%_, _^_, _≤_, _<_}
 use native.Mathlib.Omega.{arith}
 use native.Mathlib.Nat.{le-of-suc-le-suc}
 use native.Mathlib.Decide.{ℕ-discrete, decLt}
-use borrow.Author.Tests.{lt-ltb, le-ltb}
 use lib.Dec.{T}
-use lib.ListN.{length, getD, length-append, List·getD-append}
+use lib.Bits.{bitXor, xor-block, xor-zero-l, xor-self}
+use lib.ListN.{length, getD, replicate, length-append, getD-replicate, List·getD-append}
 use lib.Seq.{getD-append-add, getD-append-seam}
-use Rattle.field.specs.Field.{raised, power, log, times, mul}
-use Rattle.field.specs.Table.{each, logEntry, powerEntry, tableOf, polyOf, Field}
-use Rattle.field.proofs.Field.{Passes, passes, power-lt, power-log, mul-power, mul-lt, mul-comm, mul-assoc, mul-inverse, mul-one, times-pos, times-zero}
+use Rattle.field.specs.Field.{raised, timesAlpha, power, powers, log, times, mul, orderTest}
+use Rattle.field.specs.Table.{each, logEntry, tableOf, polyOf, Field}
+use Rattle.field.proofs.Field.{Passes, passes, powers-length, powers-at, power-lt, power-log, mul-power, mul-lt, mul-comm, mul-assoc, mul-inverse, mul-one, times-pos, times-zero}
 
 pub each-length : (n : ℕ) (f : ℕ → ℕ) → length (each n f) ≡ n
 unfolding each
@@ -44,6 +44,26 @@ pub mul-right-zero : (poly a : ℕ) → mul poly a 0 ≡ 0
 unfolding mul
 mul-right-zero poly a = times-zero poly (a % 256)
 
+-- what stands behind the logarithms
+behind : (poly n : ℕ) → getD (tableOf poly) (256 + n) 0 ≡ getD (powers poly 510 1 ++ replicate 514 0) n 0
+unfolding tableOf
+behind poly n =
+    (let e : 256 + n ≡ length (each 256 (logEntry poly)) + n = omega (arith, each-length 256 (logEntry poly)) in
+    ap (λ (k : ℕ). getD (each 256 (logEntry poly) ++ (powers poly 510 1 ++ replicate 514 0)) k 0) e)
+    ∙ getD-append-add (each 256 (logEntry poly)) (powers poly 510 1 ++ replicate 514 0) n 0
+
+table-power : (poly n : ℕ) → n < 510 → getD (tableOf poly) (256 + n) 0 ≡ power poly n
+table-power poly n h =
+    behind poly n ∙ List·getD-append (powers poly 510 1) (replicate 514 0) 0 n (omega (arith, powers-length poly 510 1)) ∙ powers-at poly 510 1 n h
+
+table-zero : (poly n : ℕ) → 510 ≤ n → n < 1024 → getD (tableOf poly) (256 + n) 0 ≡ 0
+table-zero poly n l h =
+    behind poly n
+    ∙ (let e : n ≡ length (powers poly 510 1) + (n - 510) = omega (arith, powers-length poly 510 1) in
+    ap (λ (k : ℕ). getD (powers poly 510 1 ++ replicate 514 0) k 0) e)
+    ∙ getD-append-add (powers poly 510 1) (replicate 514 0) (n - 510) 0
+    ∙ getD-replicate 514 (n - 510) 0 0 (omega arith)
+
 module _ (t : List ℕ) (F : Field t) where
   abbrev poly : ℕ
   poly = polyOf t
@@ -55,7 +75,7 @@ module _ (t : List ℕ) (F : Field t) where
   unfolding tableOf
   log-at a h =
       ap (λ (x : List ℕ). getD x a 0) (F .is)
-      ∙ List·getD-append (each 256 (logEntry poly)) (each 1024 (powerEntry poly)) 0 a (omega (arith, each-length 256 (logEntry poly)))
+      ∙ List·getD-append (each 256 (logEntry poly)) ((powers poly 510 1 ++ replicate 514 0)) 0 a (omega (arith, each-length 256 (logEntry poly)))
       ∙ each-at 256 (logEntry poly) a h
 
   pub log-zero : getD t 0 0 ≡ 510
@@ -73,22 +93,11 @@ module _ (t : List ℕ) (F : Field t) where
     | no d ↦ omega (arith, log-pos a (omega arith) h .1)
   ]
 
-  power-entry : (n : ℕ) → n < 1024 → getD t (256 + n) 0 ≡ powerEntry poly n
-  unfolding tableOf
-  power-entry n h =
-      ap (λ (x : List ℕ). getD x (256 + n) 0) (F .is)
-      ∙ (let e : 256 + n ≡ length (each 256 (logEntry poly)) + n = omega (arith, each-length 256 (logEntry poly)) in
-      ap (λ (k : ℕ). getD (each 256 (logEntry poly) ++ each 1024 (powerEntry poly)) k 0) e)
-      ∙ getD-append-add (each 256 (logEntry poly)) (each 1024 (powerEntry poly)) n 0
-      ∙ each-at 1024 (powerEntry poly) n h
-
   pub power-at : (n : ℕ) → n < 510 → getD t (256 + n) 0 ≡ power poly n
-  unfolding powerEntry
-  power-at n h = power-entry n (omega arith) ∙ simp (lt-ltb n 510 h)
+  power-at n h = ap (λ (x : List ℕ). getD x (256 + n) 0) (F .is) ∙ table-power poly n h
 
   pub zero-at : (n : ℕ) → 510 ≤ n → n < 1024 → getD t (256 + n) 0 ≡ 0
-  unfolding powerEntry
-  zero-at n l h = power-entry n h ∙ simp (le-ltb n 510 l)
+  zero-at n l h = ap (λ (x : List ℕ). getD x (256 + n) 0) (F .is) ∙ table-zero poly n l h
 
   pub entry-lt : (n : ℕ) → n < 1024 → getD t (256 + n) 0 < 256
   entry-lt n h = elim (decLt n 510) [
@@ -124,3 +133,21 @@ module _ (t : List ℕ) (F : Field t) where
       ∙ mul-assoc poly the-field a (power poly (255 - log poly b)) b
       ∙ ap (mul poly a) (mul-comm poly the-field (power poly (255 - log poly b)) b ∙ mul-inverse poly the-field b pb hb)
       ∙ mul-one poly the-field a ∙ (let z : a % 256 ≡ a = omega arith in z)
+
+-- α^8 is the polynomial without its highest term
+alpha-eight : (poly : ℕ) → 256 ≤ poly → poly < 512 → power poly 8 ≡ poly - 256
+unfolding raised timesAlpha
+alpha-eight poly l h =
+    (let e : poly ≡ 1 * 2 ^ 8 + (poly - 256) = omega arith in ap (bitXor 256) e)
+    ∙ xor-block 8 1 1 0 (poly - 256) (omega arith) (omega arith) ∙ omega (arith, xor-zero-l (poly - 256), xor-self 1)
+
+-- so the table of a polynomial is the table of a field, and says which
+pub poly-of-table : (poly : ℕ) → T (orderTest poly) → polyOf (tableOf poly) ≡ poly
+poly-of-table poly test =
+    let P = passes poly test in
+    omega (arith, table-power poly 8 (omega arith), alpha-eight poly (P .low) (P .high), P .low)
+
+pub field-of : (poly : ℕ) → T (orderTest poly) → Field (tableOf poly)
+field-of poly test =
+    let e = poly-of-table poly test in
+    record { test = subst (λ (p : ℕ). T (orderTest p)) (sym e) test; is = ap tableOf (sym e) }

@@ -119,12 +119,12 @@ unfolding raised
 raised-add poly zero j a = ap (λ (n : ℕ). raised poly n a) (zero-add j)
 raised-add poly (suc i) j a = ap (λ (n : ℕ). raised poly n a) (suc-add i j) ∙ ap (timesAlpha poly) (raised-add poly i j a)
 
-powers-length : (poly n x : ℕ) → length (powers poly n x) ≡ n
+pub powers-length : (poly n x : ℕ) → length (powers poly n x) ≡ n
 unfolding powers
 powers-length poly zero x = refl
 powers-length poly (suc n) x = ap suc (powers-length poly n (timesAlpha poly x))
 
-powers-at : (poly n x i : ℕ) → i < n → getD (powers poly n x) i 0 ≡ raised poly i x
+pub powers-at : (poly n x i : ℕ) → i < n → getD (powers poly n x) i 0 ≡ raised poly i x
 unfolding powers raised
 powers-at poly zero x i h = absurd (omega arith)
 powers-at poly (suc n) x zero h = refl

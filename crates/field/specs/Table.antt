@@ -1,11 +1,10 @@
 -- The table by which the code multiplies. It belongs to the code: nothing here says what a mark means.
 use mathlib.Core.Path.{_≡_}
-use mathlib.Core.Bool.{Bool, true, cond}
 use mathlib.Core.List.{List, [], _∷_, _++_}
-use Prim.Native.Nat.{ℕ, zero, suc, _+_, _-_, _≤_, _<_}
-use lib.Dec.{T, ltb}
-use lib.ListN.{getD}
-use Rattle.field.specs.Field.{power, log, orderTest}
+use Prim.Native.Nat.{ℕ, zero, suc, _+_}
+use lib.Dec.{T}
+use lib.ListN.{getD, replicate}
+use Rattle.field.specs.Field.{powers, log, orderTest}
 
 -- f 0, f 1, ..: n of them
 unfoldable pub each : ℕ → (ℕ → ℕ) → List ℕ
@@ -17,12 +16,9 @@ unfoldable pub logEntry : ℕ → ℕ → ℕ
 logEntry poly zero = 510
 logEntry poly (suc a) = log poly (suc a)
 
-unfoldable pub powerEntry : ℕ → ℕ → ℕ
-powerEntry poly n = cond (ltb n 510) (power poly n) 0
-
 -- 256 logarithms, then α^0 to α^509, then zeros: the product of a and b stands at 256 + the sum of their two logarithms
 unfoldable pub tableOf : ℕ → List ℕ
-tableOf poly = each 256 (logEntry poly) ++ each 1024 (powerEntry poly)
+tableOf poly = each 256 (logEntry poly) ++ (powers poly 510 1 ++ replicate 514 0)
 
 -- the polynomial of a table: x^8 and what α^8 is
 abbrev pub polyOf : List ℕ → ℕ

@@ -4,7 +4,7 @@ ghost use mathlib.Core.Path.{_≡_};
 ghost use Prim.Native.Nat.{_+_, _<_, _≤_};
 ghost use lib.ListN.{getD};
 ghost use Rattle.field.specs.Field.{power, mul};
-ghost use Rattle.field.specs.Table.{Field, polyOf};
+ghost use Rattle.field.specs.Table.{Field, polyOf, tableOf};
 
 pub mod table;
 
@@ -59,4 +59,11 @@ pub fn div(field: &[u16; 1280], a: u8, b: u8) -> u8
     ensures { λ r. ⌜ mul (polyOf (now (field .entry))) r b ≡ a ⌝ }
 {
     power_entry(field, log_entry(field, a) + (255 - log_entry(field, b)))
+}
+
+// The table of Han Xin's field.
+pub fn han_xin() -> [u16; 1280]
+    ensures { λ r. ⌜ r ≡ tableOf 0x163 ⌝ }
+{
+    table::HAN_XIN
 }
