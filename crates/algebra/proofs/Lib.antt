@@ -1,0 +1,4 @@
+-- Laws over the field, for any polynomial that passes the order test.
+pub mod Sum
+pub mod Peel
+pub mod Register

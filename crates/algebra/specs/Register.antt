@@ -1,0 +1,27 @@
+-- Shift registers: which sequence a register makes, and the step of Berlekamp and Massey's algorithm.
+use mathlib.Core.Path.{_≡_}
+use mathlib.Core.Logic.{ite}
+use Prim.Native.Nat.{ℕ, suc, _-_, _≤_, _<_}
+use native.Mathlib.Decide.{decLe}
+use Rattle.field.specs.Field.{mul}
+use Rattle.algebra.specs.Sum.{_⊕_, sum}
+
+-- by how much the register f of length l misses s at x (001: the discrepancy)
+unfoldable pub discrepancy : ℕ → (ℕ → ℕ) → (ℕ → ℕ) → ℕ → ℕ → ℕ
+discrepancy poly s f l x = sum (λ i. mul poly (f i) (s (x - i))) (suc l)
+
+-- f of length l makes the first r values of s: from the place l on it misses none
+unfoldable pub Makes : ℕ → (ℕ → ℕ) → ℕ → (ℕ → ℕ) → ℕ → Type 0
+Makes poly s r f l = (x : ℕ) → l ≤ x → x < r → discrepancy poly s f l x ≡ 0
+
+-- f is zero past l
+unfoldable pub Tail : (ℕ → ℕ) → ℕ → Type 0
+Tail f l = (i : ℕ) → l < i → f i ≡ 0
+
+-- g moved up by m places
+unfoldable pub moved : ℕ → (ℕ → ℕ) → ℕ → ℕ
+moved m g i = ite (decLe m i) (g (i - m)) 0
+
+-- f plus q times g moved up by m places
+unfoldable pub stepped : ℕ → ℕ → ℕ → (ℕ → ℕ) → (ℕ → ℕ) → ℕ → ℕ
+stepped poly q m f g i = f i ⊕ mul poly q (moved m g i)

@@ -1,0 +1,1 @@
+// Laws only: sums, shift registers and polynomials over the field. There is no code here.
