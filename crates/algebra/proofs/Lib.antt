@@ -2,3 +2,5 @@
 pub mod Sum
 pub mod Peel
 pub mod Register
+pub mod Horner
+pub mod Locator

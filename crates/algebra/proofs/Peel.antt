@@ -28,8 +28,8 @@ peeled poly n k c i = mul poly (c i) (locator poly n i ⊕ locator poly n k)
 module _ (poly : ℕ) (P : Passes poly) where
   abbrev _⊗_ : ℕ → ℕ → ℕ
   _⊗_ = mul poly
-  infixl 70 _⊗_
 
+  infixl 70 _⊗_
   -- what counts as zero gives zero, and only that does
   pub null-mul : (a b : ℕ) → Null a → a ⊗ b ≡ 0
   unfolding mul times

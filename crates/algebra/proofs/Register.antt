@@ -45,8 +45,8 @@ stepped-tail poly q f g l lg m l′ tf tg h k i o =
 module _ (poly : ℕ) (P : Passes poly) (s : ℕ → ℕ) where
   abbrev _⊗_ : ℕ → ℕ → ℕ
   _⊗_ = mul poly
-  infixl 70 _⊗_
 
+  infixl 70 _⊗_
   abbrev miss : (ℕ → ℕ) → ℕ → ℕ → ℕ
   miss = discrepancy poly s
 

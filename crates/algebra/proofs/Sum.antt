@@ -89,8 +89,8 @@ Null a = a % 256 ≡ 0
 module _ (poly : ℕ) (P : Passes poly) where
   abbrev _⊗_ : ℕ → ℕ → ℕ
   _⊗_ = mul poly
-  infixl 70 _⊗_
 
+  infixl 70 _⊗_
   pub mul-add : (c a b : ℕ) → c ⊗ (a ⊕ b) ≡ c ⊗ a ⊕ c ⊗ b
   mul-add c a b = mul-comm poly P c (a ⊕ b) ∙ sum-mul poly P a b c ∙ ap₂ _⊕_ (mul-comm poly P a c) (mul-comm poly P b c)
 

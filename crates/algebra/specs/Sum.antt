@@ -7,8 +7,8 @@ use Rattle.field.specs.Field.{power, mul}
 
 abbrev pub _⊕_ : ℕ → ℕ → ℕ
 _⊕_ = bitXor
-infixl 65 _⊕_
 
+infixl 65 _⊕_
 -- a list as a sequence: its elements, then zeros
 abbrev pub seq : List ℕ → ℕ → ℕ
 seq xs i = getD xs i 0

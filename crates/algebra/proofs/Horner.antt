@@ -1,0 +1,193 @@
+-- Polynomials by Horner's rule, highest coefficient first: as sums, divided by x + a, how many roots they have, and what they make of the
+-- syndromes of a word. Assumes nothing.
+use mathlib.Core.Path.{_≡_, refl, sym, ap, ap₂, _∙_, subst}
+use mathlib.Core.Logic.{_≢_}
+use mathlib.Core.List.{List, [], _∷_}
+use Prim.Native.Nat.{ℕ, zero, suc, _+_, _-_, _*_, _%_, _≤_, _<_}
+use native.Mathlib.Omega.{arith}
+use native.Mathlib.Decide.{ℕ-discrete}
+use lib.ListN.{length}
+use lib.Bits.{xor-comm, xor-self, xor-mod, xor-zero-l, xor-zero-r}
+use Rattle.field.specs.Field.{raised, power, mul}
+use Rattle.field.proofs.Xor.{xor-assoc, xor-swap}
+use Rattle.field.proofs.Field.{Passes, power-lt, mul-lt, mul-comm, mul-assoc, mul-one, mul-power, sum-lt}
+use Rattle.field.proofs.Field.{mul-sum as sum-mul}
+use Rattle.field.proofs.Entries.{mul-left-zero, mul-right-zero}
+use Rattle.algebra.specs.Sum.{_⊕_, sum, horner, degree, locator, weight, syndrome}
+use Rattle.algebra.specs.Register.{discrepancy, Tail}
+use Rattle.algebra.proofs.Sum.{Null, sum-ext, sum-swap, sum-scale, mul-add, mul-left, add-left, add-cancel}
+use Rattle.algebra.proofs.Peel.{Out, null-mul, null-div, apart}
+
+-- f divided by x + a
+abbrev pub quotient : ℕ → (ℕ → ℕ) → ℕ → ℕ → ℕ
+quotient poly f a j = horner poly f a (suc j)
+
+-- f times x + a
+unfoldable pub rooted : ℕ → ℕ → (ℕ → ℕ) → ℕ → ℕ
+rooted poly a f zero = f 0
+rooted poly a f (suc i) = f (suc i) ⊕ mul poly a (f i)
+
+null-add : (a b : ℕ) → Null a → Null b → Null (a ⊕ b)
+null-add a b x y = xor-mod a b 8 ∙ ap₂ _⊕_ x y
+
+pub horner-ext : (poly : ℕ) (f g : ℕ → ℕ) (x n : ℕ) → ((i : ℕ) → i < n → f i ≡ g i) → horner poly f x n ≡ horner poly g x n
+unfolding horner
+horner-ext poly f g x zero e = refl
+horner-ext poly f g x (suc n) e = ap₂ (λ (a b : ℕ). mul poly a x ⊕ b) (horner-ext poly f g x n (λ i l. e i (omega arith))) (e n (omega arith))
+
+module _ (poly : ℕ) (P : Passes poly) where
+  abbrev _⊗_ : ℕ → ℕ → ℕ
+  _⊗_ = mul poly
+
+  infixl 70 _⊗_
+  pub horner-lt : (f : ℕ → ℕ) (x n : ℕ) → ((i : ℕ) → f i < 256) → horner poly f x n < 256
+  unfolding horner
+  horner-lt f x zero b = omega arith
+  horner-lt f x (suc n) b = sum-lt (horner poly f x n ⊗ x) (f n) (mul-lt poly P (horner poly f x n) x) (b n)
+
+  -- the first coefficient alone
+  pub horner-one : (f : ℕ → ℕ) (x : ℕ) → horner poly f x 1 ≡ f 0
+  unfolding horner
+  horner-one f x = ap (λ (y : ℕ). y ⊕ f 0) (mul-left-zero poly x)
+
+  -- as a sum
+  pub horner-sum : (f : ℕ → ℕ) (e a m : ℕ) → sum (λ j. f j ⊗ power poly (a + e * degree m j)) m ≡ horner poly f (power poly e) m ⊗ power poly a
+  unfolding horner sum degree
+  horner-sum f e a zero = sym (mul-left-zero poly (power poly a))
+  horner-sum f e a (suc m) =
+      ap₂ _⊕_
+      (sum-ext (λ j. f j ⊗ power poly (a + e * degree (suc m) j)) (λ j. power poly e ⊗ (f j ⊗ power poly (a + e * degree m j))) m (λ j h. term j h)
+      ∙ sum-scale poly P (power poly e) (λ j. f j ⊗ power poly (a + e * degree m j)) m
+      ∙ ap (mul poly (power poly e)) (horner-sum f e a m)
+      ∙ sym (mul-assoc poly P (power poly e) (horner poly f (power poly e) m) (power poly a))
+      ∙ ap (λ (y : ℕ). y ⊗ power poly a) (mul-comm poly P (power poly e) (horner poly f (power poly e) m)))
+      (ap (λ (k : ℕ). f m ⊗ power poly k) (last m))
+      ∙ sym (sum-mul poly P (horner poly f (power poly e) m ⊗ power poly e) (f m) (power poly a))
+    where
+      last : (m : ℕ) → a + e * degree (suc m) m ≡ a
+      last m = let z : suc m - suc m ≡ 0 = omega arith in ap (λ (k : ℕ). a + e * k) z ∙ omega arith
+
+      term : (j : ℕ) → j < m → f j ⊗ power poly (a + e * degree (suc m) j) ≡ power poly e ⊗ (f j ⊗ power poly (a + e * degree m j))
+      term j h =
+          (let z : suc m - suc j ≡ suc (m - suc j) = omega arith in
+          let y : a + e * suc (m - suc j) ≡ e + (a + e * (m - suc j)) = omega arith in
+          ap (λ (k : ℕ). f j ⊗ power poly k) (ap (λ (k : ℕ). a + e * k) z ∙ y))
+          ∙ ap (mul poly (f j)) (sym (mul-power poly P e (a + e * (m - suc j))))
+          ∙ mul-left poly P (f j) (power poly e) (power poly (a + e * (m - suc j)))
+
+  -- the quotient by x + a: (y + a) q(y) = f(y) + f(a)
+  step-law : (y a M r F c : ℕ) → (y ⊕ a) ⊗ M ≡ F ⊕ r → (y ⊕ a) ⊗ (M ⊗ y ⊕ r) ≡ (F ⊗ y ⊕ c) ⊕ (r ⊗ a ⊕ c)
+  step-law y a M r F c e =
+      mul-add poly P (y ⊕ a) (M ⊗ y) r
+      ∙ ap₂ _⊕_
+      (sym (mul-assoc poly P (y ⊕ a) M y) ∙ ap (λ (z : ℕ). z ⊗ y) e ∙ sum-mul poly P F r y)
+      (mul-comm poly P (y ⊕ a) r ∙ mul-add poly P r y a)
+      ∙ xor-assoc (F ⊗ y) (r ⊗ y) (r ⊗ y ⊕ r ⊗ a) ∙ ap (λ (z : ℕ). F ⊗ y ⊕ z) (add-cancel (r ⊗ y) (r ⊗ a))
+      ∙ sym (xor-swap (F ⊗ y) c (r ⊗ a) c ∙ ap (λ (z : ℕ). (F ⊗ y ⊕ r ⊗ a) ⊕ z) (xor-self c) ∙ xor-zero-r (F ⊗ y ⊕ r ⊗ a))
+
+  pub quotient-law : (f : ℕ → ℕ) (y a n : ℕ) → (y ⊕ a) ⊗ horner poly (quotient poly f a) y n ≡ horner poly f y (suc n) ⊕ horner poly f a (suc n)
+  unfolding horner
+  quotient-law f y a zero =
+      mul-right-zero poly (y ⊕ a) ∙ sym (ap₂ _⊕_ (horner-one f y) (horner-one f a) ∙ xor-self (f 0))
+  quotient-law f y a (suc n) =
+      step-law y a (horner poly (quotient poly f a) y n) (horner poly f a (suc n)) (horner poly f y (suc n)) (f (suc n)) (quotient-law f y a n)
+
+  -- times x + a
+  rooted-step : (f : ℕ → ℕ) (a y n : ℕ) → horner poly (rooted poly a f) y (suc n) ≡ horner poly f y (suc n) ⊕ a ⊗ horner poly f y n
+  unfolding horner rooted
+  rooted-step f a y zero = sym (ap (λ (z : ℕ). (0 ⊗ y ⊕ f 0) ⊕ z) (mul-right-zero poly a) ∙ xor-zero-r (0 ⊗ y ⊕ f 0))
+  rooted-step f a y (suc n) =
+      let G = horner poly f y n in
+      let F = G ⊗ y ⊕ f n in
+      ap (λ (z : ℕ). z ⊗ y ⊕ (f (suc n) ⊕ a ⊗ f n)) (rooted-step f a y n)
+      ∙ ap (λ (z : ℕ). z ⊕ (f (suc n) ⊕ a ⊗ f n)) (sum-mul poly P F (a ⊗ G) y ∙ ap (λ (z : ℕ). F ⊗ y ⊕ z) (mul-assoc poly P a G y))
+      ∙ xor-swap (F ⊗ y) (a ⊗ (G ⊗ y)) (f (suc n)) (a ⊗ f n)
+      ∙ ap (λ (z : ℕ). (F ⊗ y ⊕ f (suc n)) ⊕ z) (sym (mul-add poly P a (G ⊗ y) (f n)))
+
+  pub rooted-law : (f : ℕ → ℕ) (a y l : ℕ) → Tail f l → horner poly (rooted poly a f) y (suc (suc l)) ≡ (y ⊕ a) ⊗ horner poly f y (suc l)
+  unfolding Tail horner
+  rooted-law f a y l t =
+      rooted-step f a y (suc l)
+      ∙ ap (λ (z : ℕ). z ⊕ a ⊗ horner poly f y (suc l)) (next ∙ mul-comm poly P (horner poly f y (suc l)) y)
+      ∙ sym (sum-mul poly P y a (horner poly f y (suc l)))
+    where
+      next : horner poly f y (suc (suc l)) ≡ horner poly f y (suc l) ⊗ y
+      next = ap (λ (z : ℕ). horner poly f y (suc l) ⊗ y ⊕ z) (t (suc l) (omega arith)) ∙ xor-zero-r (horner poly f y (suc l) ⊗ y)
+
+  module _ (first n : ℕ) where
+    abbrev X : ℕ → ℕ
+    X = locator poly n
+
+    abbrev W : ℕ → ℕ → ℕ
+    W = weight poly first n
+
+    abbrev S : (ℕ → ℕ) → ℕ → ℕ
+    S = syndrome poly first n
+
+    -- a word's syndrome is its value at the root
+    pub syndrome-value : (c : ℕ → ℕ) (j : ℕ) → ((i : ℕ) → c i < 256) → horner poly c (power poly (first + j)) n ≡ S c j
+    unfolding syndrome raised
+    syndrome-value c j b =
+        (let v = horner-lt c (power poly (first + j)) n b in
+        let z : horner poly c (power poly (first + j)) n ≡ horner poly c (power poly (first + j)) n % 256 = omega arith in z)
+        ∙ sym (mul-one poly P (horner poly c (power poly (first + j)) n)) ∙ sym (horner-sum c (first + j) 0 n)
+        ∙ sum-ext (λ i. c i ⊗ power poly (0 + (first + j) * degree n i)) (λ i. c i ⊗ W i j) n
+        (λ i h. let z : 0 + (first + j) * degree n i ≡ degree n i * (first + j) = omega arith in ap (λ (k : ℕ). c i ⊗ power poly k) z)
+
+    -- the weights of one place under a polynomial
+    weighted : (f : ℕ → ℕ) (i q m : ℕ) → sum (λ j. f j ⊗ W i (q + degree m j)) m ≡ horner poly f (X i) m ⊗ W i q
+    weighted f i q m =
+        sum-ext (λ j. f j ⊗ W i (q + degree m j)) (λ j. f j ⊗ power poly (degree n i * (first + q) + degree n i * degree m j)) m
+        (λ j h. let z : degree n i * (first + (q + degree m j)) ≡ degree n i * (first + q) + degree n i * degree m j = omega arith in
+        ap (λ (k : ℕ). f j ⊗ power poly k) z)
+        ∙ horner-sum f (degree n i) (degree n i * (first + q)) m
+
+    -- a polynomial over the syndromes of a word: each place is multiplied by its value at the place's locator
+    pub convolution : (c f : ℕ → ℕ) (q m : ℕ) → sum (λ j. f j ⊗ S c (q + degree m j)) m ≡ S (λ i. c i ⊗ horner poly f (X i) m) q
+    unfolding syndrome
+    convolution c f q m =
+        sum-ext (λ j. f j ⊗ sum (λ i. c i ⊗ W i (q + degree m j)) n) (λ j. sum (λ i. c i ⊗ (f j ⊗ W i (q + degree m j))) n) m
+        (λ j h. sym (sum-scale poly P (f j) (λ i. c i ⊗ W i (q + degree m j)) n)
+        ∙ sum-ext (λ i. f j ⊗ (c i ⊗ W i (q + degree m j))) (λ i. c i ⊗ (f j ⊗ W i (q + degree m j))) n (λ i l. mul-left poly P (f j) (c i) (W i (q + degree m j))))
+        ∙ sum-swap (λ j i. c i ⊗ (f j ⊗ W i (q + degree m j))) m n
+        ∙ sum-ext (λ i. sum (λ j. c i ⊗ (f j ⊗ W i (q + degree m j))) m) (λ i. c i ⊗ horner poly f (X i) m ⊗ W i q) n
+        (λ i l. sum-scale poly P (c i) (λ j. f j ⊗ W i (q + degree m j)) m ∙ ap (mul poly (c i)) (weighted f i q m)
+        ∙ sym (mul-assoc poly P (c i) (horner poly f (X i) m) (W i q)))
+
+    pub discrepancy-value : (c f : ℕ → ℕ) (l x : ℕ) → l ≤ x → discrepancy poly (S c) f l x ≡ S (λ i. c i ⊗ horner poly f (X i) (suc l)) (x - l)
+    unfolding discrepancy degree
+    discrepancy-value c f l x h =
+        sum-ext (λ i. f i ⊗ S c (x - i)) (λ i. f i ⊗ S c (x - l + degree (suc l) i)) (suc l) (λ i o. ap (λ (k : ℕ). f i ⊗ S c k) (index i o))
+        ∙ convolution c f (x - l) (suc l)
+      where
+        index : (i : ℕ) → i < suc l → x - i ≡ x - l + degree (suc l) i
+        index i o = omega arith
+
+    module _ (small : n ≤ 255) where
+      -- places, no two the same, at whose locators the polynomial of m coefficients is zero
+      unfoldable pub Roots : (ℕ → ℕ) → ℕ → List ℕ → Type 0
+      Roots f m [] = Unit {0}
+      Roots f m (k ∷ ks) = (k < n) × Out k ks × Null (horner poly f (X k) m) × Roots f m ks
+
+      divided : (f : ℕ → ℕ) (a m : ℕ) (ks : List ℕ) → a < n → Out a ks → Null (horner poly f (X a) (suc m)) → Roots f (suc m) ks → Roots (quotient poly f (X a)) m ks
+      unfolding Roots
+      divided f a m [] h o z r = tt
+      divided f a m (k ∷ ks) h o z r = (
+        r .0,
+        r .1,
+        null-div poly P (horner poly (quotient poly f (X a)) (X k) m) (X k ⊕ X a)
+            (subst Null
+            (sym (quotient-law f (X k) (X a) m) ∙ mul-comm poly P (X k ⊕ X a) (horner poly (quotient poly f (X a)) (X k) m))
+            (null-add (horner poly f (X k) (suc m)) (horner poly f (X a) (suc m)) (r .2) z))
+            (apart poly P first n small k a (r .0) h (λ e. o .0 (sym e))),
+        divided f a m ks h (o .1) z (r .3),
+      )
+
+      -- fewer roots than coefficients
+      pub few-roots : (m : ℕ) (f : ℕ → ℕ) (ks : List ℕ) → ¬ Null (f 0) → Roots f (suc m) ks → length ks ≤ m
+      unfolding Roots
+      few-roots m f [] d r = omega arith
+      few-roots zero f (k ∷ ks) d r = absurd (d (subst Null (horner-one f (X k)) (r .2)))
+      few-roots (suc m) f (k ∷ ks) d r =
+          let l = few-roots m (quotient poly f (X k)) ks (λ z. d (subst Null (horner-one f (X k)) z)) (divided f k (suc m) ks (r .0) (r .1) (r .2) (r .3)) in
+          omega arith
