@@ -1,0 +1,63 @@
+-- Document 01, "Field and block": a block, what a codeword is, and the codeword in reach. The polynomial of the field and the exponent
+-- of the first root are parameters throughout.
+use mathlib.Core.Bool.{Bool, true, false, _&&_}
+use mathlib.Core.Option.{Option, none, some}
+use mathlib.Core.List.{List, [], _∷_, _++_, map}
+use Prim.Native.Nat.{ℕ, zero, suc, _+_, _/_}
+use lib.Dec.{leb, eqb}
+use lib.ListN.{length}
+use lib.Bits.{bitXor}
+use Rattle.field.specs.Field.{power, mul, below}
+
+-- the value at x of a block, first byte the highest coefficient, behind a value so far (001: `eval`)
+unfoldable pub evalFrom : ℕ → ℕ → ℕ → List ℕ → ℕ
+evalFrom poly x acc [] = acc
+evalFrom poly x acc (b ∷ bs) = evalFrom poly x (bitXor (mul poly acc x) b) bs
+
+abbrev pub eval : ℕ → ℕ → List ℕ → ℕ
+eval poly x block = evalFrom poly x 0 block
+
+-- a codeword is zero at α^first to α^(first + parity - 1)
+unfoldable pub isCodeword : ℕ → ℕ → ℕ → List ℕ → Bool
+isCodeword poly first parity block = below parity (λ j. eqb (eval poly (power poly (first + j)) block) 0)
+
+abbrev pub orOneMore : Bool → ℕ → ℕ
+orOneMore true n = n
+orOneMore false n = suc n
+
+-- in how many places two blocks of one length differ
+unfoldable pub distance : List ℕ → List ℕ → ℕ
+distance [] ys = 0
+distance (x ∷ xs) [] = 0
+distance (x ∷ xs) (y ∷ ys) = orOneMore (eqb x y) (distance xs ys)
+
+-- each byte below b in front of each of the words ws
+unfoldable pub led : ℕ → List (List ℕ) → List (List ℕ)
+led zero ws = []
+led (suc b) ws = led b ws ++ map (λ w. b ∷ w) ws
+
+-- all words of n bytes
+unfoldable pub allWords : ℕ → List (List ℕ)
+allWords zero = [] ∷ []
+allWords (suc n) = led 256 (allWords n)
+
+abbrev pub orElse : Bool → List ℕ → Option (List ℕ) → Option (List ℕ)
+orElse true w rest = some w
+orElse false w rest = rest
+
+-- the first of ws that passes a test
+unfoldable pub firstOf : (List ℕ → Bool) → List (List ℕ) → Option (List ℕ)
+firstOf test [] = none
+firstOf test (w ∷ ws) = orElse (test w) w (firstOf test ws)
+
+-- a codeword within floor(parity / 2) places of a block
+unfoldable pub inReach : ℕ → ℕ → ℕ → List ℕ → List ℕ → Bool
+inReach poly first parity block w = isCodeword poly first parity w && leb (distance block w) (parity / 2)
+
+-- the codeword in reach of a block, if there is one: a search over all words of its length, to be believed and not to be run
+unfoldable pub nearest : ℕ → ℕ → ℕ → List ℕ → Option (List ℕ)
+nearest poly first parity block = firstOf (inReach poly first parity block) (allWords (length block))
+
+-- the parity of data: bytes that make a codeword behind them
+unfoldable pub parityOf : ℕ → ℕ → ℕ → List ℕ → Option (List ℕ)
+parityOf poly first parity ds = firstOf (λ p. isCodeword poly first parity (ds ++ p)) (allWords parity)

@@ -1,0 +1,42 @@
+-- Document 01, "Operations": Correct a block. What it answers, and what is then in the block.
+use mathlib.Core.Bool.{Bool, true, false, _||_}
+use mathlib.Core.Option.{Option, none, some}
+use mathlib.Core.List.{List}
+use Prim.Native.Nat.{ℕ}
+use lib.Dec.{leb, ltb, eqb}
+use lib.ListN.{length}
+use Rattle.reed_solomon.specs.Block.{distance, nearest}
+use Rattle.reed_solomon.specs.declared.Correction.{Correction}
+use Rattle.reed_solomon.specs.declared.Correction.the-variants.{Corrected, Unfit, OutOfReach}
+
+-- what a call gives: the refusal number or 0, the count beside it, and the block as it is left
+pub record Outcome : Type 0 where
+  pub number : ℕ
+  pub count : ℕ
+  pub block : List ℕ
+
+-- a refusal leaves the block, with no count
+unfoldable pub refused : ℕ → List ℕ → Outcome
+refused n block = record { number = n; count = 0; block = block }
+
+-- 5: parity 0, parity ≥ length or length > 255
+unfoldable pub unfit : ℕ → List ℕ → Bool
+unfit parity block = eqb parity 0 || (leb (length block) parity || ltb 255 (length block))
+
+-- 6: no codeword in reach; else the block becomes that codeword, and the count is the number of places in which it differed
+unfoldable pub settled : List ℕ → Option (List ℕ) → Outcome
+settled block none = refused 6 block
+settled block (some w) = record { number = 0; count = distance block w; block = w }
+
+abbrev orOutcome : Bool → Outcome → Outcome → Outcome
+orOutcome true a b = a
+orOutcome false a b = b
+
+unfoldable pub correctOf : ℕ → ℕ → ℕ → List ℕ → Outcome
+correctOf poly first parity block = orOutcome (unfit parity block) (refused 5 block) (settled block (nearest poly first parity block))
+
+-- 01's number and the count for each case of the answer, with the block
+unfoldable pub outcome : Correction → List ℕ → Outcome
+outcome (Corrected n) block = record { number = 0; count = n; block = block }
+outcome Unfit block = refused 5 block
+outcome OutOfReach block = refused 6 block

@@ -1,0 +1,1 @@
+-- What inner functions say of each other. Nobody has to believe it.

@@ -1,0 +1,6 @@
+// Reed-Solomon blocks (001: `syndromes`, `correct`, `solve`, `magnitudes`).
+pub enum Correction {
+    Corrected(usize),
+    Unfit,
+    OutOfReach,
+}
