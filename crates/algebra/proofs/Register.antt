@@ -10,7 +10,7 @@ use Rattle.field.proofs.Field.{Passes, mul-assoc}
 use Rattle.field.proofs.Field.{mul-sum as sum-mul}
 use Rattle.field.proofs.Entries.{mul-left-zero, mul-right-zero}
 use Rattle.algebra.specs.Sum.{_⊕_, sum}
-use Rattle.algebra.specs.Register.{discrepancy, Makes, Tail, moved, stepped}
+use Rattle.algebra.specs.Register.{discrepancy, Makes, Tail, moved, stepped, State}
 use Rattle.algebra.proofs.Sum.{Null, sum-ext, sum-add, sum-zero, sum-one, sum-swap, sum-more, sum-drop, sum-scale, mul-left}
 use Rattle.algebra.proofs.Peel.{null-div}
 
@@ -109,20 +109,9 @@ module _ (poly : ℕ) (P : Passes poly) (s : ℕ → ℕ) where
       (λ i a b. ap (λ (y : ℕ). y ⊗ s (x - i)) (tf i a) ∙ mul-left-zero poly (s (x - i))))
       (sum-scale poly P q (λ i. moved m g i ⊗ s (x - i)) (suc l′) ∙ ap (mul poly q) (moved-miss g lg m l′ x tg k o))
 
-  -- What holds after r values: f of length l makes them; g of length lg is f as it was before its length last grew, when rg values were
-  -- read and the last of them missed by b. At the start rg is 0.
-  pub record State (r l : ℕ) (f : ℕ → ℕ) (rg lg : ℕ) (g : ℕ → ℕ) (b : ℕ) : Type 0 where
-    pub f-tail : Tail f l
-    pub f-makes : makes r f l
-    pub g-tail : Tail g lg
-    pub g-makes : (x : ℕ) → lg ≤ x → suc x < rg → miss g lg x ≡ 0
-    pub g-miss : (x : ℕ) → suc x ≡ rg → miss g lg x ≡ b
-    pub lens : l + lg ≡ rg
-    pub before : rg ≤ r
-
-  module _ (r l : ℕ) (f : ℕ → ℕ) (rg lg : ℕ) (g : ℕ → ℕ) (b : ℕ) (I : State r l f rg lg g b) where
+  module _ (r l : ℕ) (f : ℕ → ℕ) (rg lg : ℕ) (g : ℕ → ℕ) (b : ℕ) (I : State poly s r l f rg lg g b) where
     -- nothing missed
-    pub kept : miss f l r ≡ 0 → State (suc r) l f rg lg g b
+    pub kept : miss f l r ≡ 0 → State poly s (suc r) l f rg lg g b
     unfolding Makes
     kept z = record {
       f-tail = I .f-tail;
@@ -147,7 +136,7 @@ module _ (poly : ℕ) (P : Passes poly) (s : ℕ → ℕ) where
           ]
 
       -- missed, and the length stays
-      pub stayed : r < l + l → State (suc r) l (stepped poly q (suc r - rg) f g) rg lg g b
+      pub stayed : r < l + l → State poly s (suc r) l (stepped poly q (suc r - rg) f g) rg lg g b
       stayed h = record {
         f-tail = stepped-tail poly q f g l lg (suc r - rg) l (I .f-tail) (I .g-tail) (omega arith) (omega (arith, I .lens));
         f-makes = makes-more l (omega arith) (omega (arith, I .lens));
@@ -159,7 +148,7 @@ module _ (poly : ℕ) (P : Passes poly) (s : ℕ → ℕ) where
       }
 
       -- missed, and the length grows
-      pub grown : l + l ≤ r → State (suc r) (suc r - l) (stepped poly q (suc r - rg) f g) (suc r) l f (miss f l r)
+      pub grown : l + l ≤ r → State poly s (suc r) (suc r - l) (stepped poly q (suc r - rg) f g) (suc r) l f (miss f l r)
       unfolding Makes
       grown h = record {
         f-tail = stepped-tail poly q f g l lg (suc r - rg) (suc r - l) (I .f-tail) (I .g-tail) (omega arith) (omega (arith, I .lens, I .before));

@@ -61,29 +61,29 @@ module _ (poly first parity : ℕ) (w : List ℕ) where
 
 -- ---- syndromes
 
+-- the syndromes of a block as a word
+abbrev pub syndromeOf : ℕ → ℕ → List ℕ → ℕ → ℕ
+syndromeOf poly first w = syndrome poly first (length w) (seq w)
+
+-- the difference of two blocks
+abbrev pub difference : List ℕ → List ℕ → ℕ → ℕ
+difference u v i = seq u i ⊕ seq v i
+
+-- where they agree it is zero
+pub difference-null : (u v : List ℕ) (i : ℕ) → length u ≡ length v → Out i (places 0 u v) → Null (difference u v i)
+difference-null u v i e o =
+    ap (λ (x : ℕ). (x ⊕ seq v i) % 256) (places-out 0 u v e i (let m : i ≡ 0 + i = omega arith in subst (λ (x : ℕ). Out x (places 0 u v)) m o))
+    ∙ ap (λ (x : ℕ). x % 256) (xor-self (seq v i))
+
 module _ (poly : ℕ) (P : Passes poly) (first : ℕ) where
-  -- the syndromes of a block as a word
-  abbrev pub syndromeOf : List ℕ → ℕ → ℕ
-  syndromeOf w = syndrome poly first (length w) (seq w)
-
-  pub eval-syndrome : (w : List ℕ) (j : ℕ) → Bytes w → eval poly (power poly (first + j)) w ≡ syndromeOf w j
+  pub eval-syndrome : (w : List ℕ) (j : ℕ) → Bytes w → eval poly (power poly (first + j)) w ≡ syndromeOf poly first w j
   eval-syndrome w j b = eval-horner poly (power poly (first + j)) w ∙ syndrome-value poly P first (length w) (seq w) j b
-
-  -- the difference of two blocks
-  abbrev pub difference : List ℕ → List ℕ → ℕ → ℕ
-  difference u v i = seq u i ⊕ seq v i
 
   pub difference-syndrome : (u v : List ℕ) (j : ℕ) → length u ≡ length v → Bytes u → Bytes v
       → syndrome poly first (length u) (difference u v) j ≡ eval poly (power poly (first + j)) u ⊕ eval poly (power poly (first + j)) v
   difference-syndrome u v j e bu bv =
       syndrome-add poly P first (length u) (seq u) (seq v) j
       ∙ sym (ap₂ _⊕_ (eval-syndrome u j bu) (eval-syndrome v j bv ∙ ap (λ (n : ℕ). syndrome poly first n (seq v) j) (sym e)))
-
-  -- where they agree it is zero
-  pub difference-null : (u v : List ℕ) (i : ℕ) → length u ≡ length v → Out i (places 0 u v) → Null (difference u v i)
-  difference-null u v i e o =
-      ap (λ (x : ℕ). (x ⊕ seq v i) % 256) (places-out 0 u v e i (let m : i ≡ 0 + i = omega arith in subst (λ (x : ℕ). Out x (places 0 u v)) m o))
-      ∙ ap (λ (x : ℕ). x % 256) (xor-self (seq v i))
 
   -- two codewords that differ in no more places than they have parity are one
   pub near-equal : (parity : ℕ) (u v : List ℕ) → length u ≤ 255 → length u ≡ length v → Bytes u → Bytes v

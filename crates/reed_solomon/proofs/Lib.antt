@@ -3,4 +3,5 @@ pub mod Search
 pub mod Distance
 pub mod Codeword
 pub mod Nearest
+pub mod Decode
 pub mod Theorems

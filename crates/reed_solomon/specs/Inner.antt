@@ -1,1 +1,117 @@
--- What inner functions say of each other. Nobody has to believe it.
+-- What inner functions say of each other. Nobody has to believe it: the contracts of the operations do not cite it.
+use mathlib.Core.Path.{_≡_}
+use mathlib.Core.Bool.{Bool, true, false}
+use mathlib.Core.List.{List}
+use Prim.Native.Nat.{ℕ, suc, _+_, _-_, _*_, _%_, _≤_, _<_}
+use lib.Dec.{eqb}
+use lib.ListN.{length}
+use Rattle.field.specs.Field.{power, mul}
+use Rattle.algebra.specs.Sum.{_⊕_, seq, sum, horner, degree}
+use Rattle.algebra.specs.Register.{Makes, moved, State}
+use Rattle.reed_solomon.specs.Block.{eval}
+
+-- the first n of s, each replaced by F of its place and itself; the rest as it was
+pub record Each (F : ℕ → ℕ → ℕ) (n : ℕ) (s s′ : List ℕ) : Type 0 where
+  pub size : length s′ ≡ length s
+  pub done : (i : ℕ) → i < n → seq s′ i ≡ F i (seq s i)
+  pub rest : (i : ℕ) → n ≤ i → seq s′ i ≡ seq s i
+
+-- ---- syndromes
+
+-- a syndrome times its root, and the next byte added
+abbrev pub advanced : ℕ → ℕ → ℕ → ℕ → ℕ → ℕ
+advanced poly first byte j x = mul poly x (power poly (first + j)) ⊕ byte
+
+-- s holds the syndromes of a block
+pub record Syndromes (poly first parity : ℕ) (block s : List ℕ) : Type 0 where
+  pub size : length s ≡ 256
+  pub bytes : (j : ℕ) → seq s j < 256
+  pub are : (j : ℕ) → j < parity → seq s j ≡ eval poly (power poly (first + j)) block
+
+-- ---- the locator
+
+-- f plus q times g moved up by m places, where x stands at the place i of f
+abbrev pub added : ℕ → ℕ → ℕ → List ℕ → ℕ → ℕ → ℕ
+added poly q m g i x = x ⊕ mul poly q (moved m (seq g) i)
+
+-- after r of the first n values of s: `State` on arrays, and no register that makes all n is shorter
+pub record Register (poly : ℕ) (s : List ℕ) (n r : ℕ) (f g : List ℕ) (l rg b : ℕ) : Type 0 where
+  pub state : State poly (seq s) r l (seq f) rg (rg - l) (seq g) b
+  pub unit : seq f 0 ≡ 1
+  pub bytes : (i : ℕ) → seq f i < 256
+  pub size-f : length f ≡ 256
+  pub size-g : length g ≡ 256
+  pub pos : 0 < b
+  pub within : l ≤ r
+  pub behind : l ≤ rg
+  pub least : (t : ℕ → ℕ) (e : ℕ) → Makes poly (seq s) n t e → (t 0 % 256 ≡ 0 → ⊥) → l ≤ e
+
+-- the shortest register that makes the first n values of s
+pub record Shortest (poly : ℕ) (s : List ℕ) (n : ℕ) (f : List ℕ) (l : ℕ) : Type 0 where
+  pub makes : Makes poly (seq s) n (seq f) l
+  pub unit : seq f 0 ≡ 1
+  pub bytes : (i : ℕ) → seq f i < 256
+  pub size : length f ≡ 256
+  pub within : l ≤ n
+  pub least : (t : ℕ → ℕ) (e : ℕ) → Makes poly (seq s) n t e → (t 0 % 256 ≡ 0 → ⊥) → l ≤ e
+
+-- ---- its roots
+
+-- a term of a locator of length l from one place to the next: times its own power of α
+abbrev pub carried : ℕ → ℕ → ℕ → ℕ → ℕ
+carried poly l i x = mul poly x (power poly (l - i))
+
+-- the terms of the locator f of length l at α^d
+pub record Terms (poly : ℕ) (f : List ℕ) (l d : ℕ) (terms : List ℕ) : Type 0 where
+  pub size : length terms ≡ 256
+  pub are : (i : ℕ) → i ≤ l → seq terms i ≡ mul poly (seq f i) (power poly (d * (l - i)))
+
+-- the value at α^d of the locator f of length l
+abbrev pub locatorAt : ℕ → List ℕ → ℕ → ℕ → ℕ
+locatorAt poly f l d = horner poly (seq f) (power poly d) (suc l)
+
+abbrev pub flagOf : Bool → ℕ
+flagOf true = 1
+flagOf false = 0
+
+-- 1 where v is zero
+unfoldable pub zeroFlag : ℕ → ℕ
+zeroFlag v = flagOf (eqb v 0)
+
+-- ---- the errors
+
+-- the locator divided by x + α^d
+abbrev pub dividedAt : ℕ → List ℕ → ℕ → ℕ → ℕ
+dividedAt poly f d j = horner poly (seq f) (power poly d) (suc j)
+
+-- over the syndromes it gives this, and at α^d itself that
+unfoldable pub numerator : ℕ → List ℕ → List ℕ → ℕ → ℕ → ℕ
+numerator poly s f l d = sum (λ j. mul poly (dividedAt poly f d j) (seq s (degree l j))) l
+
+unfoldable pub denominator : ℕ → List ℕ → ℕ → ℕ → ℕ
+denominator poly f l d = horner poly (dividedAt poly f d) (power poly d) l
+
+-- y is the error at degree d if the locator is zero there: its weight in the first syndrome is the numerator by the denominator, or 0
+pub record Magnitude (poly first : ℕ) (s f : List ℕ) (l d y : ℕ) : Type 0 where
+  pub byte : y < 256
+  pub is : 0 < denominator poly f l d → mul poly (mul poly y (power poly (d * first))) (denominator poly f l d) ≡ numerator poly s f l d
+  pub none : denominator poly f l d ≡ 0 → y ≡ 0
+
+-- what stands at degree d where the flags are e: an error where the flag is set, and 0 elsewhere
+pub record Errors (poly first : ℕ) (s f : List ℕ) (l n : ℕ) (e e′ : List ℕ) : Type 0 where
+  pub size : length e′ ≡ length e
+  pub set : (d : ℕ) → d < n → 0 < seq e d → Magnitude poly first s f l d (seq e′ d)
+  pub clear : (d : ℕ) → d < n → seq e d ≡ 0 → seq e′ d ≡ 0
+  pub rest : (d : ℕ) → n ≤ d → seq e′ d ≡ seq e d
+
+-- a syndrome with the error y at degree d taken off
+abbrev pub without : ℕ → ℕ → ℕ → ℕ → ℕ → ℕ → ℕ
+without poly first y d j x = x ⊕ mul poly y (power poly (d * (first + j)))
+
+-- a syndrome with the errors at the first k of n places taken off
+abbrev pub withoutAll : ℕ → ℕ → ℕ → List ℕ → ℕ → ℕ → ℕ → ℕ
+withoutAll poly first n e k j x = x ⊕ sum (λ i. mul poly (seq e (degree n i)) (power poly (degree n i * (first + j)))) k
+
+-- the byte at the place i with its error added
+abbrev pub repaired : ℕ → List ℕ → ℕ → ℕ → ℕ
+repaired n e i x = x ⊕ seq e (degree n i)
