@@ -34,8 +34,8 @@ module _ (poly : ℕ) (P : Passes poly) (first parity : ℕ) (w : List ℕ) (sma
     (s f : List ℕ) (l : ℕ) (Y : Syndromes poly first parity w s) (F : Shortest poly s parity f l) where
   abbrev _⊗_ : ℕ → ℕ → ℕ
   _⊗_ = mul poly
-  infixl 70 _⊗_
 
+  infixl 70 _⊗_
   abbrev X : ℕ → ℕ
   X = locator poly (length w)
 
@@ -51,15 +51,21 @@ module _ (poly : ℕ) (P : Passes poly) (first parity : ℕ) (w : List ℕ) (sma
 
   cancel-mul : (a b v : ℕ) → a < 256 → b < 256 → ¬ Null v → a ⊗ v ≡ b ⊗ v → a ≡ b
   cancel-mul a b v ha hb d e =
-      add-zero-eq a b (omega (arith, sum-lt a b ha hb,
-      null-div poly P (a ⊕ b) v (ap (λ (x : ℕ). x % 256) (sum-mul poly P a b v ∙ ap (λ (x : ℕ). x ⊕ b ⊗ v) e ∙ xor-self (b ⊗ v))) d))
+      add-zero-eq a b (omega (
+        arith,
+        sum-lt a b ha hb,
+        null-div poly P (a ⊕ b) v (ap (λ (x : ℕ). x % 256) (sum-mul poly P a b v ∙ ap (λ (x : ℕ). x ⊕ b ⊗ v) e ∙ xor-self (b ⊗ v))) d,
+      ))
 
   -- a block that differs only at roots differs in at most l places
   pub few : (v : List ℕ) → ((k : ℕ) → k < length w → seq w k ≢ seq v k → R k ≡ 0) → distance w v ≤ l
   few v z =
-      omega (arith, places-length 0 w v,
-      few-roots poly P first (length w) small l (seq f) (places 0 w v) unit-alive
-      (differ-roots poly P first (length w) small (seq f) (suc l) w v (omega arith) (λ k h d. ap (λ (x : ℕ). x % 256) (z k h d))))
+      omega (
+        arith,
+        places-length 0 w v,
+        few-roots poly P first (length w) small l (seq f) (places 0 w v) unit-alive
+            (differ-roots poly P first (length w) small (seq f) (suc l) w v (omega arith) (λ k h d. ap (λ (x : ℕ). x % 256) (z k h d))),
+      )
 
   module _ (c : List ℕ) (N : Near poly first parity w c) where
     abbrev ks : List ℕ
@@ -108,8 +114,11 @@ module _ (poly : ℕ) (P : Passes poly) (first parity : ℕ) (w : List ℕ) (sma
 
     pub root-at : (k : ℕ) → k < length w → err k ≢ 0 → R k ≡ 0
     root-at k h d =
-        omega (arith, R-lt k,
-        null-div poly P (R k) (err k) (ap (λ (x : ℕ). x % 256) (mul-comm poly P (R k) (err k)) ∙ null-at k h) (λ z. d (omega (arith, err-lt k))))
+        omega (
+          arith,
+          R-lt k,
+          null-div poly P (R k) (err k) (ap (λ (x : ℕ). x % 256) (mul-comm poly P (R k) (err k)) ∙ null-at k h) (λ z. d (omega (arith, err-lt k))),
+        )
 
     pub count-is : l ≡ distance w c
     count-is = omega (arith, l-le, few c (λ k h d. root-at k h (λ z. d (add-zero-eq (seq w k) (seq c k) z))))
@@ -170,10 +179,14 @@ module _ (poly : ℕ) (P : Passes poly) (first parity : ℕ) (w : List ℕ) (sma
               | yes a ↦ subst (λ (x : ℕ). Null (H x)) (sym a) z
               | no a ↦ other-null i h a (ap (λ (x : ℕ). x % 256) (root-at i h (λ y. q (add-zero-eq (seq w i) (seq c i) y))))
             ]) in
-            omega (arith, l-le, places-length 0 w c,
-            few-roots poly P first (length w) small (l - 1) (quotient poly (seq f) (X k)) ks
-            (λ y. unit-alive (subst Null (horner-one poly P (seq f) (X k)) y))
-            (differ-roots poly P first (length w) small (quotient poly (seq f) (X k)) (suc (l - 1)) w c (omega arith) all))
+            omega (
+              arith,
+              l-le,
+              places-length 0 w c,
+              few-roots poly P first (length w) small (l - 1) (quotient poly (seq f) (X k)) ks
+                  (λ y. unit-alive (subst Null (horner-one poly P (seq f) (X k)) y))
+                  (differ-roots poly P first (length w) small (quotient poly (seq f) (X k)) (suc (l - 1)) w c (omega arith) all),
+            )
       ]
 
       pub error-is : (y : ℕ) → Magnitude poly first s f l (degree (length w) k) y → y ≡ err k

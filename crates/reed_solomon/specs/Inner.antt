@@ -5,7 +5,7 @@ use mathlib.Core.List.{List}
 use Prim.Native.Nat.{ℕ, suc, _+_, _-_, _*_, _%_, _≤_, _<_}
 use lib.Dec.{eqb}
 use lib.ListN.{length}
-use Rattle.field.specs.Field.{power, mul}
+use Rattle.field.specs.Field.{power, mul, below}
 use Rattle.algebra.specs.Sum.{_⊕_, seq, sum, horner, degree}
 use Rattle.algebra.specs.Register.{Makes, moved, State}
 use Rattle.reed_solomon.specs.Block.{eval}
@@ -28,14 +28,21 @@ pub record Syndromes (poly first parity : ℕ) (block s : List ℕ) : Type 0 whe
   pub bytes : (j : ℕ) → seq s j < 256
   pub are : (j : ℕ) → j < parity → seq s j ≡ eval poly (power poly (first + j)) block
 
+-- all of the first n are zero
+unfoldable pub isClean : ℕ → List ℕ → Bool
+isClean n s = below n (λ j. eqb (seq s j) 0)
+
 -- ---- the locator
 
 -- f plus q times g moved up by m places, where x stands at the place i of f
 abbrev pub added : ℕ → ℕ → ℕ → List ℕ → ℕ → ℕ → ℕ
 added poly q m g i x = x ⊕ mul poly q (moved m (seq g) i)
 
--- after r of the first n values of s: `State` on arrays, and no register that makes all n is shorter
-pub record Register (poly : ℕ) (s : List ℕ) (n r : ℕ) (f g : List ℕ) (l rg b : ℕ) : Type 0 where
+abbrev pub copied : List ℕ → ℕ → ℕ → ℕ
+copied src i x = seq src i
+
+-- after r values of s: `State` on arrays, and no register that makes them is shorter
+pub record Register (poly : ℕ) (s : List ℕ) (r : ℕ) (f g : List ℕ) (l rg b : ℕ) : Type 0 where
   pub state : State poly (seq s) r l (seq f) rg (rg - l) (seq g) b
   pub unit : seq f 0 ≡ 1
   pub bytes : (i : ℕ) → seq f i < 256
@@ -44,7 +51,7 @@ pub record Register (poly : ℕ) (s : List ℕ) (n r : ℕ) (f g : List ℕ) (l 
   pub pos : 0 < b
   pub within : l ≤ r
   pub behind : l ≤ rg
-  pub least : (t : ℕ → ℕ) (e : ℕ) → Makes poly (seq s) n t e → (t 0 % 256 ≡ 0 → ⊥) → l ≤ e
+  pub least : (t : ℕ → ℕ) (e : ℕ) → Makes poly (seq s) r t e → (t 0 % 256 ≡ 0 → ⊥) → l ≤ e
 
 -- the shortest register that makes the first n values of s
 pub record Shortest (poly : ℕ) (s : List ℕ) (n : ℕ) (f : List ℕ) (l : ℕ) : Type 0 where

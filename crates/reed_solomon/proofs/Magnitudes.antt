@@ -1,0 +1,80 @@
+-- The error at a root, as the code computes it. Assumes nothing.
+use mathlib.Core.Path.{_≡_, refl, sym, ap, ap₂, _∙_, subst}
+use mathlib.Core.List.{List}
+use Prim.Native.Nat.{ℕ, suc, _+_, _-_, _*_, _/_, _%_, _≤_, _<_}
+use native.Mathlib.Omega.{arith}
+use native.Mathlib.Numerals.{add-one}
+use native.Mathlib.Nat.{mul-le-mul}
+use Rattle.field.specs.Field.{raised, power, mul}
+use Rattle.field.proofs.Field.{Passes, mul-lt, mul-assoc, mul-one, mul-power, power-period}
+use Rattle.algebra.specs.Sum.{_⊕_, seq, sum, horner, degree}
+use Rattle.algebra.proofs.Sum.{sum-next}
+use Rattle.reed_solomon.specs.Inner.{dividedAt, numerator, denominator, Magnitude}
+
+-- ---- the locator divided by x + α^d
+
+-- after j of l coefficients: what the next is made of, the sum over the syndromes, and the value at α^d
+pub record Dividing (poly : ℕ) (s f : List ℕ) (l d j m num den : ℕ) : Type 0 where
+  pub next : m ≡ horner poly (seq f) (power poly d) j
+  pub over : num ≡ sum (λ i. mul poly (dividedAt poly f d i) (seq s (degree l i))) j
+  pub value : den ≡ horner poly (dividedAt poly f d) (power poly d) j
+
+pub dividing-start : (poly : ℕ) (s f : List ℕ) (l d : ℕ) → Dividing poly s f l d 0 0 0 0
+unfolding horner sum
+dividing-start poly s f l d = record { next = refl; over = refl; value = refl }
+
+module _ (poly : ℕ) (s f : List ℕ) (l d j m num den a b p : ℕ) (D : Dividing poly s f l d j m num den)
+    (ea : a ≡ mul poly m (power poly d)) (eb : b ≡ mul poly den (power poly d)) (ep : p ≡ mul poly (a ⊕ seq f j) (seq s (l - 1 - j))) where
+  next-is : a ⊕ seq f j ≡ dividedAt poly f d j
+  unfolding horner
+  next-is = ap (λ (x : ℕ). x ⊕ seq f j) (ea ∙ ap (λ (x : ℕ). mul poly x (power poly d)) (D .next))
+
+  pub dividing-next : Dividing poly s f l d (j + 1) (a ⊕ seq f j) (num ⊕ p) (b ⊕ (a ⊕ seq f j))
+  unfolding horner degree
+  dividing-next = record {
+    next = next-is ∙ ap (horner poly (seq f) (power poly d)) (sym (add-one j));
+    over =
+        ap₂ _⊕_ (D .over)
+        (ep ∙ ap₂ (mul poly) next-is (let e : l - 1 - j ≡ l - suc j = omega arith in ap (seq s) e))
+        ∙ sym (sum-next (λ i. mul poly (dividedAt poly f d i) (seq s (degree l i))) j);
+    value =
+        ap₂ _⊕_ (eb ∙ ap (λ (x : ℕ). mul poly x (power poly d)) (D .value)) next-is
+        ∙ ap (horner poly (dividedAt poly f d) (power poly d)) (sym (add-one j));
+  }
+
+pub dividing-end : (poly : ℕ) (s f : List ℕ) (l d j m num den : ℕ) → Dividing poly s f l d j m num den → j ≤ l → l ≤ j
+    → (num ≡ numerator poly s f l d) × (den ≡ denominator poly f l d)
+unfolding numerator denominator
+dividing-end poly s f l d j m num den D h k =
+    let e : j ≡ l = omega arith in (
+      D .over ∙ ap (sum (λ i. mul poly (dividedAt poly f d i) (seq s (degree l i)))) e,
+      D .value ∙ ap (horner poly (dividedAt poly f d) (power poly d)) e,
+    )
+
+-- ---- the error of the fraction
+
+pub small-product : (a b : ℕ) → a ≤ 255 → b ≤ 255 → a * b ≤ 65025
+small-product a b ha hb = mul-le-mul ha hb
+
+module _ (poly : ℕ) (P : Passes poly) (first : ℕ) (s f : List ℕ) (l d : ℕ) where
+  pub magnitude-none : denominator poly f l d ≡ 0 → Magnitude poly first s f l d 0
+  magnitude-none e = record { byte = omega arith; is = λ h. absurd (omega arith); none = λ z. refl }
+
+  -- z divided by α^(d * first)
+  unweighted : (z : ℕ) → z < 256 → mul poly (mul poly z (power poly (255 - d * first % 255))) (power poly (d * first)) ≡ z
+  unfolding raised
+  unweighted z h =
+      mul-assoc poly P z (power poly (255 - d * first % 255)) (power poly (d * first))
+      ∙ ap (mul poly z) (mul-power poly P (255 - d * first % 255) (d * first)
+      ∙ (let e : 255 - d * first % 255 + d * first ≡ 255 * (d * first / 255 + 1) + 0 = omega arith in ap (power poly) e)
+      ∙ power-period poly P (d * first / 255 + 1) 0)
+      ∙ mul-one poly P z ∙ (let e : z % 256 ≡ z = omega arith in e)
+
+  pub magnitude-some : (num den z y : ℕ) → num ≡ numerator poly s f l d → den ≡ denominator poly f l d → 0 < den → z < 256 → mul poly z den ≡ num
+      → y ≡ mul poly z (power poly (255 - d * first % 255)) → Magnitude poly first s f l d y
+  magnitude-some num den z y en ed p h q e = record {
+    byte = omega (arith, mul-lt poly P z (power poly (255 - d * first % 255)));
+    is = λ _.
+        ap₂ (mul poly) (ap (λ (x : ℕ). mul poly x (power poly (d * first))) e ∙ unweighted z h) (sym ed) ∙ q ∙ en;
+    none = λ n. absurd (omega arith);
+  }

@@ -1,0 +1,174 @@
+-- The steps of Berlekamp and Massey's algorithm on arrays. Assumes nothing.
+use mathlib.Core.Path.{_≡_, refl, sym, ap, _∙_, subst, subst₂, subst₃, fun-ext}
+use mathlib.Core.List.{List}
+use Prim.Native.Nat.{ℕ, suc, _+_, _-_, _%_, _≤_, _<_}
+use native.Mathlib.Omega.{arith}
+use native.Mathlib.Numerals.{add-one}
+use native.Mathlib.Decide.{ℕ-discrete, decLt}
+use lib.ListN.{length, getD, set, replicate, length-set, length-replicate, getD-replicate, List·getD-eq-default}
+use lib.Seq.{ext-getD, getD-set-same, getD-set-other}
+use lib.Bits.{xor-zero-r}
+use Rattle.field.specs.Field.{mul}
+use Rattle.field.proofs.Field.{Passes, mul-lt, sum-lt}
+use Rattle.field.proofs.Entries.{mul-right-zero}
+use Rattle.algebra.specs.Sum.{_⊕_, seq}
+use Rattle.algebra.specs.Register.{discrepancy, Makes, Tail, moved, stepped, State}
+use Rattle.algebra.proofs.Register.{moved-low, moved-high, stepped-low, stepped-tail, massey, kept, stayed, grown}
+use Rattle.reed_solomon.specs.Inner.{Each, added, copied, Register, Shortest}
+use Rattle.reed_solomon.proofs.Each.{each-same, each-next}
+
+-- f plus q times g moved up by m places: below m nothing is added
+module _ (poly q m : ℕ) (g : List ℕ) where
+  pub adding-start : (f : List ℕ) → Each (added poly q m g) m f f
+  adding-start f = each-same (added poly q m g) m f
+      (λ i h. sym (ap (λ (y : ℕ). seq f i ⊕ mul poly q y) (moved-low m (seq g) i h) ∙ ap (λ (y : ℕ). seq f i ⊕ y) (mul-right-zero poly q) ∙ xor-zero-r (seq f i)))
+
+  pub adding-next : (i p : ℕ) (f₀ f : List ℕ) → Each (added poly q m g) i f₀ f → i < length f₀ → m ≤ i → p ≡ mul poly q (seq g (i - m))
+      → Each (added poly q m g) (i + 1) f₀ (set f i (seq f i ⊕ p))
+  adding-next i p f₀ f E h k e =
+      each-next (added poly q m g) i (seq f i ⊕ p) f₀ f E h
+      (ap (λ (y : ℕ). seq f i ⊕ y) e ∙ sym (ap (λ (y : ℕ). seq f i ⊕ mul poly q y) (moved-high m (seq g) i k)))
+
+-- all of an array copied
+pub copied-all : (n : ℕ) (src dst dst′ : List ℕ) → Each (copied src) n dst dst′ → length dst ≡ n → length src ≡ n → dst′ ≡ src
+copied-all n src dst dst′ E a b = ext-getD 0 dst′ src (E .size ∙ a ∙ sym b) (λ i h. E .done i (omega (arith, E .size)))
+
+-- ---- what the algorithm keeps
+
+makes-less : (poly : ℕ) (s t : ℕ → ℕ) (r e : ℕ) → Makes poly s (r + 1) t e → Makes poly s r t e
+unfolding Makes
+makes-less poly s t r e m x a b = m x a (omega arith)
+
+module _ (poly : ℕ) (P : Passes poly) (s : List ℕ) (r : ℕ) (f g : List ℕ) (l rg b : ℕ) (G : Register poly s r f g l rg b) where
+  pub register-kept : discrepancy poly (seq s) (seq f) l r ≡ 0 → Register poly s (r + 1) f g l rg b
+  register-kept z = record {
+    state = rw add-one (kept poly P (seq s) r l (seq f) rg (rg - l) (seq g) b (G .state) z);
+    unit = G .unit;
+    bytes = G .bytes;
+    size-f = G .size-f;
+    size-g = G .size-g;
+    pos = G .pos;
+    within = omega (arith, G .within);
+    behind = G .behind;
+    least = λ t e m o. G .least t e (makes-less poly (seq s) t r e m) o;
+  }
+
+  module _ (d q : ℕ) (f′ : List ℕ) (top : ℕ) (e : d ≡ discrepancy poly (seq s) (seq f) l r) (p : 0 < d) (d8 : d < 256) (qb : mul poly q b ≡ d)
+      (E : Each (added poly q (r + 1 - rg) g) top f f′) (a : l < top) (c : rg - l + (r + 1 - rg) < top) where
+    front : rg ≤ r
+    front = G .state .before
+
+    -- the array holds the whole register
+    whole : seq f′ ≡ stepped poly q (r + 1 - rg) (seq f) (seq g)
+    unfolding Tail stepped
+    whole = fun-ext (λ i. elim (decLt i top) [
+      | yes u ↦ E .done i u
+      | no u ↦ E .rest i (omega arith) ∙ G .state .f-tail i (omega arith)
+          ∙ sym (stepped-tail poly q (seq f) (seq g) l (rg - l) (r + 1 - rg) (top - 1) (G .state .f-tail) (G .state .g-tail) (omega arith) (omega arith) i (omega arith))
+    ])
+
+    moved-one : stepped poly q (suc r - rg) (seq f) (seq g) ≡ seq f′
+    moved-one = ap (λ (n : ℕ). stepped poly q (n - rg) (seq f) (seq g)) (sym (add-one r)) ∙ sym whole
+
+    unit′ : seq f′ 0 ≡ 1
+    unit′ = ap (λ (h : ℕ → ℕ). h 0) whole ∙ stepped-low poly q (r + 1 - rg) (seq f) (seq g) 0 (omega (arith, front)) ∙ G .unit
+
+    bytes′ : (i : ℕ) → seq f′ i < 256
+    unfolding stepped
+    bytes′ i = omega (
+      arith,
+      ap (λ (h : ℕ → ℕ). h i) whole,
+      sum-lt (seq f i) (mul poly q (moved (r + 1 - rg) (seq g) i)) (G .bytes i) (mul-lt poly P q (moved (r + 1 - rg) (seq g) i)),
+    )
+
+    pub register-stayed : r < l + l → Register poly s (r + 1) f′ g l rg b
+    register-stayed u = record {
+      state =
+          subst₂ (λ (n : ℕ) (h : ℕ → ℕ). State poly (seq s) n l h rg (rg - l) (seq g) b) (sym (add-one r)) moved-one
+          (stayed poly P (seq s) r l (seq f) rg (rg - l) (seq g) b (G .state) q (qb ∙ e) u);
+      unit = unit′;
+      bytes = bytes′;
+      size-f = E .size ∙ G .size-f;
+      size-g = G .size-g;
+      pos = G .pos;
+      within = omega (arith, G .within);
+      behind = G .behind;
+      least = λ t k m o. G .least t k (makes-less poly (seq s) t r k m) o;
+    }
+
+    grown-once : l + l ≤ r → Register poly s (r + 1) f′ f (r + 1 - l) (r + 1) d
+    grown-once u = record {
+      state =
+          let x : suc r - l ≡ r + 1 - l = omega arith in
+          let y : l ≡ r + 1 - (r + 1 - l) = omega (arith, G .within) in
+          subst₃ (λ (n m k : ℕ). State poly (seq s) n m (seq f′) n k (seq f) d) (sym (add-one r)) x y
+          (subst₂ (λ (h : ℕ → ℕ) (v : ℕ). State poly (seq s) (suc r) (suc r - l) h (suc r) l (seq f) v) moved-one (sym e)
+          (grown poly P (seq s) r l (seq f) rg (rg - l) (seq g) b (G .state) q (qb ∙ e) u));
+      unit = unit′;
+      bytes = bytes′;
+      size-f = E .size ∙ G .size-f;
+      size-g = G .size-f;
+      pos = p;
+      within = omega arith;
+      behind = omega arith;
+      least = λ t n m o.
+          let k : r < n + l =
+          massey poly P (seq s) (seq f) t l n r (G .state .f-makes) (λ z. omega arith) (rw (← add-one) m) o in
+          omega arith;
+    }
+
+    pub register-grown : (g′ : List ℕ) → g′ ≡ f → l + l ≤ r → Register poly s (r + 1) f′ g′ (r + 1 - l) (r + 1) d
+    register-grown g′ q′ u = subst (λ (x : List ℕ). Register poly s (r + 1) f′ x (r + 1 - l) (r + 1) d) (sym q′) (grown-once u)
+
+-- ---- its start and its end
+
+-- an array of zeros with 1 at its first place
+pub one-first : (f : List ℕ) → length f ≡ 256 → ((i : ℕ) → seq f i ≡ 0) → (i : ℕ) → 0 < i → seq (set f 0 1) i ≡ 0
+one-first f h z i p = getD-set-other f 0 i 1 0 (omega arith) ∙ z i
+
+one-bytes : (f : List ℕ) → length f ≡ 256 → ((i : ℕ) → seq f i ≡ 0) → (i : ℕ) → seq (set f 0 1) i < 256
+one-bytes f h z i = elim (ℕ-discrete i 0) [
+  | yes e ↦ omega (arith, ap (seq (set f 0 1)) e, getD-set-same f 0 1 0 (omega arith))
+  | no d ↦ omega (arith, one-first f h z i (omega arith))
+]
+
+pub register-start : (poly : ℕ) (s f g : List ℕ) → length f ≡ 256 → ((i : ℕ) → seq f i ≡ 0) → length g ≡ 256 → ((i : ℕ) → seq g i ≡ 0)
+    → Register poly s 0 (set f 0 1) (set g 0 1) 0 0 1
+unfolding Tail Makes
+register-start poly s f g hf zf hg zg = record {
+  state = record {
+    f-tail = λ i h. one-first f hf zf i h;
+    f-makes = λ x a b. absurd (omega arith);
+    g-tail = λ i h. one-first g hg zg i (omega arith);
+    g-makes = λ x a b. absurd (omega arith);
+    g-miss = λ x e. absurd (omega arith);
+    lens = refl;
+    before = omega arith;
+  };
+  unit = getD-set-same f 0 1 0 (omega arith);
+  bytes = one-bytes f hf zf;
+  size-f = length-set f 0 1 ∙ hf;
+  size-g = length-set g 0 1 ∙ hg;
+  pos = omega arith;
+  within = omega arith;
+  behind = omega arith;
+  least = λ t e m o. omega arith;
+}
+
+pub zeros : (n i : ℕ) → seq (replicate n 0) i ≡ 0
+zeros n i = elim (decLt i n) [
+  | yes h ↦ getD-replicate n i 0 0 h
+  | no h ↦ List·getD-eq-default (replicate n 0) 0 {n = i} (omega (arith, length-replicate {A = ℕ} n 0))
+]
+
+pub register-end : (poly : ℕ) (s : List ℕ) (r n : ℕ) (f g : List ℕ) (l rg b : ℕ) → Register poly s r f g l rg b → r ≤ n → n ≤ r → Shortest poly s n f l
+register-end poly s r n f g l rg b G h k =
+    let e : r ≡ n = omega arith in
+    record {
+      makes = subst (λ (m : ℕ). Makes poly (seq s) m (seq f) l) e (G .state .f-makes);
+      unit = G .unit;
+      bytes = G .bytes;
+      size = G .size-f;
+      within = omega (arith, G .within);
+      least = λ t m q. G .least t m (subst (λ (x : ℕ). Makes poly (seq s) x t m) (sym e) q);
+    }

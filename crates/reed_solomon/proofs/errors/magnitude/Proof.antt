@@ -1,0 +1,49 @@
+-- `errors::magnitude` meets its contract. Assumes nothing.
+use mathlib.Core.Path.{sym, _∙_}
+use Rattle.field.proofs.Entries.{the-field}
+use Rattle.reed_solomon.proofs.Magnitudes.{small-product, magnitude-none, magnitude-some}
+use native.Mathlib.Omega.{arith}
+-- `errors::magnitude` meets its contract. Assumes nothing.
+use mathlib.Core.Path.{_∙_}
+use Prim.Native.Nat.{_≤_}
+use Rattle.field.proofs.Entries.{the-field}
+use Rattle.field.specs.Table.{polyOf}
+use Rattle.reed_solomon.proofs.Magnitudes.{magnitude-none, magnitude-some}
+use borrow.Author.Needs.{needs}
+use Rattle.reed_solomon.proofs.errors.magnitude.Statement.{statement}
+use Rattle.reed_solomon.proofs.errors.magnitude.Tie as tie
+
+divided-requires : tie.Need-divided-requires
+divided-requires c κs = search needs
+
+returns : tie.Need-returns
+returns c = magnitude-none _ (the-field _ (c .before .before .before .before .before .pre .0)) _ _ _ _ _ (sym (c .before .before .divided .ensures .1) ∙ c .if1 .taken)
+
+div-requires : tie.Need-div-requires
+div-requires c κs = search needs
+
+mul-raised : tie.Need-mul-raised
+mul-raised c = omega (arith, small-product (c .before .before .before .before .before .before .args .d) (c .before .before .before .before .before .before .args .first) (c .before .before .before .before .before .before .pre .1 .2) (c .before .before .before .before .before .before .pre .1 .3))
+
+sub-raised : tie.Need-sub-raised
+sub-raised c = search needs
+
+raised-requires : tie.Need-raised-requires
+raised-requires c κs = search needs
+
+returns-2 : tie.Need-returns-2
+returns-2 c =
+    magnitude-some _ (the-field _ (c .before .before .before .before .before .before .before .pre .0)) _ _ _ _ _ _ _ _ _ (c .before .before .before .before .divided .ensures .0) (c .before .before .before .before .divided .ensures .1) (omega arith) (omega arith)
+    (c .before .div .ensures) (c .raised .ensures)
+
+pub magnitude-spec : {M : Type 1} → statement M
+magnitude-spec =
+    tie.close
+    (tie.spec
+    divided-requires
+    returns
+    div-requires
+    mul-raised
+    sub-raised
+    raised-requires
+    returns-2)

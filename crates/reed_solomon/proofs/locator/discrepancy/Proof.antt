@@ -1,0 +1,64 @@
+-- `locator::discrepancy` meets its contract: the sum, term by term. Assumes nothing.
+use mathlib.Core.Path.{_≡_, refl, sym, ap, ap₂, _∙_}
+use Prim.Native.Nat.{ℕ, suc, _≤_, _-_}
+use lib.Bits.{bitXor}
+use Rattle.field.specs.Table.{polyOf}
+use Rattle.field.specs.Field.{mul}
+use Rattle.algebra.specs.Sum.{seq, sum}
+use Rattle.algebra.specs.Register.{discrepancy}
+use Rattle.algebra.proofs.Sum.{sum-next}
+use borrow.Author.Needs.{needs}
+use native.Mathlib.Omega.{arith}
+use Rattle.reed_solomon.proofs.locator.discrepancy.Statement.{statement}
+use Rattle.reed_solomon.proofs.locator.discrepancy.Tie as tie
+
+abbrev Inv-loop : tie.InvT-loop
+Inv-loop field s f l r d₀ i₀ d i = (d ≡ sum (λ k. mul (polyOf field) (seq f k) (seq s (r - k))) i) × (i ≤ suc l)
+
+abbrev μ-loop : tie.MeasureT-loop
+μ-loop field s f l r d₀ i₀ d i = suc l - i
+
+loop-holds : tie.Need-loop-holds Inv-loop μ-loop
+unfolding sum
+loop-holds c = (refl, omega arith)
+
+shared-slice-read-mul : tie.Need-shared-slice-read-mul Inv-loop μ-loop
+shared-slice-read-mul c = search needs
+
+sub-mul : tie.Need-sub-mul Inv-loop μ-loop
+sub-mul c = search needs
+
+shared-slice-read-mul-2 : tie.Need-shared-slice-read-mul-2 Inv-loop μ-loop
+shared-slice-read-mul-2 c = search needs
+
+mul-requires : tie.Need-mul-requires Inv-loop μ-loop
+mul-requires c κs = search needs
+
+add-i : tie.Need-add-i Inv-loop μ-loop
+add-i c = search needs
+
+loop-less : tie.Need-loop-less Inv-loop μ-loop
+loop-less c = search needs
+
+loop-again : tie.Need-loop-again Inv-loop μ-loop
+loop-again c = (ap₂ bitXor (c .before .before .before .before .loop .inv .0) (c .mul .ensures) ∙ sym (sum-next _ _), omega arith)
+
+returns : tie.Need-returns Inv-loop μ-loop
+unfolding discrepancy
+returns c = let e : c .before .loop .i ≡ suc (c .before .before .before .before .args .l) = omega arith in c .before .loop .inv .0 ∙ ap (sum _) e
+
+pub discrepancy-spec : {M : Type 1} → statement M
+discrepancy-spec =
+    tie.close
+    (tie.spec
+    Inv-loop
+    μ-loop
+    loop-holds
+    shared-slice-read-mul
+    sub-mul
+    shared-slice-read-mul-2
+    mul-requires
+    add-i
+    loop-less
+    loop-again
+    returns)

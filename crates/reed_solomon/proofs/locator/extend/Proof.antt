@@ -1,0 +1,109 @@
+-- `locator::extend` meets its contract: nothing missed, missed at the same length, and missed with a longer register. Assumes nothing.
+use mathlib.Core.Path.{sym, _∙_}
+use Rattle.field.proofs.Entries.{the-field}
+use Rattle.reed_solomon.proofs.Massey.{register-kept, register-stayed, register-grown}
+use native.Mathlib.Omega.{arith}
+-- `locator::extend` meets its contract: nothing missed, missed at the same length, and missed with a longer register. Assumes nothing.
+use mathlib.Core.Path.{_∙_}
+use Rattle.field.proofs.Entries.{the-field}
+use Rattle.reed_solomon.proofs.Massey.{register-kept, register-stayed, register-grown}
+use borrow.Author.Needs.{needs}
+use Rattle.reed_solomon.proofs.locator.extend.Statement.{statement}
+use Rattle.reed_solomon.proofs.locator.extend.Tie as tie
+
+discrepancy-requires : tie.Need-discrepancy-requires
+discrepancy-requires c κs = search needs
+
+same-length : tie.Need-same-length
+same-length c = search needs
+
+returns : tie.Need-returns
+returns c = register-kept _ (the-field _ (c .before .before .before .before .before .before .pre .0)) _ _ _ _ _ _ _ (c .before .before .before .before .before .before .pre .1 .1 .1) (sym (c .before .discrepancy .ensures) ∙ c .if1 .taken)
+
+div-requires : tie.Need-div-requires
+div-requires c κs = search needs
+
+add-m : tie.Need-add-m
+add-m c = search needs
+
+sub-m : tie.Need-sub-m
+sub-m c = search needs
+
+add-if2 : tie.Need-add-if2
+add-if2 c = search needs
+
+add-add-moved : tie.Need-add-add-moved
+add-add-moved c = search needs
+
+add-moved-requires : tie.Need-add-moved-requires
+add-moved-requires c κs = search needs
+
+same-length-2 : tie.Need-same-length-2
+same-length-2 c = search needs
+
+same-length-3 : tie.Need-same-length-3
+same-length-3 c = search needs
+
+returns-2 : tie.Need-returns-2
+returns-2 c =
+    register-stayed _ (the-field _ (c .before .before .before .before .before .before .before .before .before .before .before .before .before .before .pre .0)) _ _ _ _ _ _ _ (c .before .before .before .before .before .before .before .before .before .before .before .before .before .before .pre .1 .1 .1) _ _ _ _ (c .before .before .before .before .before .before .before .before .before .discrepancy .ensures)
+    (omega (arith, c .before .before .before .before .before .before .before .before .if1 .left)) (omega arith) (c .before .before .before .before .before .before .before .div .ensures) (c .before .before .add-moved .ensures) (omega arith)
+    (omega (arith, c .before .before .before .before .before .before .before .before .before .before .before .before .before .before .pre .1 .1 .1 .behind, c .before .before .before .before .before .before .before .before .before .before .before .before .before .before .pre .1 .1 .1 .state .before, c .before .before .before .before .before .if2 .taken)) (c .before .before .before .before .before .if2 .taken)
+
+add-grow : tie.Need-add-grow
+add-grow c = search needs
+
+sub-grow : tie.Need-sub-grow
+sub-grow c = search needs
+
+grow-requires : tie.Need-grow-requires
+grow-requires c κs = search needs
+
+add-t14 : tie.Need-add-t14
+add-t14 c = search needs
+
+sub-t26 : tie.Need-sub-t26
+sub-t26 c = search needs
+
+add-t27 : tie.Need-add-t27
+add-t27 c = search needs
+
+same-length-4 : tie.Need-same-length-4
+same-length-4 c = search needs
+
+same-length-5 : tie.Need-same-length-5
+same-length-5 c = search needs
+
+returns-3 : tie.Need-returns-3
+returns-3 c =
+    register-grown _ (the-field _ (c .before .before .before .before .before .before .before .before .before .before .before .before .before .before .before .before .pre .0)) _ _ _ _ _ _ _ (c .before .before .before .before .before .before .before .before .before .before .before .before .before .before .before .before .pre .1 .1 .1) _ _ _ _ (c .before .before .before .before .before .before .before .before .before .before .before .discrepancy .ensures)
+    (omega (arith, c .before .before .before .before .before .before .before .before .before .before .if1 .left)) (omega arith) (c .before .before .before .before .before .before .before .before .before .div .ensures) (c .before .before .before .before .grow .ensures .0)
+    (omega (arith, c .before .before .before .before .before .before .before .before .before .before .before .before .before .before .before .before .pre .1 .1 .1 .within, c .before .before .before .before .before .before .before .if2 .left))
+    (omega (arith, c .before .before .before .before .before .before .before .before .before .before .before .before .before .before .before .before .pre .1 .1 .1 .behind, c .before .before .before .before .before .before .before .before .before .before .before .before .before .before .before .before .pre .1 .1 .1 .state .before, c .before .before .before .before .before .before .before .if2 .left))
+    _ (c .before .before .before .before .grow .ensures .1) (omega (arith, c .before .before .before .before .before .before .before .if2 .left))
+
+pub extend-spec : {M : Type 1} → statement M
+extend-spec =
+    tie.close
+    (tie.spec
+    discrepancy-requires
+    same-length
+    returns
+    div-requires
+    add-m
+    sub-m
+    add-if2
+    add-add-moved
+    add-moved-requires
+    same-length-2
+    same-length-3
+    returns-2
+    add-grow
+    sub-grow
+    grow-requires
+    add-t14
+    sub-t26
+    add-t27
+    same-length-4
+    same-length-5
+    returns-3)

@@ -1,0 +1,71 @@
+-- `locator::locator` meets its contract. Assumes nothing.
+use mathlib.Core.Path.{refl, sym, _∙_}
+use Prim.Native.Nat.{_≤_, _-_}
+use lib.ListN.{replicate}
+use Rattle.field.specs.Table.{polyOf}
+use Rattle.reed_solomon.specs.Inner.{Register}
+use Rattle.reed_solomon.proofs.Massey.{zeros, register-start, register-end}
+use native.Mathlib.Omega.{arith}
+-- `locator::locator` meets its contract. Assumes nothing.
+use mathlib.Core.Path.{refl, sym}
+use Prim.Native.Nat.{_≤_, _-_}
+use Rattle.field.specs.Table.{polyOf}
+use Rattle.reed_solomon.specs.Inner.{Register}
+use Rattle.reed_solomon.proofs.Massey.{zeros, register-start, register-end}
+use borrow.Author.Needs.{needs}
+use native.Mathlib.Omega.{arith}
+use Rattle.reed_solomon.proofs.locator.locator.Statement.{statement}
+use Rattle.reed_solomon.proofs.locator.locator.Tie as tie
+
+abbrev Inv-loop : tie.InvT-loop
+Inv-loop field s n f₀ g₀ at₀ r₀ f g at r = Register (polyOf field) s r f g (at .l) (at .rg) (at .b) × (r ≤ n)
+
+abbrev μ-loop : tie.MeasureT-loop
+μ-loop field s n f₀ g₀ at₀ r₀ f g at r = n - r
+
+slice-write-f : tie.Need-slice-write-f Inv-loop μ-loop
+slice-write-f c = search needs
+
+array-write-g : tie.Need-array-write-g Inv-loop μ-loop
+array-write-g c = search needs
+
+loop-holds : tie.Need-loop-holds Inv-loop μ-loop
+loop-holds c = (register-start _ _ (c .before .before .args .f .now) (replicate 256 0) (c .before .before .pre .1 .1 .1 .0) (c .before .before .pre .1 .1 .1 .1) refl (zeros 256), omega arith)
+
+slice-aggregate-extend : tie.Need-slice-aggregate-extend Inv-loop μ-loop
+slice-aggregate-extend c = sym (c .before .before .before .loop .inv .0 .size-g)
+
+extend-requires : tie.Need-extend-requires Inv-loop μ-loop
+extend-requires c κs = (c .before .before .before .before .before .before .pre .0, (omega arith, (c .before .before .before .before .before .before .pre .1 .1 .0, c .before .before .before .loop .inv .0)))
+
+add-r : tie.Need-add-r Inv-loop μ-loop
+add-r c = search needs
+
+loop-less : tie.Need-loop-less Inv-loop μ-loop
+loop-less c = search needs
+
+loop-again : tie.Need-loop-again Inv-loop μ-loop
+loop-again c = (c .before .before .before .extend .ensures, omega arith)
+
+same-length : tie.Need-same-length Inv-loop μ-loop
+same-length c = c .before .loop .inv .0 .size-f ∙ sym (c .before .before .before .before .pre .1 .1 .1 .0)
+
+returns : tie.Need-returns Inv-loop μ-loop
+returns c = register-end _ _ _ _ _ _ _ _ _ (c .before .loop .inv .0) (c .before .loop .inv .1) (omega arith)
+
+pub locator-spec : {M : Type 1} → statement M
+locator-spec =
+    tie.close
+    (tie.spec
+    Inv-loop
+    μ-loop
+    slice-write-f
+    array-write-g
+    loop-holds
+    slice-aggregate-extend
+    extend-requires
+    add-r
+    loop-less
+    loop-again
+    same-length
+    returns)

@@ -1,0 +1,51 @@
+-- `syndromes::clean` meets its contract. Assumes nothing.
+use mathlib.Core.Path.{_≡_}
+use Prim.Native.Nat.{ℕ, _≤_, _<_, _-_}
+use borrow.Author.Count.{below-more}
+use Rattle.algebra.specs.Sum.{seq}
+use Rattle.reed_solomon.proofs.Clean.{clean-yes, clean-no}
+use borrow.Author.Needs.{needs}
+use native.Mathlib.Omega.{arith}
+use Rattle.reed_solomon.proofs.syndromes.clean.Statement.{statement}
+use Rattle.reed_solomon.proofs.syndromes.clean.Tie as tie
+
+abbrev Inv-loop : tie.InvT-loop
+Inv-loop s parity j₀ j = ((k : ℕ) → k < j → seq s k ≡ 0) × (j ≤ parity)
+
+abbrev μ-loop : tie.MeasureT-loop
+μ-loop s parity j₀ j = parity - j
+
+loop-holds : tie.Need-loop-holds Inv-loop μ-loop
+loop-holds c = ((λ k h. absurd (omega arith)), omega arith)
+
+shared-slice-read-if1 : tie.Need-shared-slice-read-if1 Inv-loop μ-loop
+shared-slice-read-if1 c = search needs
+
+returns : tie.Need-returns Inv-loop μ-loop
+returns c = clean-no _ _ _ (omega arith) (c .if1 .taken)
+
+add-j : tie.Need-add-j Inv-loop μ-loop
+add-j c = search needs
+
+loop-less : tie.Need-loop-less Inv-loop μ-loop
+loop-less c = search needs
+
+loop-again : tie.Need-loop-again Inv-loop μ-loop
+loop-again c = (below-more _ _ (c .before .before .before .loop .inv .0) (c .if1 .left), omega arith)
+
+returns-2 : tie.Need-returns-2 Inv-loop μ-loop
+returns-2 c = clean-yes _ _ (λ k h. c .before .loop .inv .0 k (omega arith))
+
+pub clean-spec : {M : Type 1} → statement M
+clean-spec =
+    tie.close
+    (tie.spec
+    Inv-loop
+    μ-loop
+    loop-holds
+    shared-slice-read-if1
+    returns
+    add-j
+    loop-less
+    loop-again
+    returns-2)
