@@ -10,4 +10,5 @@ pub mod Massey
 pub mod Values
 pub mod Terms
 pub mod Magnitudes
+pub mod Residue
 pub mod Theorems

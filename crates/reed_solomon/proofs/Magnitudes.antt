@@ -1,15 +1,18 @@
 -- The error at a root, as the code computes it. Assumes nothing.
-use mathlib.Core.Path.{_≡_, refl, sym, ap, ap₂, _∙_, subst}
+use mathlib.Core.Path.{_≡_, refl, sym, ap, ap₂, _∙_, subst, subst₃}
 use mathlib.Core.List.{List}
 use Prim.Native.Nat.{ℕ, suc, _+_, _-_, _*_, _/_, _%_, _≤_, _<_}
 use native.Mathlib.Omega.{arith}
 use native.Mathlib.Numerals.{add-one}
 use native.Mathlib.Nat.{mul-le-mul}
+use native.Mathlib.Decide.{ℕ-discrete}
+use lib.ListN.{length, set, length-set}
+use lib.Seq.{getD-set-same, getD-set-other}
 use Rattle.field.specs.Field.{raised, power, mul}
 use Rattle.field.proofs.Field.{Passes, mul-lt, mul-assoc, mul-one, mul-power, power-period}
 use Rattle.algebra.specs.Sum.{_⊕_, seq, sum, horner, degree}
 use Rattle.algebra.proofs.Sum.{sum-next}
-use Rattle.reed_solomon.specs.Inner.{dividedAt, numerator, denominator, Magnitude}
+use Rattle.reed_solomon.specs.Inner.{dividedAt, numerator, denominator, Magnitude, ErrorAt, Errors}
 
 -- ---- the locator divided by x + α^d
 
@@ -78,3 +81,24 @@ module _ (poly : ℕ) (P : Passes poly) (first : ℕ) (s f : List ℕ) (l d : �
         ap₂ (mul poly) (ap (λ (x : ℕ). mul poly x (power poly (d * first))) e ∙ unweighted z h) (sym ed) ∙ q ∙ en;
     none = λ n. absurd (omega arith);
   }
+
+-- ---- the errors, degree by degree
+
+module _ (poly first : ℕ) (s f : List ℕ) (l : ℕ) (e₀ : List ℕ) where
+  pub errors-start : Errors poly first s f l 0 e₀ e₀
+  errors-start = record { size = refl; done = λ d h. absurd (omega arith); rest = λ d h. refl }
+
+  pub errors-next : (d y : ℕ) (e : List ℕ) → Errors poly first s f l d e₀ e → d < length e₀ → ErrorAt poly first s f l d (seq e d) y
+      → Errors poly first s f l (d + 1) e₀ (set e d y)
+  errors-next d y e E h A = record {
+    size = length-set e d y ∙ E .size;
+    done = λ i u. elim (ℕ-discrete i d) [
+      | yes q ↦ subst₃ (λ (i x v : ℕ). ErrorAt poly first s f l i x v) (sym q) (E .rest d (omega arith) ∙ ap (seq e₀) (sym q))
+          (sym (ap (seq (set e d y)) q ∙ getD-set-same e d y 0 (omega (arith, E .size)))) A
+      | no q ↦ subst (ErrorAt poly first s f l i (seq e₀ i)) (sym (getD-set-other e d i y 0 q)) (E .done i (omega arith))
+    ];
+    rest = λ i u. getD-set-other e d i y 0 (omega arith) ∙ E .rest i (omega arith);
+  }
+
+  pub errors-end : (d n : ℕ) (e : List ℕ) → Errors poly first s f l d e₀ e → d ≤ n → n ≤ d → Errors poly first s f l n e₀ e
+  errors-end d n e E h k = let q : d ≡ n = omega arith in subst (λ (x : ℕ). Errors poly first s f l x e₀ e) q E

@@ -104,11 +104,15 @@ pub record Magnitude (poly first : ℕ) (s f : List ℕ) (l d y : ℕ) : Type 0 
   pub is : 0 < denominator poly f l d → mul poly (mul poly y (power poly (d * first))) (denominator poly f l d) ≡ numerator poly s f l d
   pub none : denominator poly f l d ≡ 0 → y ≡ 0
 
--- what stands at degree d where the flags are e: an error where the flag is set, and 0 elsewhere
+-- the error at degree d if its flag is set, and 0 if not
+pub record ErrorAt (poly first : ℕ) (s f : List ℕ) (l d flag y : ℕ) : Type 0 where
+  pub some : 0 < flag → Magnitude poly first s f l d y
+  pub none : flag ≡ 0 → y ≡ 0
+
+-- the flags e of the degrees below n replaced by the errors there
 pub record Errors (poly first : ℕ) (s f : List ℕ) (l n : ℕ) (e e′ : List ℕ) : Type 0 where
   pub size : length e′ ≡ length e
-  pub set : (d : ℕ) → d < n → 0 < seq e d → Magnitude poly first s f l d (seq e′ d)
-  pub clear : (d : ℕ) → d < n → seq e d ≡ 0 → seq e′ d ≡ 0
+  pub done : (d : ℕ) → d < n → ErrorAt poly first s f l d (seq e d) (seq e′ d)
   pub rest : (d : ℕ) → n ≤ d → seq e′ d ≡ seq e d
 
 -- a syndrome with the error y at degree d taken off

@@ -1,0 +1,68 @@
+-- `errors::add` meets its contract. Assumes nothing.
+use mathlib.Core.Path.{_≡_, refl, subst}
+use Prim.Native.Nat.{_≤_, _-_}
+use lib.ListN.{length}
+use Rattle.reed_solomon.specs.Inner.{Each, repaired}
+use Rattle.reed_solomon.proofs.Each.{each-start, each-end}
+use Rattle.reed_solomon.proofs.Residue.{repaired-next}
+use borrow.Author.Needs.{needs}
+use native.Mathlib.Omega.{arith}
+use Rattle.reed_solomon.proofs.errors.add.Statement.{statement}
+use Rattle.reed_solomon.proofs.errors.add.Tie as tie
+
+abbrev Inv-loop : tie.InvT-loop
+Inv-loop block₀ e n k₀ block k = Each (repaired (length block₀) e) k block₀ block × (k ≤ n) × (n ≡ length block₀)
+
+abbrev μ-loop : tie.MeasureT-loop
+μ-loop block₀ e n k₀ block k = n - k
+
+loop-holds : tie.Need-loop-holds Inv-loop μ-loop
+loop-holds c = (each-start _ _, omega arith, refl)
+
+sub-block : tie.Need-sub-block Inv-loop μ-loop
+sub-block c = search needs
+
+sub-block-2 : tie.Need-sub-block-2 Inv-loop μ-loop
+sub-block-2 c = search needs
+
+shared-slice-read-block : tie.Need-shared-slice-read-block Inv-loop μ-loop
+shared-slice-read-block c = omega (arith, c .before .before .loop .inv .2)
+
+slice-read-block : tie.Need-slice-read-block Inv-loop μ-loop
+slice-read-block c = omega (arith, c .before .before .before .loop .inv .0 .size)
+
+slice-write-block : tie.Need-slice-write-block Inv-loop μ-loop
+slice-write-block c = omega (arith, c .before .before .before .loop .inv .0 .size)
+
+add-k : tie.Need-add-k Inv-loop μ-loop
+add-k c = search needs
+
+loop-less : tie.Need-loop-less Inv-loop μ-loop
+loop-less c = search needs
+
+loop-again : tie.Need-loop-again Inv-loop μ-loop
+loop-again c = (repaired-next (length (c .before .before .before .before .args .block .now)) (c .before .before .before .loop .k) (c .before .before .before .before .args .e .now) (c .before .before .before .before .args .block .now) (c .before .before .before .loop .block) (c .before .before .before .loop .inv .0) (omega arith), omega arith, refl)
+
+same-length : tie.Need-same-length Inv-loop μ-loop
+same-length c = c .before .loop .inv .0 .size
+
+returns : tie.Need-returns Inv-loop μ-loop
+returns c = each-end _ _ _ _ _ (c .before .loop .inv .0) (omega arith) (omega arith)
+
+pub add-spec : {M : Type 1} → statement M
+add-spec =
+    tie.close
+    (tie.spec
+    Inv-loop
+    μ-loop
+    loop-holds
+    sub-block
+    sub-block-2
+    shared-slice-read-block
+    slice-read-block
+    slice-write-block
+    add-k
+    loop-less
+    loop-again
+    same-length
+    returns)

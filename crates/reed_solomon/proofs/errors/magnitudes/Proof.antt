@@ -1,0 +1,58 @@
+-- `errors::magnitudes` meets its contract. Assumes nothing.
+use Prim.Native.Nat.{_≤_, _-_}
+use Rattle.field.specs.Table.{polyOf}
+use Rattle.reed_solomon.specs.Inner.{Errors}
+use Rattle.reed_solomon.proofs.Magnitudes.{errors-start, errors-next, errors-end}
+use borrow.Author.Needs.{needs}
+use native.Mathlib.Omega.{arith}
+use Rattle.reed_solomon.proofs.errors.magnitudes.Statement.{statement}
+use Rattle.reed_solomon.proofs.errors.magnitudes.Tie as tie
+
+abbrev Inv-loop : tie.InvT-loop
+Inv-loop field first s f l e₀ n d₀ e d = Errors (polyOf field) first s f l d e₀ e × (d ≤ n)
+
+abbrev μ-loop : tie.MeasureT-loop
+μ-loop field first s f l e₀ n d₀ e d = n - d
+
+loop-holds : tie.Need-loop-holds Inv-loop μ-loop
+loop-holds c = (errors-start _ _ _ _ _ _, omega arith)
+
+slice-read-error-at : tie.Need-slice-read-error-at Inv-loop μ-loop
+slice-read-error-at c = omega (arith, c .before .before .loop .inv .0 .size)
+
+error-at-requires : tie.Need-error-at-requires Inv-loop μ-loop
+error-at-requires c κs = search needs
+
+slice-write-e : tie.Need-slice-write-e Inv-loop μ-loop
+slice-write-e c = omega (arith, c .before .before .before .loop .inv .0 .size)
+
+add-d : tie.Need-add-d Inv-loop μ-loop
+add-d c = search needs
+
+loop-less : tie.Need-loop-less Inv-loop μ-loop
+loop-less c = search needs
+
+loop-again : tie.Need-loop-again Inv-loop μ-loop
+loop-again c = (errors-next _ _ _ _ _ _ _ _ _ (c .before .before .before .loop .inv .0) (omega arith) (c .error-at .ensures), omega arith)
+
+same-length : tie.Need-same-length Inv-loop μ-loop
+same-length c = c .before .loop .inv .0 .size
+
+returns : tie.Need-returns Inv-loop μ-loop
+returns c = errors-end _ _ _ _ _ _ _ _ _ (c .before .loop .inv .0) (c .before .loop .inv .1) (omega arith)
+
+pub magnitudes-spec : {M : Type 1} → statement M
+magnitudes-spec =
+    tie.close
+    (tie.spec
+    Inv-loop
+    μ-loop
+    loop-holds
+    slice-read-error-at
+    error-at-requires
+    slice-write-e
+    add-d
+    loop-less
+    loop-again
+    same-length
+    returns)
