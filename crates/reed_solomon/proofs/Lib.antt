@@ -11,4 +11,5 @@ pub mod Values
 pub mod Terms
 pub mod Magnitudes
 pub mod Residue
+pub mod Settle
 pub mod Theorems

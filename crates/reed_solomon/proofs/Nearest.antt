@@ -24,7 +24,7 @@ module _ (poly first parity : ℕ) (block : List ℕ) where
   abbrev test : List ℕ → Bool
   test = inReach poly first parity block
 
-  passing-near : (w : List ℕ) → Passing test (length block) w → Near poly first parity block w
+  pub passing-near : (w : List ℕ) → Passing test (length block) w → Near poly first parity block w
   unfolding inReach
   passing-near w p =
       let t = T-and (isCodeword poly first parity w) (leb (distance block w) (parity / 2)) (p .test) in

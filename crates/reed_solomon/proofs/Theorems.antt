@@ -1,1 +1,41 @@
--- x
+-- What a customer may quote of blocks. Each holds for any polynomial that passes document 01's order test, any first root, and blocks of
+-- at most 255 bytes. Assumes nothing.
+use mathlib.Core.Path.{_≡_, sym}
+use mathlib.Core.Logic.{_≢_}
+use mathlib.Core.List.{List}
+use mathlib.Core.Option.{none, some}
+use Prim.Native.Nat.{ℕ, _+_, _≤_, _<_}
+use native.Mathlib.Omega.{arith}
+use native.Mathlib.Decide.{decLe}
+use lib.Dec.{T}
+use lib.ListN.{length, getD}
+use Rattle.field.specs.Field.{orderTest}
+use Rattle.field.proofs.Field.{passes}
+use Rattle.reed_solomon.specs.Block.{isCodeword, distance, inReach, nearest}
+use Rattle.reed_solomon.proofs.Search.{Bytes, Passing}
+use Rattle.reed_solomon.proofs.Codeword.{near-equal}
+use Rattle.reed_solomon.proofs.Nearest.{Near, passing-near, near-one, some-near, near-none, near-some}
+
+module _ (poly : ℕ) (test : T (orderTest poly)) (first parity : ℕ) where
+  -- Two different codewords of one length and parity differ in at least parity + 1 places.
+  pub least-distance : (u v : List ℕ) → length u ≤ 255 → length u ≡ length v → Bytes u → Bytes v
+      → T (isCodeword poly first parity u) → T (isCodeword poly first parity v) → u ≢ v → parity + 1 ≤ distance u v
+  least-distance u v small e bu bv cu cv d = elim (decLe (parity + 1) (distance u v)) [
+    | yes h ↦ h
+    | no h ↦ absurd (d (near-equal poly (passes poly test) first parity u v small e bu bv cu cv (omega arith)))
+  ]
+
+  -- No block has two codewords within floor(parity / 2) places.
+  pub no-block-has-two : (block u v : List ℕ) → length block ≤ 255 → length u ≡ length block → length v ≡ length block → Bytes u → Bytes v
+      → T (inReach poly first parity block u) → T (inReach poly first parity block v) → u ≡ v
+  no-block-has-two block u v small eu ev bu bv tu tv =
+      near-one poly first parity block (passes poly test) small u v
+      (passing-near poly first parity block u (record { test = tu; size = eu; bytes = bu }))
+      (passing-near poly first parity block v (record { test = tv; size = ev; bytes = bv }))
+
+  -- The search finds the codeword in reach: what it finds is one, and if there is one, it finds that one.
+  pub found-in-reach : (block w : List ℕ) → nearest poly first parity block ≡ some w → Near poly first parity block w
+  found-in-reach block w e = some-near poly first parity block w e
+
+  pub in-reach-found : (block w : List ℕ) → length block ≤ 255 → Near poly first parity block w → nearest poly first parity block ≡ some w
+  in-reach-found block w small N = near-some poly first parity block (passes poly test) small w N

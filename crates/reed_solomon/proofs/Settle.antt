@@ -1,0 +1,192 @@
+-- A block is repaired exactly where it has a codeword in reach. Assumes nothing.
+use mathlib.Core.Path.{_≡_, refl, sym, ap, ap₂, _∙_, subst}
+use mathlib.Core.Logic.{_≢_}
+use mathlib.Core.Bool.{Bool, true, false}
+use mathlib.Core.Option.{Option, none, some}
+use mathlib.Core.List.{List, [], _∷_}
+use Prim.Native.Nat.{ℕ, zero, suc, _+_, _-_, _*_, _≤_, _<_}
+use native.Mathlib.Omega.{arith}
+use native.Mathlib.Decide.{ℕ-discrete, decLt}
+use borrow.Author.Tests.{eq-eqb, ne-eqb, le-leb, lt-leb, le-ltb, lt-ltb}
+use lib.Dec.{T, eqb, eqb-refl}
+use lib.ListN.{length, getD}
+use lib.Bits.{xor-self, xor-zero-r}
+use Rattle.field.specs.Field.{power, mul}
+use Rattle.field.proofs.Field.{Passes, sum-lt}
+use Rattle.algebra.specs.Sum.{_⊕_, seq, degree, syndrome}
+use Rattle.algebra.proofs.Peel.{syndrome-add, syndrome-ext}
+use Rattle.reed_solomon.specs.Block.{eval, isCodeword, orOneMore, distance, nearest}
+use Rattle.reed_solomon.specs.Correct.{Outcome, refused, unfit, settled, correctOf}
+use Rattle.reed_solomon.specs.Inner.{Each, Syndromes, isClean, Shortest, locatorAt, zeroFlag, Errors, withoutAll, repaired}
+use Rattle.reed_solomon.proofs.Search.{Bytes}
+use Rattle.reed_solomon.proofs.Codeword.{zero-codeword, eval-syndrome, syndromeOf, difference}
+use Rattle.reed_solomon.proofs.Nearest.{Near, near-none, near-some}
+use Rattle.reed_solomon.proofs.Clean.{clean-yes, clean-zero}
+use Rattle.reed_solomon.proofs.Decode.{few, of-errors, root-at, count-is, error-is}
+
+-- ---- the refusals 5
+
+module _ (poly first parity : ℕ) (w : List ℕ) where
+  abbrev whole : Outcome
+  whole = correctOf poly first parity w
+
+  pub unfit-parity : parity ≡ 0 → refused 5 w ≡ whole
+  unfolding correctOf unfit
+  unfit-parity e = simp (eq-eqb parity 0 e)
+
+  pub unfit-length : length w ≤ parity → refused 5 w ≡ whole
+  unfolding correctOf unfit
+  unfit-length h = elim (ℕ-discrete parity 0) [ yes e ↦ unfit-parity e | no d ↦ simp (ne-eqb parity 0 d, le-leb (length w) parity h) ]
+
+  pub unfit-long : 255 < length w → refused 5 w ≡ whole
+  unfolding correctOf unfit
+  unfit-long h = elim (decLt parity (length w)) [
+    | no d ↦ unfit-length (omega arith)
+    | yes l ↦ elim (ℕ-discrete parity 0) [
+      | yes e ↦ unfit-parity e
+      | no d ↦ simp (ne-eqb parity 0 d, lt-leb (length w) parity l, lt-ltb 255 (length w) h)
+    ]
+  ]
+
+  pub fit-settled : parity ≢ 0 → parity < length w → length w ≤ 255 → settled w (nearest poly first parity w) ≡ whole
+  unfolding correctOf unfit
+  fit-settled d l h = simp (ne-eqb parity 0 d, lt-leb (length w) parity l, le-ltb 255 (length w) h)
+
+-- ---- a block with no error
+
+flag-same : (x n : ℕ) → orOneMore (eqb x x) n ≡ n
+flag-same x n = simp (eq-eqb x x refl)
+
+distance-self : (w : List ℕ) → distance w w ≡ 0
+unfolding distance
+distance-self [] = refl
+distance-self (x ∷ xs) = flag-same x (distance xs xs) ∙ distance-self xs
+
+module _ (poly : ℕ) (P : Passes poly) (first parity : ℕ) (w : List ℕ) (small : length w ≤ 255) (bw : Bytes w) (s : List ℕ) (Y : Syndromes poly first parity w s) where
+  pub clean-settled : true ≡ isClean parity s → record { number = 0; count = 0; block = w } ≡ settled w (nearest poly first parity w)
+  unfolding settled
+  clean-settled t =
+      let N : Near poly first parity w w = record {
+        size = refl;
+        bytes = bw;
+        code = zero-codeword poly first parity w (λ j h. sym (Y .are j h) ∙ clean-zero parity s t j h);
+        near = omega (arith, distance-self w);
+      } in
+      sym (ap (settled w) (near-some poly first parity w P small w N) ∙ ap (λ (n : ℕ). record { number = 0; count = n; block = w }) (distance-self w))
+
+  -- ---- with the locator f of length l
+
+  module _ (f : List ℕ) (l : ℕ) (F : Shortest poly s parity f l) where
+    abbrev R : ℕ → ℕ
+    R k = locatorAt poly f l (degree (length w) k)
+
+    -- a locator that is too long
+    pub long-settled : parity < l + l → refused 6 w ≡ settled w (nearest poly first parity w)
+    unfolding settled
+    long-settled h =
+        sym (ap (settled w) (near-none poly first parity w
+        (λ c N. omega (arith, count-is poly P first parity w small bw s f l Y F c N, N .near))))
+
+    -- with the flags e₁ of its roots, the errors e₂ there, and the syndromes s₃ that are left
+    module _ (e₀ e₁ e₂ s₃ : List ℕ) (E₁ : Each (λ d x. zeroFlag (locatorAt poly f l d)) (length w) e₀ e₁) (E₂ : Errors poly first s f l (length w) e₁ e₂)
+        (E₃ : Each (withoutAll poly first (length w) e₂ (length w)) parity s s₃) where
+      found : ℕ → ℕ
+      found i = seq e₂ (degree (length w) i)
+
+      below-length : (k : ℕ) → k < length w → degree (length w) k < length w
+      unfolding degree
+      below-length k h = omega arith
+
+      off-root : (k : ℕ) → k < length w → R k ≢ 0 → found k ≡ 0
+      unfolding zeroFlag found
+      off-root k h d =
+          let b = below-length k h in
+          E₂ .done (degree (length w) k) b .none (E₁ .done (degree (length w) k) b ∙ simp (ne-eqb (R k) 0 d))
+
+      flag-set : (k : ℕ) → k < length w → R k ≡ 0 → 0 < seq e₁ (degree (length w) k)
+      unfolding zeroFlag
+      flag-set k h z =
+          let q : seq e₁ (degree (length w) k) ≡ 1 = E₁ .done (degree (length w) k) (below-length k h) ∙ simp (eq-eqb (R k) 0 z) in
+          omega arith
+
+      found-lt : (k : ℕ) → k < length w → found k < 256
+      unfolding found
+      found-lt k h = elim (ℕ-discrete (R k) 0) [
+        | yes z ↦ E₂ .done (degree (length w) k) (below-length k h) .some (flag-set k h z) .byte
+        | no z ↦ omega (arith, off-root k h z)
+      ]
+
+      -- what is left of a syndrome
+      left-is : (j : ℕ) → j < parity → seq s₃ j ≡ seq s j ⊕ syndrome poly first (length w) found j
+      unfolding syndrome found
+      left-is j h = E₃ .done j h
+
+      -- the errors found are those of a codeword in reach
+      module _ (c : List ℕ) (N : Near poly first parity w c) where
+        found-is : (k : ℕ) → k < length w → found k ≡ difference w c k
+        unfolding found
+        found-is k h = elim (ℕ-discrete (R k) 0) [
+          | yes z ↦ error-is poly P first parity w small bw s f l Y F c N k h z (seq e₂ (degree (length w) k))
+              (E₂ .done (degree (length w) k) (below-length k h) .some (flag-set k h z))
+          | no z ↦ off-root k h z ∙ elim (ℕ-discrete (difference w c k) 0) [
+            | yes q ↦ sym q
+            | no q ↦ absurd (z (root-at poly P first parity w small bw s f l Y F c N k h q))
+          ]
+        ]
+
+        nothing-left : (j : ℕ) → j < parity → seq s₃ j ≡ 0
+        nothing-left j h =
+            left-is j h
+            ∙ ap₂ _⊕_ (of-errors poly P first parity w small bw s f l Y F c N j h) (syndrome-ext poly P first (length w) found (difference w c) j found-is)
+            ∙ xor-self (syndrome poly first (length w) (difference w c) j)
+
+      pub left-settled : false ≡ isClean parity s₃ → refused 6 w ≡ settled w (nearest poly first parity w)
+      unfolding settled
+      left-settled t =
+          sym (ap (settled w) (near-none poly first parity w
+          (λ c N. let z : true ≡ isClean parity s₃ = clean-yes parity s₃ (nothing-left c N) in
+          let y : _≡_ {A = ℕ} 0 1 = two-bools (isClean parity s₃) z t in omega arith)))
+        where
+          two-bools : (b : Bool) → true ≡ b → false ≡ b → _≡_ {A = ℕ} 0 1
+          two-bools b p q = cc
+
+      -- and what is repaired is a codeword in reach
+      module _ (near : l + l ≤ parity) (t : true ≡ isClean parity s₃) (w′ : List ℕ) (E₄ : Each (repaired (length w) e₂) (length w) w w′) where
+        at : (k : ℕ) → k < length w → seq w′ k ≡ seq w k ⊕ found k
+        unfolding found
+        at k h = E₄ .done k h
+
+        repaired-bytes : Bytes w′
+        repaired-bytes i = elim (decLt i (length w)) [
+          | yes h ↦ omega (arith, at i h, sum-lt (seq w i) (found i) (bw i) (found-lt i h))
+          | no h ↦ omega (arith, E₄ .rest i (omega arith), bw i)
+        ]
+
+        repaired-code : (j : ℕ) → j < parity → eval poly (power poly (first + j)) w′ ≡ 0
+        repaired-code j h =
+            eval-syndrome poly P first w′ j repaired-bytes
+            ∙ ap (λ (n : ℕ). syndrome poly first n (seq w′) j) (E₄ .size)
+            ∙ syndrome-ext poly P first (length w) (seq w′) (λ i. seq w i ⊕ found i) j at
+            ∙ syndrome-add poly P first (length w) (seq w) found j
+            ∙ ap (λ (x : ℕ). x ⊕ syndrome poly first (length w) found j) (sym (eval-syndrome poly P first w j bw) ∙ sym (Y .are j h))
+            ∙ sym (left-is j h) ∙ clean-zero parity s₃ t j h
+
+        repaired-near : Near poly first parity w w′
+        repaired-near = record {
+          size = E₄ .size;
+          bytes = repaired-bytes;
+          code = zero-codeword poly first parity w′ repaired-code;
+          near = omega (arith, few poly P first parity w small bw s f l Y F w′ differs);
+        }
+          where
+            differs : (k : ℕ) → k < length w → seq w k ≢ seq w′ k → R k ≡ 0
+            differs k h d = elim (ℕ-discrete (R k) 0) [
+              | yes z ↦ z
+              | no z ↦ absurd (d (sym (at k h ∙ ap (λ (x : ℕ). seq w k ⊕ x) (off-root k h z) ∙ xor-zero-r (seq w k))))
+            ]
+
+        pub repaired-settled : record { number = 0; count = l; block = w′ } ≡ settled w (nearest poly first parity w)
+        unfolding settled
+        repaired-settled =
+            ap (λ (n : ℕ). record { number = 0; count = n; block = w′ }) (count-is poly P first parity w small bw s f l Y F w′ repaired-near)
+            ∙ sym (ap (settled w) (near-some poly first parity w P small w′ repaired-near))

@@ -1,0 +1,106 @@
+-- `repair` meets its contract: it refuses where there is no codeword in reach, and else sets the block to it. Assumes nothing.
+use mathlib.Core.Path.{refl, sym, _∙_}
+use Rattle.field.proofs.Entries.{the-field}
+use Rattle.reed_solomon.specs.Correct.{outcome}
+use Rattle.reed_solomon.proofs.Massey.{zeros}
+use Rattle.reed_solomon.proofs.Settle.{long-settled, left-settled, repaired-settled}
+use native.Mathlib.Omega.{arith}
+use borrow.Author.Needs.{needs}
+use Rattle.reed_solomon.proofs.repair.Statement.{statement}
+use Rattle.reed_solomon.proofs.repair.Tie as tie
+
+slice-aggregate-locator : tie.Need-slice-aggregate-locator
+slice-aggregate-locator c = search needs
+
+locator-requires : tie.Need-locator-requires
+locator-requires c κs = (c .before .before .before .before .pre .0, (omega arith, ((c .before .before .before .before .pre .1 .1 .size, c .before .before .before .before .pre .1 .1 .bytes), (refl, zeros 256))))
+
+add-if1 : tie.Need-add-if1
+add-if1 c = search needs
+
+same-length : tie.Need-same-length
+same-length c = search needs
+
+returns : tie.Need-returns
+unfolding outcome
+returns c =
+    long-settled _ (the-field _ (c .before .before .before .before .before .before .before .pre .0)) _ _ _ (c .before .before .before .before .before .before .before .pre .1 .0 .2) (λ i. omega (arith, c .before .before .before .before .before .before .slice-known .given i)) _ (c .before .before .before .before .before .before .before .pre .1 .1)
+    _ _ (c .before .before .locator .ensures) (c .if1 .taken)
+
+slice-aggregate-roots : tie.Need-slice-aggregate-roots
+slice-aggregate-roots c = search needs
+
+roots-requires : tie.Need-roots-requires
+roots-requires c κs = (c .before .before .before .before .before .before .before .before .before .pre .0, (omega (arith, c .before .before .before .before .locator .ensures .within), c .before .before .before .before .locator .ensures .size, c .before .before .before .before .locator .ensures .bytes, omega arith))
+
+slice-aggregate-magnitudes : tie.Need-slice-aggregate-magnitudes
+slice-aggregate-magnitudes c = search needs
+
+slice-aggregate-magnitudes-2 : tie.Need-slice-aggregate-magnitudes-2
+slice-aggregate-magnitudes-2 c = search needs
+
+magnitudes-requires : tie.Need-magnitudes-requires
+magnitudes-requires c κs = search needs
+
+slice-aggregate-take-off-all : tie.Need-slice-aggregate-take-off-all
+slice-aggregate-take-off-all c = search needs
+
+take-off-all-requires : tie.Need-take-off-all-requires
+take-off-all-requires c κs = (c .before .before .before .before .before .before .before .before .before .before .before .before .before .before .before .before .before .before .pre .0, (omega (arith, c .before .before .before .before .before .before .before .before .before .before .before .before .before .before .before .before .before .before .pre .1 .1 .size), omega arith, omega (arith, c .before .before .before .magnitudes .ensures .size, c .before .before .before .before .before .before .before .before .roots .ensures .size), omega arith))
+
+clean-requires : tie.Need-clean-requires
+clean-requires c κs = omega (arith, c .before .before .before .take-off-all .ensures .size, c .before .before .before .before .before .before .before .before .before .before .before .before .before .before .before .before .before .before .before .before .before .before .pre .1 .1 .size, c .before .before .before .before .before .before .before .before .before .before .before .before .before .before .before .before .before .before .before .before .before .before .pre .1 .0 .1)
+
+slice-aggregate-add : tie.Need-slice-aggregate-add
+slice-aggregate-add c = search needs
+
+add-requires : tie.Need-add-requires
+add-requires c κs = omega (arith, c .before .before .before .before .before .before .before .before .before .before .before .magnitudes .ensures .size, c .before .before .before .before .before .before .before .before .before .before .before .before .before .before .before .before .roots .ensures .size, c .before .before .before .before .before .before .before .before .before .before .before .before .before .before .before .before .before .before .before .before .before .before .before .before .before .before .pre .1 .0 .2)
+
+same-length-2 : tie.Need-same-length-2
+same-length-2 c = search needs
+
+same-length-3 : tie.Need-same-length-3
+same-length-3 c = search needs
+
+returns-2 : tie.Need-returns-2
+unfolding outcome
+returns-2 c =
+    repaired-settled _ (the-field _ (c .before .before .before .before .before .before .before .before .before .before .before .before .before .before .before .before .before .before .before .before .before .before .before .before .before .before .before .before .before .pre .0)) _ _ _ (c .before .before .before .before .before .before .before .before .before .before .before .before .before .before .before .before .before .before .before .before .before .before .before .before .before .before .before .before .before .pre .1 .0 .2) (λ i. omega (arith, c .before .before .before .before .before .before .before .before .before .before .before .before .before .before .before .before .before .before .before .before .before .before .before .before .before .before .before .before .slice-known .given i)) _ (c .before .before .before .before .before .before .before .before .before .before .before .before .before .before .before .before .before .before .before .before .before .before .before .before .before .before .before .before .before .pre .1 .1)
+    _ _ (c .before .before .before .before .before .before .before .before .before .before .before .before .before .before .before .before .before .before .before .before .before .before .before .before .locator .ensures) _ _ _ _ (c .before .before .before .before .before .before .before .before .before .before .before .before .before .before .before .before .before .before .before .roots .ensures) (c .before .before .before .before .before .before .before .before .before .before .before .before .before .before .magnitudes .ensures) (c .before .before .before .before .before .before .before .before .before .before .take-off-all .ensures)
+    (omega (arith, c .before .before .before .before .before .before .before .before .before .before .before .before .before .before .before .before .before .before .before .before .before .before .if1 .left)) (sym (c .before .before .before .before .before .if2 .taken) ∙ c .before .before .before .before .before .before .clean .ensures) _ (c .before .before .add .ensures)
+
+same-length-4 : tie.Need-same-length-4
+same-length-4 c = search needs
+
+returns-3 : tie.Need-returns-3
+unfolding outcome
+returns-3 c =
+    left-settled _ (the-field _ (c .before .before .before .before .before .before .before .before .before .before .before .before .before .before .before .before .before .before .before .before .before .before .before .before .pre .0)) _ _ _ (c .before .before .before .before .before .before .before .before .before .before .before .before .before .before .before .before .before .before .before .before .before .before .before .before .pre .1 .0 .2) (λ i. omega (arith, c .before .before .before .before .before .before .before .before .before .before .before .before .before .before .before .before .before .before .before .before .before .before .before .slice-known .given i)) _ (c .before .before .before .before .before .before .before .before .before .before .before .before .before .before .before .before .before .before .before .before .before .before .before .before .pre .1 .1)
+    _ _ (c .before .before .before .before .before .before .before .before .before .before .before .before .before .before .before .before .before .before .before .locator .ensures) _ _ _ _ (c .before .before .before .before .before .before .before .before .before .before .before .before .before .before .roots .ensures) (c .before .before .before .before .before .before .before .before .before .magnitudes .ensures) (c .before .before .before .before .before .take-off-all .ensures)
+    (sym (c .if2 .left) ∙ c .before .clean .ensures)
+
+pub repair-spec : {M : Type 1} → statement M
+repair-spec =
+    tie.close
+    (tie.spec
+    slice-aggregate-locator
+    locator-requires
+    add-if1
+    same-length
+    returns
+    slice-aggregate-roots
+    roots-requires
+    slice-aggregate-magnitudes
+    slice-aggregate-magnitudes-2
+    magnitudes-requires
+    slice-aggregate-take-off-all
+    take-off-all-requires
+    clean-requires
+    slice-aggregate-add
+    add-requires
+    same-length-2
+    same-length-3
+    returns-2
+    same-length-4
+    returns-3)
