@@ -4,7 +4,7 @@ ghost use mathlib.Core.Path.{_≡_};
 ghost use Prim.Native.Nat.{_+_, _<_, _≤_};
 ghost use lib.ListN.{getD};
 ghost use Rattle.field.specs.Field.{power, mul};
-ghost use Rattle.field.specs.Table.{Field, polyOf, tableOf};
+ghost use Rattle.field.specs.Table.{Field, polyOf};
 
 pub mod table;
 
@@ -63,7 +63,7 @@ pub fn div(field: &[u16; 1280], a: u8, b: u8) -> u8
 
 // The table of Han Xin's field.
 pub fn han_xin() -> [u16; 1280]
-    ensures { λ r. ⌜ r ≡ tableOf 0x163 ⌝ }
+    ensures { λ r. ⌜ Field r × (polyOf r ≡ 0x163) ⌝ }
 {
     table::HAN_XIN
 }

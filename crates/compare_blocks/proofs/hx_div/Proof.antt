@@ -1,0 +1,26 @@
+-- `hx_div` meets its contract. Assumes nothing.
+use mathlib.Core.Path.{ap, sym, _∙_}
+use Prim.Native.Nat.{ℕ}
+use Rattle.field.specs.Field.{mul}
+use native.Mathlib.Omega.{arith}
+use borrow.Author.Needs.{needs}
+use Rattle.compare_blocks.proofs.hx_div.Statement.{statement}
+use Rattle.compare_blocks.proofs.hx_div.Tie as tie
+
+returns : tie.Need-returns
+returns c = search needs
+
+han-xin-requires : tie.Need-han-xin-requires
+han-xin-requires c κs = search needs
+
+div-requires : tie.Need-div-requires
+div-requires c κs = (c .before .han-xin .ensures .0, omega (arith, c .before .before .if1 .left))
+
+returns-2 : tie.Need-returns-2
+returns-2 c = record {
+  some = λ h. ap (λ (p : ℕ). mul p (c .div .result) (c .before .before .before .before .args .b)) (sym (c .before .before .han-xin .ensures .1)) ∙ c .div .ensures;
+  none = λ z. absurd (c .before .before .before .if1 .left z);
+}
+
+pub hx-div-spec : {M : Type 1} → statement M
+hx-div-spec = tie.close (tie.spec returns han-xin-requires div-requires returns-2)

@@ -1,0 +1,25 @@
+-- `hx_power` meets its contract: the powers come round after 255. Assumes nothing.
+use mathlib.Core.Path.{_≡_, ap, sym, _∙_}
+use Prim.Native.Nat.{ℕ, _+_, _*_, _/_, _%_}
+use Rattle.field.specs.Field.{power}
+use Rattle.field.proofs.Field.{passes, power-period}
+use Rattle.field.proofs.Instances.{passes-163}
+use native.Mathlib.Omega.{arith}
+use borrow.Author.Needs.{needs}
+use Rattle.compare_blocks.proofs.hx_power.Statement.{statement}
+use Rattle.compare_blocks.proofs.hx_power.Tie as tie
+
+han-xin-requires : tie.Need-han-xin-requires
+han-xin-requires c κs = search needs
+
+power-requires : tie.Need-power-requires
+power-requires c κs = (c .before .han-xin .ensures .0, omega arith)
+
+returns : tie.Need-returns
+returns c =
+    c .power .ensures ∙ ap (λ (p : ℕ). power p (c .before .before .before .args .n % 255)) (c .before .before .han-xin .ensures .1)
+    ∙ sym (power-period 0x163 (passes 0x163 passes-163) (c .before .before .before .args .n / 255) (c .before .before .before .args .n % 255))
+    ∙ (let e : 255 * (c .before .before .before .args .n / 255) + c .before .before .before .args .n % 255 ≡ c .before .before .before .args .n = omega arith in ap (power 0x163) e)
+
+pub hx-power-spec : {M : Type 1} → statement M
+hx-power-spec = tie.close (tie.spec han-xin-requires power-requires returns)

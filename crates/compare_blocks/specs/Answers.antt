@@ -1,0 +1,14 @@
+-- What the exported functions answer.
+use mathlib.Core.Path.{_≡_}
+use mathlib.Core.List.{List}
+use Prim.Native.Nat.{ℕ, _<_}
+use Rattle.field.specs.Field.{mul}
+use Rattle.reed_solomon.specs.Correct.{Outcome}
+
+abbrev pub outcomeOf : ℕ → ℕ → List ℕ → Outcome
+outcomeOf n c b = record { number = n; count = c; block = b }
+
+-- a byte that gives a when it is multiplied by b; 0 where b is 0
+pub record IsQuotient (a b r : ℕ) : Type 0 where
+  pub some : 0 < b → mul 0x163 r b ≡ a
+  pub none : b ≡ 0 → r ≡ 0

@@ -1,0 +1,62 @@
+// The field and Correct a block for the comparison with the Rust (compare/).
+ghost use mathlib.Core.Path.{_≡_};
+ghost use Prim.Native.Nat.{ℕ, _%_};
+ghost use Rattle.field.specs.Field.{power, mul};
+ghost use Rattle.reed_solomon.specs.Correct.{Outcome, correctOf};
+ghost use Rattle.compare_blocks.specs.Answers.{outcomeOf, IsQuotient};
+use reed_solomon::Correction;
+
+// The refusal number or 0, and the count beside it.
+#[repr(C)]
+pub struct Answer {
+    pub number: usize,
+    pub count: usize,
+}
+
+#[no_mangle]
+pub extern "C" fn hx_correct(block: &mut [u8], parity: usize) -> Answer
+    ensures { λ r. ⌜ outcomeOf (r .number) (r .count) (now (block .exit)) ≡ correctOf 0x163 1 parity (now (block .entry)) ⌝ }
+{
+    match reed_solomon::correct(block, parity) {
+        Correction::Corrected(n) => Answer {
+            number: 0,
+            count: n,
+        },
+        Correction::Unfit => Answer {
+            number: 5,
+            count: 0,
+        },
+        Correction::OutOfReach => Answer {
+            number: 6,
+            count: 0,
+        },
+    }
+}
+
+#[no_mangle]
+pub extern "C" fn hx_mul(a: u8, b: u8) -> u8
+    ensures { λ r. ⌜ r ≡ mul 0x163 a b ⌝ }
+{
+    let field = field::han_xin();
+    field::mul(&field, a, b)
+}
+
+// 0 for a divisor 0.
+#[no_mangle]
+pub extern "C" fn hx_div(a: u8, b: u8) -> u8
+    ensures { λ r. ⌜ IsQuotient a b r ⌝ }
+{
+    if b == 0 {
+        return 0;
+    }
+    let field = field::han_xin();
+    field::div(&field, a, b)
+}
+
+#[no_mangle]
+pub extern "C" fn hx_power(n: usize) -> u8
+    ensures { λ r. ⌜ r ≡ power 0x163 n ⌝ }
+{
+    let field = field::han_xin();
+    field::power(&field, n % 255)
+}
