@@ -29,9 +29,9 @@ module _ (poly q m : ℕ) (g : List ℕ) where
       each-next (added poly q m g) i (seq f i ⊕ p) f₀ f E h
       (ap (λ (y : ℕ). seq f i ⊕ y) e ∙ sym (ap (λ (y : ℕ). seq f i ⊕ mul poly q y) (moved-high m (seq g) i k)))
 
--- all of an array copied
-pub copied-all : (n : ℕ) (src dst dst′ : List ℕ) → Each (copied src) n dst dst′ → length dst ≡ n → length src ≡ n → dst′ ≡ src
-copied-all n src dst dst′ E a b = ext-getD 0 dst′ src (E .size ∙ a ∙ sym b) (λ i h. E .done i (omega (arith, E .size)))
+-- copied twice
+pub copied-twice : (n : ℕ) (a b b′ c c′ : List ℕ) → Each (copied a) n b b′ → Each (copied b′) n c c′ → Each (copied a) n c c′
+copied-twice n a b b′ c c′ E G = record { size = G .size; done = λ i h. G .done i h ∙ E .done i h; rest = G .rest }
 
 -- ---- what the algorithm keeps
 
@@ -96,18 +96,27 @@ module _ (poly : ℕ) (P : Passes poly) (s : List ℕ) (r : ℕ) (f g : List ℕ
       least = λ t k m o. G .least t k (makes-less poly (seq s) t r k m) o;
     }
 
-    grown-once : l + l ≤ r → Register poly s (r + 1) f′ f (r + 1 - l) (r + 1) d
-    grown-once u = record {
+    -- g′ is f, as far as the two are not zero
+    copied-whole : (g′ : List ℕ) → Each (copied f) (r + 1) g g′ → seq g′ ≡ seq f
+    unfolding Tail
+    copied-whole g′ C = fun-ext (λ i. elim (decLt i (r + 1)) [
+      | yes h ↦ C .done i h
+      | no h ↦ C .rest i (omega arith) ∙ G .state .g-tail i (omega (arith, G .state .before)) ∙ sym (G .state .f-tail i (omega (arith, G .within)))
+    ])
+
+    pub register-grown : (g′ : List ℕ) → Each (copied f) (r + 1) g g′ → l + l ≤ r → Register poly s (r + 1) f′ g′ (r + 1 - l) (r + 1) d
+    register-grown g′ C u = record {
       state =
           let x : suc r - l ≡ r + 1 - l = omega arith in
           let y : l ≡ r + 1 - (r + 1 - l) = omega (arith, G .within) in
-          subst₃ (λ (n m k : ℕ). State poly (seq s) n m (seq f′) n k (seq f) d) (sym (add-one r)) x y
+          subst (λ (h : ℕ → ℕ). State poly (seq s) (r + 1) (r + 1 - l) (seq f′) (r + 1) (r + 1 - (r + 1 - l)) h d) (sym (copied-whole g′ C))
+          (subst₃ (λ (n m k : ℕ). State poly (seq s) n m (seq f′) n k (seq f) d) (sym (add-one r)) x y
           (subst₂ (λ (h : ℕ → ℕ) (v : ℕ). State poly (seq s) (suc r) (suc r - l) h (suc r) l (seq f) v) moved-one (sym e)
-          (grown poly P (seq s) r l (seq f) rg (rg - l) (seq g) b (G .state) q (qb ∙ e) u));
+          (grown poly P (seq s) r l (seq f) rg (rg - l) (seq g) b (G .state) q (qb ∙ e) u)));
       unit = unit′;
       bytes = bytes′;
       size-f = E .size ∙ G .size-f;
-      size-g = G .size-f;
+      size-g = C .size ∙ G .size-g;
       pos = p;
       within = omega arith;
       behind = omega arith;
@@ -116,9 +125,6 @@ module _ (poly : ℕ) (P : Passes poly) (s : List ℕ) (r : ℕ) (f g : List ℕ
           massey poly P (seq s) (seq f) t l n r (G .state .f-makes) (λ z. omega arith) (rw (← add-one) m) o in
           omega arith;
     }
-
-    pub register-grown : (g′ : List ℕ) → g′ ≡ f → l + l ≤ r → Register poly s (r + 1) f′ g′ (r + 1 - l) (r + 1) d
-    register-grown g′ q′ u = subst (λ (x : List ℕ). Register poly s (r + 1) f′ x (r + 1 - l) (r + 1) d) (sym q′) (grown-once u)
 
 -- ---- its start and its end
 

@@ -1,5 +1,6 @@
 -- What inner functions say of each other. Nobody has to believe it: the contracts of the operations do not cite it.
 use mathlib.Core.Path.{_≡_}
+use mathlib.Core.Logic.{_⊎_}
 use mathlib.Core.Bool.{Bool, true, false}
 use mathlib.Core.List.{List}
 use Prim.Native.Nat.{ℕ, suc, _+_, _-_, _*_, _%_, _≤_, _<_}
@@ -21,6 +22,14 @@ pub record Each (F : ℕ → ℕ → ℕ) (n : ℕ) (s s′ : List ℕ) : Type 0
 -- a syndrome times its root, and the next byte added
 abbrev pub advanced : ℕ → ℕ → ℕ → ℕ → ℕ → ℕ
 advanced poly first byte j x = mul poly x (power poly (first + j)) ⊕ byte
+
+-- the same for two bytes
+abbrev pub advancedTwo : ℕ → ℕ → ℕ → ℕ → ℕ → ℕ → ℕ
+advancedTwo poly first a b j x = advanced poly first b j (advanced poly first a j x)
+
+-- r is n, or less by 255
+pub record Reduced (n r : ℕ) : Type 0 where
+  pub is : (n ≡ r) ⊎ (n ≡ 255 + r)
 
 -- s holds the syndromes of a block
 pub record Syndromes (poly first parity : ℕ) (block s : List ℕ) : Type 0 where

@@ -47,16 +47,16 @@ fn copy(dst: &mut [u8], src: &[u8], n: usize)
     }
 }
 
-// The same, and g becomes what f was.
-fn grow(field: &[u16; 1280], f: &mut [u8], g: &mut [u8], q: u8, m: usize, top: usize)
+// The same, and the first n of g become what those of f were.
+fn grow(field: &[u16; 1280], f: &mut [u8], g: &mut [u8], q: u8, m: usize, top: usize, n: usize)
     requires { ⌜ Field (now field) ⌝ }
-    requires { ⌜ (length (now f) ≡ 256) × (length (now g) ≡ 256) × (top ≤ 256) × (m ≤ top) ⌝ }
-    ensures { λ _. ⌜ Each (added (polyOf (now (field .entry))) q m (now (g .entry))) top (now (f .entry)) (now (f .exit)) × (now (g .exit) ≡ now (f .entry)) ⌝ }
+    requires { ⌜ (length (now f) ≡ 256) × (length (now g) ≡ 256) × (top ≤ 256) × (m ≤ top) × (n ≤ 256) ⌝ }
+    ensures { λ _. ⌜ Each (added (polyOf (now (field .entry))) q m (now (g .entry))) top (now (f .entry)) (now (f .exit)) × Each (copied (now (f .entry))) n (now (g .entry)) (now (g .exit)) ⌝ }
 {
     let mut old = [0u8; 256];
-    copy(&mut old, f, 256);
+    copy(&mut old, f, n);
     add_moved(field, f, g, q, m, top);
-    copy(g, &old, 256);
+    copy(g, &old, n);
 }
 
 // The length of the register, when the one before it was left, and by how much that one missed.
@@ -85,7 +85,7 @@ fn extend(field: &[u16; 1280], s: &[u8], r: usize, f: &mut [u8], g: &mut [u8], a
         add_moved(field, f, g, q, m, l + 1);
         return at;
     }
-    grow(field, f, g, q, m, r + 2 - l);
+    grow(field, f, g, q, m, r + 2 - l, r + 1);
     Search {
         l: r + 1 - l,
         rg: r + 1,

@@ -3,9 +3,9 @@ ghost use mathlib.Core.Path.{_≡_};
 ghost use Prim.Native.Nat.{ℕ, _+_, _≤_, _<_};
 ghost use lib.ListN.{length};
 ghost use Rattle.field.specs.Table.{Field, polyOf};
-ghost use Rattle.reed_solomon.specs.Inner.{Each, advanced, Syndromes, isClean};
+ghost use Rattle.reed_solomon.specs.Inner.{Each, advanced, advancedTwo, Reduced, Syndromes, isClean};
 
-// The next byte: all syndromes advance together, so that their table lookups overlap.
+// The next byte.
 fn advance(field: &[u16; 1280], first: usize, s: &mut [u8], parity: usize, byte: u8)
     requires { ⌜ Field (now field) ⌝ }
     requires { ⌜ (first + parity ≤ 256) × (parity ≤ length (now s)) ⌝ }
@@ -18,6 +18,29 @@ fn advance(field: &[u16; 1280], first: usize, s: &mut [u8], parity: usize, byte:
     }
 }
 
+// An exponent below 511, reduced to what the table has.
+fn reduced(n: usize) -> usize
+    requires { ⌜ n ≤ 510 ⌝ }
+    ensures { λ r. ⌜ (r ≤ 255) × Reduced n r ⌝ }
+{
+    if n < 255 { n } else { n - 255 }
+}
+
+// The next two bytes. All syndromes advance together, so that their table lookups overlap, and by two bytes a time, so that each waits for
+// one product and not for two.
+fn advance_two(field: &[u16; 1280], first: usize, s: &mut [u8], parity: usize, a: u8, b: u8)
+    requires { ⌜ Field (now field) ⌝ }
+    requires { ⌜ (first + parity ≤ 256) × (parity ≤ length (now s)) ⌝ }
+    ensures { λ _. ⌜ Each (advancedTwo (polyOf (now (field .entry))) first a b) parity (now (s .entry)) (now (s .exit)) ⌝ }
+{
+    let mut j = 0;
+    while j < parity {
+        let n = first + j;
+        s[j] = field::raised(field, s[j], reduced(n + n)) ^ (field::raised(field, a, n) ^ b);
+        j += 1;
+    }
+}
+
 // The syndromes of a block, and zeros behind them.
 pub fn syndromes(field: &[u16; 1280], first: usize, block: &[u8], parity: usize) -> [u8; 256]
     requires { ⌜ Field (now field) ⌝ }
@@ -26,10 +49,14 @@ pub fn syndromes(field: &[u16; 1280], first: usize, block: &[u8], parity: usize)
 {
     let mut s = [0u8; 256];
     let mut i = 0;
-    while i < block.len() {
-        advance(field, first, &mut s, parity, block[i]);
+    while i < block.len() / 2 {
+        advance_two(field, first, &mut s, parity, block[i + i], block[i + i + 1]);
         i += 1;
     }
+    if block.len() % 2 == 0 {
+        return s;
+    }
+    advance(field, first, &mut s, parity, block[i + i]);
     s
 }
 

@@ -3,10 +3,6 @@ use mathlib.Core.Path.{sym, _∙_}
 use Rattle.field.proofs.Entries.{the-field}
 use Rattle.reed_solomon.proofs.Massey.{register-kept, register-stayed, register-grown}
 use native.Mathlib.Omega.{arith}
--- `locator::extend` meets its contract: nothing missed, missed at the same length, and missed with a longer register. Assumes nothing.
-use mathlib.Core.Path.{_∙_}
-use Rattle.field.proofs.Entries.{the-field}
-use Rattle.reed_solomon.proofs.Massey.{register-kept, register-stayed, register-grown}
 use borrow.Author.Needs.{needs}
 use Rattle.reed_solomon.proofs.locator.extend.Statement.{statement}
 use Rattle.reed_solomon.proofs.locator.extend.Tie as tie
@@ -56,17 +52,23 @@ add-grow c = search needs
 sub-grow : tie.Need-sub-grow
 sub-grow c = search needs
 
+add-grow-2 : tie.Need-add-grow-2
+add-grow-2 c = search needs
+
 grow-requires : tie.Need-grow-requires
-grow-requires c κs = search needs
+grow-requires c κs = (
+  c .before .before .before .before .before .before .before .before .before .before .before .pre .0,
+  (c .before .before .before .before .before .before .before .before .before .before .before .pre .1 .1 .1 .size-f, c .before .before .before .before .before .before .before .before .before .before .before .pre .1 .1 .1 .size-g, omega arith, omega (arith, c .before .before .before .before .before .before .before .before .before .before .before .pre .1 .1 .1 .behind, c .before .before .before .before .before .before .before .before .before .before .before .pre .1 .1 .1 .within), omega arith),
+)
 
 add-t14 : tie.Need-add-t14
 add-t14 c = search needs
 
-sub-t26 : tie.Need-sub-t26
-sub-t26 c = search needs
+sub-t27 : tie.Need-sub-t27
+sub-t27 c = search needs
 
-add-t27 : tie.Need-add-t27
-add-t27 c = search needs
+add-t26 : tie.Need-add-t26
+add-t26 c = search needs
 
 same-length-4 : tie.Need-same-length-4
 same-length-4 c = search needs
@@ -100,10 +102,11 @@ extend-spec =
     returns-2
     add-grow
     sub-grow
+    add-grow-2
     grow-requires
     add-t14
-    sub-t26
-    add-t27
+    sub-t27
+    add-t26
     same-length-4
     same-length-5
     returns-3)

@@ -1,9 +1,6 @@
 -- `locator::grow` meets its contract. Assumes nothing.
-use mathlib.Core.Path.{refl, _∙_}
-use Rattle.reed_solomon.proofs.Massey.{copied-all}
--- `locator::grow` meets its contract. Assumes nothing.
-use mathlib.Core.Path.{_∙_}
-use Rattle.reed_solomon.proofs.Massey.{copied-all}
+use lib.ListN.{replicate}
+use Rattle.reed_solomon.proofs.Massey.{copied-twice}
 use borrow.Author.Needs.{needs}
 use Rattle.reed_solomon.proofs.locator.grow.Statement.{statement}
 use Rattle.reed_solomon.proofs.locator.grow.Tie as tie
@@ -32,8 +29,8 @@ same-length-2 c = search needs
 returns : tie.Need-returns
 returns c = (
   c .before .before .before .before .before .before .before .add-moved .ensures,
-  copied-all 256 _ _ _ (c .before .before .copy2 .ensures) (c .before .before .before .before .before .before .before .before .before .before .before .before .before .before .before .before .pre .1 .1) (c .before .before .before .before .before .before .before .before .before .before .before .copy .ensures .size)
-      ∙ copied-all 256 _ _ _ (c .before .before .before .before .before .before .before .before .before .before .before .copy .ensures) refl (c .before .before .before .before .before .before .before .before .before .before .before .before .before .before .before .before .pre .1 .0),
+  copied-twice (c .before .before .before .before .before .before .before .before .before .before .before .before .before .before .before .before .args .n) (c .before .before .before .before .before .before .before .before .before .before .before .before .before .before .before .before .args .f .now) (replicate 256 0) (c .before .before .before .before .before .before .before .before .before .before .before .copy .last .0) (c .before .before .before .before .before .before .before .before .before .before .before .before .before .before .before .before .args .g .now) (c .before .before .copy2 .last .0)
+      (c .before .before .before .before .before .before .before .before .before .before .before .copy .ensures) (c .before .before .copy2 .ensures),
 )
 
 pub grow-spec : {M : Type 1} → statement M
