@@ -249,3 +249,40 @@ pub fn bench() {
         }
     }
 }
+
+/// The list of `replay_blocks`: length and parity, two bytes each, and the block; and the Rust's answers, a line each.
+pub fn record() -> (Vec<u8>, String) {
+    let field = gf256(0x163);
+    let mut random = Random::new(3);
+    let mut blocks: Vec<(Vec<u8>, usize)> = Vec::new();
+    for length in [0usize, 1, 2, 3, 5, 254, 255, 256, 300] {
+        for parity in [0, 1, 2, 4, length, length + 1, length.saturating_sub(1), length.saturating_sub(2), 65535] {
+            let mut block = vec![0; length];
+            blocks.push((block.clone(), parity));
+            random.fill(&mut block);
+            blocks.push((block, parity));
+            blocks.push((vec![255; length], parity));
+        }
+    }
+    for (length, parity) in [(2, 1), (3, 1), (3, 2), (6, 5), (10, 1), (10, 3), (10, 9), (25, 4), (40, 7), (50, 30), (150, 28), (187, 30), (255, 32), (255, 128), (255, 254)] {
+        for errors in [0, 1, 2, parity / 4, parity / 2, parity / 2 + 1, parity / 2 + 2, parity / 2 + 3] {
+            let copies = if length < 60 { 6 } else { 1 };
+            for _ in 0..copies {
+                blocks.push((damaged(field, &mut random, length, parity, errors), parity));
+            }
+        }
+        blocks.push((damaged(gf256(0x11d), &mut random, length, parity, 0), parity));
+    }
+    let (mut list, mut answers) = (Vec::new(), String::new());
+    for (block, parity) in blocks {
+        for n in [block.len(), parity] {
+            list.extend(u16::try_from(n).unwrap().to_be_bytes());
+        }
+        list.extend(&block);
+        let mut after = block;
+        let answer = theirs(field, &mut after, parity);
+        answers += &format!("{} {} {}\n", answer.number, answer.count, hex(&after));
+    }
+    assert!(list.len() <= 65536, "the replay reads at most 65,536 bytes");
+    (list, answers)
+}

@@ -1,0 +1,103 @@
+// Replays recorded answers of the Rust: each record of standard input is a block's length and a parity, two bytes each, and the block. A
+// line for each: the refusal number, the count, and the block as it is left. `compare/run record blocks` made stdin, and stdout from the
+// Rust's answers.
+ghost use Prim.Native.Nat.{_≤_, _<_};
+ghost use lib.ListN.{length};
+use libc::{STDIN_FILENO, STDOUT_FILENO};
+use reed_solomon::Correction;
+
+fn wide(x: u8) -> usize
+    ensures { λ r. ⌜ r < 256 ⌝ }
+{
+    x as usize
+}
+
+fn two(high: u8, low: u8) -> usize
+    ensures { λ r. ⌜ r < 65536 ⌝ }
+{
+    wide(high) * 256 + wide(low)
+}
+
+fn digit(x: u8) -> u8 {
+    if x < 10 {
+        48 + x
+    } else if x < 16 {
+        55 + x
+    } else {
+        63
+    }
+}
+
+fn byte(b: u8) {
+    let pair = [digit(b / 16), digit(b % 16)];
+    io::write_all(STDOUT_FILENO, &pair);
+}
+
+fn number(n: usize) {
+    io::print_decimal(STDOUT_FILENO, n as u64);
+    io::write_all(STDOUT_FILENO, b" ");
+}
+
+fn bytes(block: &[u8]) {
+    let mut i = 0;
+    while i < block.len() {
+        byte(block[i]);
+        i += 1;
+    }
+    io::write_all(STDOUT_FILENO, b"\n");
+}
+
+fn one(block: &mut [u8], parity: usize) {
+    match reed_solomon::correct(block, parity) {
+        Correction::Corrected(n) => {
+            number(0);
+            number(n);
+        }
+        Correction::Unfit => {
+            number(5);
+            number(0);
+        }
+        Correction::OutOfReach => {
+            number(6);
+            number(0);
+        }
+    }
+    bytes(block);
+}
+
+// The record at a place, and the place behind it; the end of the list where no whole record is left.
+fn next(list: &mut [u8], at: usize) -> usize
+    requires { ⌜ (at < length (now list)) × (length (now list) ≤ 65536) ⌝ }
+    ensures { λ r. ⌜ (at < r) × (r ≤ length (now (list .entry))) ⌝ }
+{
+    let n = list.len();
+    if n - at < 4 {
+        return n;
+    }
+    let size = two(list[at], list[at + 1]);
+    let parity = two(list[at + 2], list[at + 3]);
+    let from = at + 4;
+    if n - from < size {
+        return n;
+    }
+    let to = from + size;
+    one(&mut list[from..to], parity);
+    to
+}
+
+fn all(list: &mut [u8])
+    requires { ⌜ length (now list) ≤ 65536 ⌝ }
+{
+    let mut at = 0;
+    while at < list.len() {
+        at = next(list, at);
+    }
+}
+
+fn main() {
+    let mut buf = io::large_buffer();
+    let n = io::read_full(STDIN_FILENO, &mut buf);
+    if n <= 65536 {
+        all(&mut buf[..n]);
+    }
+}
