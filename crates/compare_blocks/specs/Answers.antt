@@ -3,7 +3,7 @@ use mathlib.Core.Path.{_≡_}
 use mathlib.Core.List.{List}
 use Prim.Native.Nat.{ℕ, _<_}
 use Rattle.field.specs.Field.{mul}
-use Rattle.reed_solomon.specs.Correct.{Outcome}
+use Rattle.corrector.specs.Correct.{Outcome}
 
 abbrev pub outcomeOf : ℕ → ℕ → List ℕ → Outcome
 outcomeOf n c b = record { number = n; count = c; block = b }

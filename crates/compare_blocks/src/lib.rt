@@ -2,9 +2,9 @@
 ghost use mathlib.Core.Path.{_≡_};
 ghost use Prim.Native.Nat.{ℕ, _%_};
 ghost use Rattle.field.specs.Field.{power, mul};
-ghost use Rattle.reed_solomon.specs.Correct.{Outcome, correctOf};
+ghost use Rattle.corrector.specs.Correct.{Outcome, correctOf};
 ghost use Rattle.compare_blocks.specs.Answers.{outcomeOf, IsQuotient};
-use reed_solomon::Correction;
+use corrector::Correction;
 
 // The refusal number or 0, and the count beside it.
 #[repr(C)]
@@ -17,7 +17,7 @@ pub struct Answer {
 pub extern "C" fn hx_correct(block: &mut [u8], parity: usize) -> Answer
     ensures { λ r. ⌜ outcomeOf (r .number) (r .count) (now (block .exit)) ≡ correctOf 0x163 1 parity (now (block .entry)) ⌝ }
 {
-    match reed_solomon::correct(block, parity) {
+    match corrector::correct(block, parity) {
         Correction::Corrected(n) => Answer {
             number: 0,
             count: n,

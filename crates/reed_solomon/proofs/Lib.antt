@@ -1,5 +1,6 @@
 -- Laws of blocks, for any field whose polynomial passes the order test and any first root.
 pub mod Each
+pub mod Fit
 pub mod Search
 pub mod Distance
 pub mod Codeword
@@ -11,5 +12,4 @@ pub mod Values
 pub mod Terms
 pub mod Magnitudes
 pub mod Residue
-pub mod Settle
 pub mod Theorems

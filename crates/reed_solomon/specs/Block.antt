@@ -1,10 +1,10 @@
 -- Document 01, "Field and block": a block, what a codeword is, and the codeword in reach. The polynomial of the field and the exponent
 -- of the first root are parameters throughout.
-use mathlib.Core.Bool.{Bool, true, false, _&&_}
+use mathlib.Core.Bool.{Bool, true, false, _&&_, _||_}
 use mathlib.Core.Option.{Option, none, some}
 use mathlib.Core.List.{List, [], _∷_, _++_, map}
 use Prim.Native.Nat.{ℕ, zero, suc, _+_, _/_}
-use lib.Dec.{leb, eqb}
+use lib.Dec.{leb, ltb, eqb}
 use lib.ListN.{length}
 use lib.Bits.{bitXor}
 use Rattle.field.specs.Field.{power, mul, below}
@@ -61,3 +61,7 @@ nearest poly first parity block = firstOf (inReach poly first parity block) (all
 -- the parity of data: bytes that make a codeword behind them
 unfoldable pub parityOf : ℕ → ℕ → ℕ → List ℕ → Option (List ℕ)
 parityOf poly first parity ds = firstOf (λ p. isCodeword poly first parity (ds ++ p)) (allWords parity)
+
+-- what is no block of that parity: parity 0, parity ≥ length or length > 255
+unfoldable pub unfit : ℕ → List ℕ → Bool
+unfit parity block = eqb parity 0 || (leb (length block) parity || ltb 255 (length block))

@@ -3,8 +3,9 @@
 // Rust's answers.
 ghost use Prim.Native.Nat.{_≤_, _<_};
 ghost use lib.ListN.{length};
-use libc::{STDIN_FILENO, STDOUT_FILENO};
-use reed_solomon::Correction;
+use corrector::Correction;
+use libc::STDIN_FILENO;
+use libc::STDOUT_FILENO;
 
 fn wide(x: u8) -> usize
     ensures { λ r. ⌜ r < 256 ⌝ }
@@ -48,7 +49,7 @@ fn bytes(block: &[u8]) {
 }
 
 fn one(block: &mut [u8], parity: usize) {
-    match reed_solomon::correct(block, parity) {
+    match corrector::correct(block, parity) {
         Correction::Corrected(n) => {
             number(0);
             number(n);

@@ -1,7 +1,7 @@
 -- `hx_correct` meets its contract: one case of the answer after the other. Assumes nothing.
 use mathlib.Core.Path.{_≡_, ap, sym, _∙_}
-use Rattle.reed_solomon.specs.declared.Correction.{Correction}
-use Rattle.reed_solomon.specs.Correct.{outcome, refused}
+use Rattle.corrector.specs.declared.Correction.{Correction}
+use Rattle.corrector.specs.Correct.{outcome, refused}
 use borrow.Author.Needs.{needs}
 use Rattle.compare_blocks.proofs.hx_correct.Statement.{statement}
 use Rattle.compare_blocks.proofs.hx_correct.Tie as tie

@@ -1,24 +1,25 @@
 -- `correct_over` meets its contract: the refusals 5 in their order, a block with no error, and one with errors. Assumes nothing.
 use mathlib.Core.Path.{refl, sym, _∙_}
 use Rattle.field.proofs.Entries.{the-field}
-use Rattle.reed_solomon.specs.Correct.{outcome, refused, unfit, correctOf}
-use Rattle.reed_solomon.proofs.Settle.{unfit-parity, unfit-length, unfit-long, fit-settled, clean-settled}
+use Rattle.corrector.specs.Correct.{outcome}
+use Rattle.corrector.proofs.Settle.{unfit-refused, fit-settled, clean-settled}
+use Rattle.reed_solomon.proofs.Fit.{unfit-parity, unfit-length, unfit-long, fit}
 use native.Mathlib.Omega.{arith}
 use borrow.Author.Needs.{needs}
-use Rattle.reed_solomon.proofs.correct_over.Statement.{statement}
-use Rattle.reed_solomon.proofs.correct_over.Tie as tie
+use Rattle.corrector.proofs.correct_over.Statement.{statement}
+use Rattle.corrector.proofs.correct_over.Tie as tie
 
 returns : tie.Need-returns
 unfolding outcome
-returns c = unfit-parity _ _ _ _ (c .if1 .taken)
+returns c = unfit-refused _ _ _ _ (unfit-parity _ _ (c .if1 .taken))
 
 returns-2 : tie.Need-returns-2
 unfolding outcome
-returns-2 c = unfit-length _ _ _ _ (c .if2 .taken)
+returns-2 c = unfit-refused _ _ _ _ (unfit-length _ _ (c .if2 .taken))
 
 returns-3 : tie.Need-returns-3
 unfolding outcome
-returns-3 c = unfit-long _ _ _ _ (c .if3 .taken)
+returns-3 c = unfit-refused _ _ _ _ (unfit-long _ _ (c .if3 .taken))
 
 syndromes-requires : tie.Need-syndromes-requires
 syndromes-requires c κs = search needs
@@ -37,7 +38,7 @@ unfolding outcome
 returns-4 c =
     clean-settled _ (the-field _ (c .before .before .before .before .before .before .before .before .before .pre .0)) _ _ _ (omega (arith, c .before .before .before .before .before .if3 .left)) (λ i. omega (arith, c .before .before .before .before .before .before .before .before .slice-known .given i)) _ (c .before .before .before .syndromes .ensures)
     (sym (c .if4 .taken) ∙ c .before .clean .ensures)
-    ∙ fit-settled _ _ _ _ (c .before .before .before .before .before .before .before .if1 .left) (omega (arith, c .before .before .before .before .before .before .if2 .left)) (omega (arith, c .before .before .before .before .before .if3 .left))
+    ∙ fit-settled _ _ _ _ (fit _ _ (c .before .before .before .before .before .before .before .if1 .left) (omega (arith, c .before .before .before .before .before .before .if2 .left)) (omega (arith, c .before .before .before .before .before .if3 .left)))
 
 slice-aggregate-repair : tie.Need-slice-aggregate-repair
 slice-aggregate-repair c = search needs
@@ -50,7 +51,7 @@ same-length-2 c = search needs
 
 returns-5 : tie.Need-returns-5
 returns-5 c =
-    c .before .before .before .repair .ensures ∙ fit-settled _ _ _ _ (c .before .before .before .before .before .before .before .before .before .before .before .before .before .if1 .left) (omega (arith, c .before .before .before .before .before .before .before .before .before .before .before .before .if2 .left)) (omega (arith, c .before .before .before .before .before .before .before .before .before .before .before .if3 .left))
+    c .before .before .before .repair .ensures ∙ fit-settled _ _ _ _ (fit _ _ (c .before .before .before .before .before .before .before .before .before .before .before .before .before .if1 .left) (omega (arith, c .before .before .before .before .before .before .before .before .before .before .before .before .if2 .left)) (omega (arith, c .before .before .before .before .before .before .before .before .before .before .before .if3 .left)))
 
 pub correct-over-spec : {M : Type 1} → statement M
 correct-over-spec =

@@ -1,13 +1,11 @@
 -- Document 01, "Operations": Correct a block. What it answers, and what is then in the block.
-use mathlib.Core.Bool.{Bool, true, false, _||_}
+use mathlib.Core.Bool.{Bool, true, false}
 use mathlib.Core.Option.{Option, none, some}
 use mathlib.Core.List.{List}
 use Prim.Native.Nat.{ℕ}
-use lib.Dec.{leb, ltb, eqb}
-use lib.ListN.{length}
-use Rattle.reed_solomon.specs.Block.{distance, nearest}
-use Rattle.reed_solomon.specs.declared.Correction.{Correction}
-use Rattle.reed_solomon.specs.declared.Correction.the-variants.{Corrected, Unfit, OutOfReach}
+use Rattle.reed_solomon.specs.Block.{distance, nearest, unfit}
+use Rattle.corrector.specs.declared.Correction.{Correction}
+use Rattle.corrector.specs.declared.Correction.the-variants.{Corrected, Unfit, OutOfReach}
 
 -- what a call gives: the refusal number or 0, the count beside it, and the block as it is left
 pub record Outcome : Type 0 where
@@ -19,19 +17,16 @@ pub record Outcome : Type 0 where
 unfoldable pub refused : ℕ → List ℕ → Outcome
 refused n block = record { number = n; count = 0; block = block }
 
--- 5: parity 0, parity ≥ length or length > 255
-unfoldable pub unfit : ℕ → List ℕ → Bool
-unfit parity block = eqb parity 0 || (leb (length block) parity || ltb 255 (length block))
-
 -- 6: no codeword in reach; else the block becomes that codeword, and the count is the number of places in which it differed
 unfoldable pub settled : List ℕ → Option (List ℕ) → Outcome
 settled block none = refused 6 block
 settled block (some w) = record { number = 0; count = distance block w; block = w }
 
-abbrev orOutcome : Bool → Outcome → Outcome → Outcome
+abbrev pub orOutcome : Bool → Outcome → Outcome → Outcome
 orOutcome true a b = a
 orOutcome false a b = b
 
+-- 5: a parity or a length that no block has
 unfoldable pub correctOf : ℕ → ℕ → ℕ → List ℕ → Outcome
 correctOf poly first parity block = orOutcome (unfit parity block) (refused 5 block) (settled block (nearest poly first parity block))
 

@@ -1,11 +1,11 @@
 -- `correct` meets its contract: the table is that of 163 hex. Assumes nothing.
 use mathlib.Core.Path.{ap, _∙_}
 use Prim.Native.Nat.{ℕ}
-use Rattle.reed_solomon.specs.Correct.{correctOf}
+use Rattle.corrector.specs.Correct.{correctOf}
 use native.Mathlib.Omega.{arith}
 use borrow.Author.Needs.{needs}
-use Rattle.reed_solomon.proofs.correct.Statement.{statement}
-use Rattle.reed_solomon.proofs.correct.Tie as tie
+use Rattle.corrector.proofs.correct.Statement.{statement}
+use Rattle.corrector.proofs.correct.Tie as tie
 
 han-xin-requires : tie.Need-han-xin-requires
 han-xin-requires c κs = search needs

@@ -1,13 +1,13 @@
 -- `repair` meets its contract: it refuses where there is no codeword in reach, and else sets the block to it. Assumes nothing.
 use mathlib.Core.Path.{refl, sym, _∙_}
 use Rattle.field.proofs.Entries.{the-field}
-use Rattle.reed_solomon.specs.Correct.{outcome}
+use Rattle.corrector.specs.Correct.{outcome}
 use Rattle.reed_solomon.proofs.Massey.{zeros}
-use Rattle.reed_solomon.proofs.Settle.{long-settled, left-settled, repaired-settled}
+use Rattle.corrector.proofs.Settle.{long-settled, left-settled, repaired-settled}
 use native.Mathlib.Omega.{arith}
 use borrow.Author.Needs.{needs}
-use Rattle.reed_solomon.proofs.repair.Statement.{statement}
-use Rattle.reed_solomon.proofs.repair.Tie as tie
+use Rattle.corrector.proofs.repair.Statement.{statement}
+use Rattle.corrector.proofs.repair.Tie as tie
 
 slice-aggregate-locator : tie.Need-slice-aggregate-locator
 slice-aggregate-locator c = search needs

@@ -7,7 +7,7 @@ use mathlib.Core.List.{List, [], _∷_}
 use Prim.Native.Nat.{ℕ, zero, suc, _+_, _-_, _*_, _≤_, _<_}
 use native.Mathlib.Omega.{arith}
 use native.Mathlib.Decide.{ℕ-discrete, decLt}
-use borrow.Author.Tests.{eq-eqb, ne-eqb, le-leb, lt-leb, le-ltb, lt-ltb}
+use borrow.Author.Tests.{eq-eqb, ne-eqb}
 use lib.Dec.{T, eqb, eqb-refl}
 use lib.ListN.{length, getD}
 use lib.Bits.{xor-self, xor-zero-r}
@@ -15,42 +15,25 @@ use Rattle.field.specs.Field.{power, mul}
 use Rattle.field.proofs.Field.{Passes, sum-lt}
 use Rattle.algebra.specs.Sum.{_⊕_, seq, degree, syndrome}
 use Rattle.algebra.proofs.Peel.{syndrome-add, syndrome-ext}
-use Rattle.reed_solomon.specs.Block.{eval, isCodeword, orOneMore, distance, nearest}
-use Rattle.reed_solomon.specs.Correct.{Outcome, refused, unfit, settled, correctOf}
+use Rattle.reed_solomon.specs.Block.{eval, isCodeword, orOneMore, distance, nearest, unfit}
+use Rattle.corrector.specs.Correct.{Outcome, refused, settled, orOutcome, correctOf}
 use Rattle.reed_solomon.specs.Inner.{Each, Syndromes, isClean, Shortest, locatorAt, zeroFlag, Errors, withoutAll, repaired}
 use Rattle.reed_solomon.proofs.Search.{Bytes}
 use Rattle.reed_solomon.proofs.Codeword.{zero-codeword, eval-syndrome, syndromeOf, difference}
 use Rattle.reed_solomon.proofs.Nearest.{Near, near-none, near-some}
 use Rattle.reed_solomon.proofs.Clean.{clean-yes, clean-zero}
 use Rattle.reed_solomon.proofs.Decode.{few, of-errors, root-at, count-is, error-is}
 
 -- ---- the refusals 5
 
 module _ (poly first parity : ℕ) (w : List ℕ) where
-  abbrev whole : Outcome
-  whole = correctOf poly first parity w
+  pub unfit-refused : unfit parity w ≡ true → refused 5 w ≡ correctOf poly first parity w
+  unfolding correctOf
+  unfit-refused e = ap (λ (b : Bool). orOutcome b (refused 5 w) (settled w (nearest poly first parity w))) (sym e)
 
-  pub unfit-parity : parity ≡ 0 → refused 5 w ≡ whole
-  unfolding correctOf unfit
-  unfit-parity e = simp (eq-eqb parity 0 e)
-
-  pub unfit-length : length w ≤ parity → refused 5 w ≡ whole
-  unfolding correctOf unfit
-  unfit-length h = elim (ℕ-discrete parity 0) [ yes e ↦ unfit-parity e | no d ↦ simp (ne-eqb parity 0 d, le-leb (length w) parity h) ]
-
-  pub unfit-long : 255 < length w → refused 5 w ≡ whole
-  unfolding correctOf unfit
-  unfit-long h = elim (decLt parity (length w)) [
-    | no d ↦ unfit-length (omega arith)
-    | yes l ↦ elim (ℕ-discrete parity 0) [
-      | yes e ↦ unfit-parity e
-      | no d ↦ simp (ne-eqb parity 0 d, lt-leb (length w) parity l, lt-ltb 255 (length w) h)
-    ]
-  ]
-
-  pub fit-settled : parity ≢ 0 → parity < length w → length w ≤ 255 → settled w (nearest poly first parity w) ≡ whole
-  unfolding correctOf unfit
-  fit-settled d l h = simp (ne-eqb parity 0 d, lt-leb (length w) parity l, le-ltb 255 (length w) h)
+  pub fit-settled : unfit parity w ≡ false → settled w (nearest poly first parity w) ≡ correctOf poly first parity w
+  unfolding correctOf
+  fit-settled e = ap (λ (b : Bool). orOutcome b (refused 5 w) (settled w (nearest poly first parity w))) (sym e)
 
 -- ---- a block with no error
 

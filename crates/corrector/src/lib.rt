@@ -1,0 +1,85 @@
+// Document 01's Correct a block (001: `correct`), on a block that may be lent from the middle of a longer buffer.
+ghost use mathlib.Core.Path.{_≡_};
+ghost use Prim.Native.Nat.{_≤_};
+ghost use lib.ListN.{length};
+ghost use Rattle.field.specs.Table.{Field, polyOf};
+ghost use Rattle.reed_solomon.specs.Block.{nearest};
+ghost use Rattle.reed_solomon.specs.Inner.{Syndromes};
+ghost use Rattle.corrector.specs.Correct.{correctOf, outcome, settled};
+use reed_solomon::errors;
+use reed_solomon::locator;
+use reed_solomon::syndromes;
+
+// What became of a block: the count of its corrections, or the refusals 5 and 6 of document 01.
+pub enum Correction {
+    Corrected(usize),
+    Unfit,
+    OutOfReach,
+}
+
+// The block set to its codeword in reach where its syndromes s are not all zero (001: `solve`). Nothing is written before it is known
+// that the errors found leave no syndrome.
+fn repair(
+    field: &[u16; 1280],
+    first: usize,
+    block: &mut [u8],
+    parity: usize,
+    s: &mut [u8],
+) -> Correction
+    requires { ⌜ Field (now field) ⌝ }
+    requires { ⌜ (first ≤ 1) × (parity ≤ 254) × (length (now block) ≤ 255) ⌝ }
+    requires { ⌜ Syndromes (polyOf (now field)) first parity (now block) (now s) ⌝ }
+    ensures { λ r. ⌜ outcome r (now (block .exit)) ≡ settled (now (block .entry)) (nearest (polyOf (now (field .entry))) first parity (now (block .entry))) ⌝ }
+{
+    let n = block.len();
+    let mut f = [0u8; 256];
+    let l = locator::locator(field, s, parity, &mut f);
+    if parity < l + l {
+        return Correction::OutOfReach;
+    }
+    let mut e = [0u8; 256];
+    errors::roots(field, &f, l, &mut e, n);
+    errors::magnitudes(field, first, s, &f, l, &mut e, n);
+    errors::take_off_all(field, first, s, parity, &e, n);
+    if syndromes::clean(s, parity) {
+        errors::add(block, &e);
+        return Correction::Corrected(l);
+    }
+    Correction::OutOfReach
+}
+
+// Correct a block of the field with the lent table, whose first root is α^first.
+pub fn correct_over(
+    field: &[u16; 1280],
+    first: usize,
+    block: &mut [u8],
+    parity: usize,
+) -> Correction
+    requires { ⌜ Field (now field) ⌝ }
+    requires { ⌜ first ≤ 1 ⌝ }
+    ensures { λ r. ⌜ outcome r (now (block .exit)) ≡ correctOf (polyOf (now (field .entry))) first parity (now (block .entry)) ⌝ }
+{
+    let n = block.len();
+    if parity == 0 {
+        return Correction::Unfit;
+    }
+    if n <= parity {
+        return Correction::Unfit;
+    }
+    if 255 < n {
+        return Correction::Unfit;
+    }
+    let mut s = syndromes::syndromes(field, first, block, parity);
+    if syndromes::clean(&s, parity) {
+        return Correction::Corrected(0);
+    }
+    repair(field, first, block, parity, &mut s)
+}
+
+// Document 01's Correct a block: GF(256) under 163 hex, first root α^1.
+pub fn correct(block: &mut [u8], parity: usize) -> Correction
+    ensures { λ r. ⌜ outcome r (now (block .exit)) ≡ correctOf 0x163 1 parity (now (block .entry)) ⌝ }
+{
+    let field = field::han_xin();
+    correct_over(&field, 1, block, parity)
+}
