@@ -1,0 +1,48 @@
+// Division by the generator: what is left of the data is their parity.
+ghost use mathlib.Core.Path.{_≡_};
+ghost use Prim.Native.Nat.{_+_, _≤_, _<_};
+ghost use lib.ListN.{length};
+ghost use Rattle.field.specs.Table.{Field, polyOf};
+ghost use Rattle.algebra.specs.Sum.{seq};
+ghost use Rattle.reed_solomon.specs.Inner.{Each, added};
+ghost use Rattle.parity.specs.Inner.{Monic, Divided, copiedFrom};
+
+// w plus q times g moved up by m places, up to the place before top.
+pub fn add_moved(field: &[u16; 1280], w: &mut [u8], g: &[u8], q: u8, m: usize, top: usize)
+    requires { ⌜ Field (now field) ⌝ }
+    requires { ⌜ (top ≤ length (now w)) × (m ≤ top) × (top ≤ length (now g) + m) ⌝ }
+    ensures { λ _. ⌜ Each (added (polyOf (now (field .entry))) q m (now (g .entry))) top (now (w .entry)) (now (w .exit)) ⌝ }
+{
+    let mut i = m;
+    while i < top {
+        w[i] ^= field::mul(field, q, g[i - m]);
+        i += 1;
+    }
+}
+
+// What is left of w, of k + d coefficients, by division by g of degree d: its first k become zero.
+pub fn divide(field: &[u16; 1280], g: &[u8], d: usize, w: &mut [u8], k: usize)
+    requires { ⌜ Field (now field) ⌝ }
+    requires { ⌜ (k + d ≤ length (now w)) × (d < length (now g)) × (length (now w) ≤ 256) ⌝ }
+    requires { ⌜ Monic d (seq (now g)) ⌝ }
+    ensures { λ _. ⌜ (length (now (w .exit)) ≡ length (now (w .entry))) × Divided (polyOf (now (field .entry))) d (seq (now (g .entry))) (k + d) k (seq (now (w .entry))) (seq (now (w .exit))) ⌝ }
+{
+    let mut i = 0;
+    while i < k {
+        let q = w[i];
+        add_moved(field, w, g, q, i, i + d + 1);
+        i += 1;
+    }
+}
+
+// The bytes of src from the place k to the place before n into those of dst.
+pub fn copy(dst: &mut [u8], src: &[u8], k: usize, n: usize)
+    requires { ⌜ (k ≤ n) × (n ≤ length (now dst)) × (n ≤ length (now src)) ⌝ }
+    ensures { λ _. ⌜ Each (copiedFrom k (now (src .entry))) n (now (dst .entry)) (now (dst .exit)) ⌝ }
+{
+    let mut i = k;
+    while i < n {
+        dst[i] = src[i];
+        i += 1;
+    }
+}
