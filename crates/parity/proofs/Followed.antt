@@ -8,8 +8,8 @@ use Prim.Native.Nat.{ℕ, zero, suc, _+_, _-_, _≤_, _<_}
 use native.Mathlib.Omega.{arith}
 use native.Mathlib.Decide.{decLt}
 use borrow.Author.Tests.{eq-eqb}
-use lib.Dec.{T, eqb}
-use lib.ListN.{length, getD, take, drop, replicate, length-append, length-drop, take-append-drop, List·getD-append, List·getD-eq-default}
+use lib.Dec.{eqb}
+use lib.ListN.{length, take, drop, replicate, length-append, length-drop, take-append-drop, List·getD-append, List·getD-eq-default}
 use lib.Seq.{ext-getD, getD-append-add, drop-append-seam, length-take-le, getD-take, getD-drop}
 use Rattle.field.specs.Field.{power}
 use Rattle.field.specs.Table.{each}
@@ -46,10 +46,16 @@ distance-le [] q = omega arith
 distance-le (x ∷ p) [] = omega arith
 distance-le (x ∷ p) (y ∷ q) = one-more-le (eqb x y) (distance p q) (length p) (distance-le p q)
 
-append-bytes : (ds p : List ℕ) → Bytes ds → Bytes p → Bytes (ds ++ p)
+pub append-bytes : (ds p : List ℕ) → Bytes ds → Bytes p → Bytes (ds ++ p)
 append-bytes [] p a b i = b i
 append-bytes (x ∷ ds) p a b zero = a 0
 append-bytes (x ∷ ds) p a b (suc i) = append-bytes ds p (λ j. a (suc j)) b i
+
+pub take-bytes : (k : ℕ) (xs : List ℕ) → Bytes xs → Bytes (take k xs)
+take-bytes zero xs b i = omega arith
+take-bytes (suc k) [] b i = b i
+take-bytes (suc k) (x ∷ xs) b zero = b 0
+take-bytes (suc k) (x ∷ xs) b (suc i) = take-bytes k xs (λ j. b (suc j)) i
 
 past-end : (xs : List ℕ) (i : ℕ) → length xs ≤ i → seq xs i ≡ 0
 past-end xs i h = List·getD-eq-default xs 0 {n = i} h
@@ -141,12 +147,6 @@ module _ (poly : ℕ) (P : Passes poly) (k : ℕ) (block block′ w₁ w₂ : Li
     | no l ↦ E₁ .rest i (omega arith) ∙ zeros 256 i ∙ sym (past-end ds i (omega (arith, ds-length)))
   ])
 
-  ds-bytes : Bytes ds
-  ds-bytes i = elim (decLt i k) [
-    | yes l ↦ omega (arith, getD-take k block i 0 l, bytes i)
-    | no l ↦ omega (arith, past-end ds i (omega (arith, ds-length)))
-  ]
-
   -- the data stay
   data-stay : take k block′ ≡ ds
   data-stay = ext-getD 0 (take k block′) ds (size ∙ sym ds-length)
@@ -162,7 +162,7 @@ module _ (poly : ℕ) (P : Passes poly) (k : ℕ) (block block′ w₁ w₂ : Li
       sym (take-append-drop k block′) ∙ ap (λ (xs : List ℕ). xs ++ drop k block′) data-stay
       ∙ sym ((let e : length block - (length block - k) ≡ k = omega arith in
       ap (λ (m : ℕ). withParity (take m block) (parityOf poly first (length block - k) (take m block))) e)
-      ∙ ap (withParity ds) (follows-found poly P first (length block - k) ds ds-bytes (omega (arith, ds-length)) (drop k block′) follows))
+      ∙ ap (withParity ds) (follows-found poly P first (length block - k) ds (take-bytes k block bytes) (omega (arith, ds-length)) (drop k block′) follows))
     where
       follows : Follows poly first (length block - k) ds (drop k block′)
       follows =

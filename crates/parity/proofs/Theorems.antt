@@ -1,16 +1,19 @@
 -- What a customer may quote of the parity of data. Each holds for any polynomial that passes document 01's order test, any first root,
 -- and data of bytes with at most 255 places together with their parity. Assumes nothing.
-use mathlib.Core.Path.{_≡_}
+use mathlib.Core.Path.{_≡_, sym, ap, _∙_, subst}
 use mathlib.Core.Option.{some}
 use mathlib.Core.List.{List, _++_}
-use Prim.Native.Nat.{ℕ, _+_, _≤_}
+use Prim.Native.Nat.{ℕ, _+_, _-_, _≤_}
+use native.Mathlib.Omega.{arith}
 use lib.Dec.{T}
-use lib.ListN.{length}
+use lib.ListN.{length, length-append}
+use lib.Seq.{length-take-le, take-at}
 use Rattle.field.specs.Field.{orderTest}
 use Rattle.field.proofs.Field.{passes}
 use Rattle.reed_solomon.specs.Block.{isCodeword, parityOf}
 use Rattle.reed_solomon.proofs.Search.{Bytes, found-passing}
-use Rattle.parity.proofs.Followed.{Follows, follows-one, follows-found, some-follows}
+use Rattle.parity.specs.Encode.{dataOf, withParity, writtenOf}
+use Rattle.parity.proofs.Followed.{append-bytes, take-bytes, Follows, follows-one, follows-found, some-follows}
 
 module _ (poly : ℕ) (test : T (orderTest poly)) (first parity : ℕ) (ds : List ℕ) where
   follows-of : (p : List ℕ) → parityOf poly first parity ds ≡ some p → Follows poly first parity ds p
@@ -33,3 +36,23 @@ module _ (poly : ℕ) (test : T (orderTest poly)) (first parity : ℕ) (ds : Lis
       → T (isCodeword poly first parity (ds ++ q)) → q ≡ p
   only-codeword b small p q e size bytes t =
       follows-one poly (passes poly test) first parity ds b small q p (record { test = t; size = size; bytes = bytes }) (follows-of p e)
+
+-- What is written is a codeword of the same length with the same data.
+pub written-codeword : (poly : ℕ) → T (orderTest poly) → (first parity : ℕ) (block : List ℕ) → Bytes block → parity ≤ length block → length block ≤ 255
+    → T (isCodeword poly first parity (writtenOf poly first parity block)) × (length (writtenOf poly first parity block) ≡ length block)
+    × (dataOf parity (writtenOf poly first parity block) ≡ dataOf parity block) × Bytes (writtenOf poly first parity block)
+unfolding writtenOf withParity
+written-codeword poly test first parity block b h small =
+    let ds = dataOf parity block in
+    let k : length ds ≡ length block - parity = length-take-le (length block - parity) block (omega arith) in
+    let bd : Bytes ds = take-bytes (length block - parity) block b in
+    let r = has-parity poly test first parity ds bd (omega arith) in
+    let n : length (ds ++ r .0) ≡ length block = length-append ds (r .0) ∙ omega (arith, r .2) in
+    subst
+    (λ (w : List ℕ). T (isCodeword poly first parity w) × (length w ≡ length block) × (dataOf parity w ≡ ds) × Bytes w)
+    (sym (ap (withParity ds) (r .1))) (
+      parity-makes-codeword poly test first parity ds (r .0) (r .1),
+      n,
+      take-at ds (r .0) (length (ds ++ r .0) - parity) (k ∙ ap (λ (m : ℕ). m - parity) (sym n)),
+      append-bytes ds (r .0) bd (r .3),
+    )

@@ -1,5 +1,4 @@
 -- `write_parity` meets its contract: the data and zeros are divided, and the rest stands behind the data. Assumes nothing.
-use Prim.Native.Nat.{ℕ}
 use Rattle.field.proofs.Entries.{the-field}
 use Rattle.parity.proofs.Followed.{written}
 use native.Mathlib.Omega.{arith}
