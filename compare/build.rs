@@ -31,8 +31,8 @@ pub mod access {
 
 fn main() {
     let here = env::var("CARGO_MANIFEST_DIR").unwrap();
-    let rust = env::var("HAN_XIN_RUST")
-        .unwrap_or(format!("{here}/../../shared/docs/src/multiformat/src"));
+    let rust =
+        env::var("HAN_XIN_RUST").unwrap_or(format!("{here}/../../shared/docs/src/multiformat/src"));
     let lib = env::var("HAN_XIN_LIB").unwrap_or(format!("{here}/../target/staticlib"));
     let out = env::var("OUT_DIR").unwrap();
     println!("cargo:rerun-if-env-changed=HAN_XIN_RUST");

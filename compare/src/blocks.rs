@@ -11,6 +11,7 @@ pub struct Answer {
 
 unsafe extern "C" {
     fn hx_correct(block: *mut u8, length: usize, parity: usize) -> Answer;
+    fn hx_parity(block: *mut u8, length: usize, parity: usize) -> usize;
     safe fn hx_mul(a: u8, b: u8) -> u8;
     safe fn hx_div(a: u8, b: u8) -> u8;
     safe fn hx_power(n: usize) -> u8;
@@ -21,6 +22,11 @@ fn ours(block: &mut [u8], parity: usize) -> Answer {
     unsafe { hx_correct(block.as_mut_ptr(), block.len(), parity) }
 }
 
+fn our_parity(block: &mut [u8], parity: usize) -> usize {
+    // SAFETY: the pointer and the length are those of one mutable slice.
+    unsafe { hx_parity(block.as_mut_ptr(), block.len(), parity) }
+}
+
 /// The original's answer by document 01: its None is 5 or 6 by 01's conditions, and a refused block counts as untouched.
 fn theirs(field: &Field<u8>, block: &mut [u8], parity: usize) -> Answer {
     let before = block.to_vec();
@@ -29,7 +35,10 @@ fn theirs(field: &Field<u8>, block: &mut [u8], parity: usize) -> Answer {
         None => {
             block.copy_from_slice(&before);
             let unfit = parity == 0 || parity >= block.len() || block.len() > 255;
-            Answer { number: if unfit { 5 } else { 6 }, count: 0 }
+            Answer {
+                number: if unfit { 5 } else { 6 },
+                count: 0,
+            }
         }
     }
 }
@@ -105,7 +114,13 @@ fn encode(field: &Field<u8>, block: &mut [u8], parity: usize) {
 }
 
 /// A codeword with `errors` of its bytes changed.
-fn damaged(field: &Field<u8>, random: &mut Random, length: usize, parity: usize, errors: usize) -> Vec<u8> {
+fn damaged(
+    field: &Field<u8>,
+    random: &mut Random,
+    length: usize,
+    parity: usize,
+    errors: usize,
+) -> Vec<u8> {
     let mut block = vec![0; length];
     random.fill(&mut block);
     encode(field, &mut block, parity);
@@ -118,18 +133,65 @@ fn damaged(field: &Field<u8>, random: &mut Random, length: usize, parity: usize,
     block
 }
 
+/// Our parity against division by the original's products; the original, which has no writer, must find nothing to correct.
+fn parities(field: &Field<u8>, random: &mut Random) {
+    let mut tried = [0; 2];
+    for length in 0..=300 {
+        for parity in limits(length)
+            .into_iter()
+            .chain([random.below(260), random.below(40)])
+        {
+            let mut block = vec![0; length];
+            random.fill(&mut block);
+            let (mut a, mut b) = (block.clone(), block.clone());
+            let our = our_parity(&mut a, parity);
+            let unfit = parity == 0 || parity >= length || length > 255;
+            if !unfit {
+                encode(field, &mut b, parity);
+            }
+            let their = if unfit { 5 } else { 0 };
+            if our != their || a != b || (!unfit && field.correct(&mut b, parity, 1) != Some(0)) {
+                differs(
+                    "the parity of a block",
+                    &format!("parity {parity}, bytes {}", hex(&block)),
+                    &format!("{our} {}", hex(&a)),
+                    &format!("{their} {}", hex(&b)),
+                );
+            }
+            tried[usize::from(unfit)] += 1;
+        }
+    }
+    println!(
+        "blocks: {:9} parities of blocks written, {} answered 5",
+        tried[0], tried[1]
+    );
+}
+
 fn products(field: &Field<u8>) {
     let mut tried = 0;
     for a in 0..=255u8 {
         for b in 0..=255u8 {
             let (our, their) = (hx_mul(a, b), access::mul(field, a, b));
             if our != their {
-                differs("a product", &format!("{a} {b}"), &our.to_string(), &their.to_string());
+                differs(
+                    "a product",
+                    &format!("{a} {b}"),
+                    &our.to_string(),
+                    &their.to_string(),
+                );
             }
             tried += 1;
-            let (our, their) = (hx_div(a, b), if b == 0 { 0 } else { access::div(field, a, b) });
+            let (our, their) = (
+                hx_div(a, b),
+                if b == 0 { 0 } else { access::div(field, a, b) },
+            );
             if our != their {
-                differs("a quotient", &format!("{a} {b}"), &our.to_string(), &their.to_string());
+                differs(
+                    "a quotient",
+                    &format!("{a} {b}"),
+                    &our.to_string(),
+                    &their.to_string(),
+                );
             }
             tried += 1;
         }
@@ -137,7 +199,12 @@ fn products(field: &Field<u8>) {
     for n in 0..4096 {
         let (our, their) = (hx_power(n), access::power(field, n));
         if our != their {
-            differs("a power", &n.to_string(), &our.to_string(), &their.to_string());
+            differs(
+                "a power",
+                &n.to_string(),
+                &our.to_string(),
+                &their.to_string(),
+            );
         }
         tried += 1;
     }
@@ -146,8 +213,34 @@ fn products(field: &Field<u8>) {
 
 /// The parities at which something changes for a length.
 fn limits(length: usize) -> Vec<usize> {
-    let mut out = vec![0, 1, 2, 3, 4, 5, 30, 31, 32, 127, 128, 253, 254, 255, 256, 257, 1 << 20, 1 << 63, usize::MAX];
-    for p in [length.wrapping_sub(2), length.wrapping_sub(1), length, length + 1, length / 2] {
+    let mut out = vec![
+        0,
+        1,
+        2,
+        3,
+        4,
+        5,
+        30,
+        31,
+        32,
+        127,
+        128,
+        253,
+        254,
+        255,
+        256,
+        257,
+        1 << 20,
+        1 << 63,
+        usize::MAX,
+    ];
+    for p in [
+        length.wrapping_sub(2),
+        length.wrapping_sub(1),
+        length,
+        length + 1,
+        length / 2,
+    ] {
         out.push(p);
     }
     out
@@ -156,8 +249,12 @@ fn limits(length: usize) -> Vec<usize> {
 pub fn compare() {
     let field = gf256(0x163);
     products(field);
-    let mut both = Both { field, tally: Tally::default() };
+    let mut both = Both {
+        field,
+        tally: Tally::default(),
+    };
     let mut random = Random::new(1);
+    parities(field, &mut random);
 
     for length in 2..=255 {
         for last in 0..=255 {
@@ -167,7 +264,10 @@ pub fn compare() {
         }
     }
     both.report("every syndrome of parity 1, each length");
-    for length in [3, 4, 5, 6, 7, 8, 9, 10, 16, 25, 31, 32, 33, 50, 64, 100, 127, 128, 129, 150, 187, 200, 253, 254, 255] {
+    for length in [
+        3, 4, 5, 6, 7, 8, 9, 10, 16, 25, 31, 32, 33, 50, 64, 100, 127, 128, 129, 150, 187, 200,
+        253, 254, 255,
+    ] {
         let word = damaged(field, &mut random, length, 2, 0);
         for last in 0..65536u32 {
             let mut block = word.clone();
@@ -202,7 +302,11 @@ pub fn compare() {
                 both.block(&damaged(field, &mut random, length, parity, errors), parity);
             }
         }
-        for parity in [length - 1, (length - 1).min(128), 1 + random.below(length - 1)] {
+        for parity in [
+            length - 1,
+            (length - 1).min(128),
+            1 + random.below(length - 1),
+        ] {
             for errors in [0, 1, parity / 4, parity / 2, parity / 2 + 1, parity / 2 + 3] {
                 both.block(&damaged(field, &mut random, length, parity, errors), parity);
             }
@@ -212,7 +316,13 @@ pub fn compare() {
     for _ in 0..30_000 {
         let parity = 1 + random.below(32);
         let length = parity + 1 + random.below(187 - parity);
-        for errors in [0, 1, parity / 2, parity / 2 + 1, random.below(parity / 2 + 4)] {
+        for errors in [
+            0,
+            1,
+            parity / 2,
+            parity / 2 + 1,
+            random.below(parity / 2 + 4),
+        ] {
             both.block(&damaged(field, &mut random, length, parity, errors), parity);
         }
     }
@@ -229,9 +339,23 @@ pub fn compare() {
 pub fn bench() {
     let field = gf256(0x163);
     let mut random = Random::new(2);
-    for (length, parity) in [(25, 4), (50, 30), (150, 28), (187, 30), (255, 32), (255, 128)] {
-        for (name, errors) in [("clean", 0), ("half of the reach", parity / 4), ("full reach", parity / 2), ("out of reach", parity)] {
-            let blocks: Vec<Vec<u8>> = (0..64).map(|_| damaged(field, &mut random, length, parity, errors)).collect();
+    for (length, parity) in [
+        (25, 4),
+        (50, 30),
+        (150, 28),
+        (187, 30),
+        (255, 32),
+        (255, 128),
+    ] {
+        for (name, errors) in [
+            ("clean", 0),
+            ("half of the reach", parity / 4),
+            ("full reach", parity / 2),
+            ("out of reach", parity),
+        ] {
+            let blocks: Vec<Vec<u8>> = (0..64)
+                .map(|_| damaged(field, &mut random, length, parity, errors))
+                .collect();
             let mut work = vec![0; length];
             let mut i = 0;
             let our = time(|| {
@@ -256,7 +380,17 @@ pub fn record() -> (Vec<u8>, String) {
     let mut random = Random::new(3);
     let mut blocks: Vec<(Vec<u8>, usize)> = Vec::new();
     for length in [0usize, 1, 2, 3, 5, 254, 255, 256, 300] {
-        for parity in [0, 1, 2, 4, length, length + 1, length.saturating_sub(1), length.saturating_sub(2), 65535] {
+        for parity in [
+            0,
+            1,
+            2,
+            4,
+            length,
+            length + 1,
+            length.saturating_sub(1),
+            length.saturating_sub(2),
+            65535,
+        ] {
             let mut block = vec![0; length];
             blocks.push((block.clone(), parity));
             random.fill(&mut block);
@@ -264,14 +398,42 @@ pub fn record() -> (Vec<u8>, String) {
             blocks.push((vec![255; length], parity));
         }
     }
-    for (length, parity) in [(2, 1), (3, 1), (3, 2), (6, 5), (10, 1), (10, 3), (10, 9), (25, 4), (40, 7), (50, 30), (150, 28), (187, 30), (255, 32), (255, 128), (255, 254)] {
-        for errors in [0, 1, 2, parity / 4, parity / 2, parity / 2 + 1, parity / 2 + 2, parity / 2 + 3] {
+    for (length, parity) in [
+        (2, 1),
+        (3, 1),
+        (3, 2),
+        (6, 5),
+        (10, 1),
+        (10, 3),
+        (10, 9),
+        (25, 4),
+        (40, 7),
+        (50, 30),
+        (150, 28),
+        (187, 30),
+        (255, 32),
+        (255, 128),
+        (255, 254),
+    ] {
+        for errors in [
+            0,
+            1,
+            2,
+            parity / 4,
+            parity / 2,
+            parity / 2 + 1,
+            parity / 2 + 2,
+            parity / 2 + 3,
+        ] {
             let copies = if length < 60 { 6 } else { 1 };
             for _ in 0..copies {
                 blocks.push((damaged(field, &mut random, length, parity, errors), parity));
             }
         }
-        blocks.push((damaged(gf256(0x11d), &mut random, length, parity, 0), parity));
+        blocks.push((
+            damaged(gf256(0x11d), &mut random, length, parity, 0),
+            parity,
+        ));
     }
     let (mut list, mut answers) = (Vec::new(), String::new());
     for (block, parity) in blocks {

@@ -44,14 +44,23 @@ fn main() {
         Some("bench" | "record") => words.remove(0),
         _ => "compare".to_string(),
     };
-    if let Some(w) = words.iter().find(|w| PARTS.iter().all(|p| p.name != w.as_str())) {
+    if let Some(w) = words
+        .iter()
+        .find(|w| PARTS.iter().all(|p| p.name != w.as_str()))
+    {
         eprintln!("compare: no part {w}");
         std::process::exit(2);
     }
     if mode == "bench" {
-        println!("{:34} {:>12} {:>12} {:>7}", "name", "ours, ns", "Rust, ns", "ratio");
+        println!(
+            "{:34} {:>12} {:>12} {:>7}",
+            "name", "ours, ns", "Rust, ns", "ratio"
+        );
     }
-    for part in PARTS.iter().filter(|p| words.is_empty() || words.iter().any(|w| w == p.name)) {
+    for part in PARTS
+        .iter()
+        .filter(|p| words.is_empty() || words.iter().any(|w| w == p.name))
+    {
         match mode.as_str() {
             "bench" => (part.bench)(),
             "record" => {

@@ -4,9 +4,13 @@ use mathlib.Core.List.{List}
 use Prim.Native.Nat.{ℕ, _<_}
 use Rattle.field.specs.Field.{mul}
 use Rattle.corrector.specs.Correct.{Outcome}
+use Rattle.parity.specs.Encode.{Encoding}
 
 abbrev pub outcomeOf : ℕ → ℕ → List ℕ → Outcome
 outcomeOf n c b = record { number = n; count = c; block = b }
+
+abbrev pub encodingOf : ℕ → List ℕ → Encoding
+encodingOf n b = record { number = n; block = b }
 
 -- a byte that gives a when it is multiplied by b; 0 where b is 0
 pub record IsQuotient (a b r : ℕ) : Type 0 where

@@ -1,10 +1,12 @@
-// The field and Correct a block for the comparison with the Rust (compare/).
+// The field, Correct a block and the parity of a block for the comparison with the Rust (compare/).
 ghost use mathlib.Core.Path.{_≡_};
 ghost use Prim.Native.Nat.{ℕ, _%_};
 ghost use Rattle.field.specs.Field.{power, mul};
 ghost use Rattle.corrector.specs.Correct.{Outcome, correctOf};
-ghost use Rattle.compare_blocks.specs.Answers.{outcomeOf, IsQuotient};
+ghost use Rattle.parity.specs.Encode.{encodeOf};
+ghost use Rattle.compare_blocks.specs.Answers.{outcomeOf, encodingOf, IsQuotient};
 use corrector::Correction;
+use parity::Encoded;
 
 // The refusal number or 0, and the count beside it.
 #[repr(C)]
@@ -59,4 +61,15 @@ pub extern "C" fn hx_power(n: usize) -> u8
 {
     let field = field::han_xin();
     field::power(&field, n % 255)
+}
+
+// 5, and the block untouched; or 0, and its last bytes are the parity of the others.
+#[no_mangle]
+pub extern "C" fn hx_parity(block: &mut [u8], parity: usize) -> usize
+    ensures { λ r. ⌜ encodingOf r (now (block .exit)) ≡ encodeOf 0x163 1 parity (now (block .entry)) ⌝ }
+{
+    match parity::encode(block, parity) {
+        Encoded::Written => 0,
+        Encoded::Unfit => 5,
+    }
 }

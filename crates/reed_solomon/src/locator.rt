@@ -23,7 +23,7 @@ fn discrepancy(field: &[u16; 1280], s: &[u8], f: &[u8], l: usize, r: usize) -> u
 }
 
 // f plus q times g moved up by m places, up to the place before top.
-fn add_moved(field: &[u16; 1280], f: &mut [u8], g: &[u8], q: u8, m: usize, top: usize)
+pub fn add_moved(field: &[u16; 1280], f: &mut [u8], g: &[u8], q: u8, m: usize, top: usize)
     requires { ⌜ Field (now field) ⌝ }
     requires { ⌜ (top ≤ length (now f)) × (m ≤ top) × (top ≤ length (now g) + m) ⌝ }
     ensures { λ _. ⌜ Each (added (polyOf (now (field .entry))) q m (now (g .entry))) top (now (f .entry)) (now (f .exit)) ⌝ }

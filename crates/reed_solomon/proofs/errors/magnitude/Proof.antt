@@ -3,12 +3,8 @@ use mathlib.Core.Path.{sym, _∙_}
 use Rattle.field.proofs.Entries.{the-field}
 use Rattle.reed_solomon.proofs.Magnitudes.{small-product, magnitude-none, magnitude-some}
 use native.Mathlib.Omega.{arith}
--- `errors::magnitude` meets its contract. Assumes nothing.
-use mathlib.Core.Path.{_∙_}
 use Prim.Native.Nat.{_≤_}
-use Rattle.field.proofs.Entries.{the-field}
 use Rattle.field.specs.Table.{polyOf}
-use Rattle.reed_solomon.proofs.Magnitudes.{magnitude-none, magnitude-some}
 use borrow.Author.Needs.{needs}
 use Rattle.reed_solomon.proofs.errors.magnitude.Statement.{statement}
 use Rattle.reed_solomon.proofs.errors.magnitude.Tie as tie

@@ -1,5 +1,5 @@
 -- `errors::roots` meets its contract: the terms are carried from degree to degree. Assumes nothing.
-use mathlib.Core.Path.{sym, ap, _∙_}
+use mathlib.Core.Path.{sym, ap, _∙_, refl}
 use Prim.Native.Nat.{_≤_, _-_}
 use Rattle.field.specs.Table.{polyOf}
 use Rattle.field.proofs.Entries.{the-field}
@@ -7,16 +7,7 @@ use Rattle.reed_solomon.specs.Inner.{Each, Terms, locatorAt, zeroFlag}
 use Rattle.reed_solomon.proofs.Each.{each-start, each-next, each-end}
 use Rattle.reed_solomon.proofs.Terms.{terms-start, terms-next, terms-value}
 use native.Mathlib.Omega.{arith}
--- `errors::roots` meets its contract: the terms are carried from degree to degree. Assumes nothing.
-use mathlib.Core.Path.{refl}
-use Prim.Native.Nat.{_≤_, _-_}
-use Rattle.field.specs.Table.{polyOf}
-use Rattle.field.proofs.Entries.{the-field}
-use Rattle.reed_solomon.specs.Inner.{Each, Terms, locatorAt, zeroFlag}
-use Rattle.reed_solomon.proofs.Each.{each-start, each-next, each-end}
-use Rattle.reed_solomon.proofs.Terms.{terms-start, terms-next, terms-value}
 use borrow.Author.Needs.{needs}
-use native.Mathlib.Omega.{arith}
 use Rattle.reed_solomon.proofs.errors.roots.Statement.{statement}
 use Rattle.reed_solomon.proofs.errors.roots.Tie as tie
 

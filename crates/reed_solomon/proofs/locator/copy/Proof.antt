@@ -4,13 +4,7 @@ use Prim.Native.Nat.{_≤_, _-_}
 use Rattle.reed_solomon.specs.Inner.{Each, copied}
 use Rattle.reed_solomon.proofs.Each.{each-start, each-next, each-end}
 use native.Mathlib.Omega.{arith}
--- `locator::copy` meets its contract. Assumes nothing.
-use mathlib.Core.Path.{refl}
-use Prim.Native.Nat.{_≤_, _-_}
-use Rattle.reed_solomon.specs.Inner.{Each, copied}
-use Rattle.reed_solomon.proofs.Each.{each-start, each-next}
 use borrow.Author.Needs.{needs}
-use native.Mathlib.Omega.{arith}
 use Rattle.reed_solomon.proofs.locator.copy.Statement.{statement}
 use Rattle.reed_solomon.proofs.locator.copy.Tie as tie
 

@@ -6,14 +6,7 @@ use Rattle.field.specs.Table.{polyOf}
 use Rattle.reed_solomon.specs.Inner.{Register}
 use Rattle.reed_solomon.proofs.Massey.{zeros, register-start, register-end}
 use native.Mathlib.Omega.{arith}
--- `locator::locator` meets its contract. Assumes nothing.
-use mathlib.Core.Path.{refl, sym}
-use Prim.Native.Nat.{_≤_, _-_}
-use Rattle.field.specs.Table.{polyOf}
-use Rattle.reed_solomon.specs.Inner.{Register}
-use Rattle.reed_solomon.proofs.Massey.{zeros, register-start, register-end}
 use borrow.Author.Needs.{needs}
-use native.Mathlib.Omega.{arith}
 use Rattle.reed_solomon.proofs.locator.locator.Statement.{statement}
 use Rattle.reed_solomon.proofs.locator.locator.Tie as tie
 

@@ -6,15 +6,7 @@ use Rattle.field.specs.Table.{polyOf}
 use Rattle.reed_solomon.specs.Inner.{Each, advanced}
 use Rattle.reed_solomon.proofs.Each.{each-start, each-next, each-end}
 use native.Mathlib.Omega.{arith}
--- `syndromes::advance` meets its contract: one syndrome after the other is advanced. Assumes nothing.
-use mathlib.Core.Path.{ap}
-use Prim.Native.Nat.{ℕ, _≤_, _-_}
-use lib.Bits.{bitXor}
-use Rattle.field.specs.Table.{polyOf}
-use Rattle.reed_solomon.specs.Inner.{Each, advanced}
-use Rattle.reed_solomon.proofs.Each.{each-start, each-next}
 use borrow.Author.Needs.{needs}
-use native.Mathlib.Omega.{arith}
 use Rattle.reed_solomon.proofs.syndromes.advance.Statement.{statement}
 use Rattle.reed_solomon.proofs.syndromes.advance.Tie as tie
 

@@ -1,0 +1,5 @@
+-- Laws of the parity of data, for any field whose polynomial passes the order test and any first root.
+pub mod Remainder
+pub mod Followed
+pub mod Fit
+pub mod Theorems

@@ -1,0 +1,58 @@
+-- What a customer may quote of the parity of data. Each holds for any polynomial that passes document 01's order test, any first root,
+-- and data of bytes with at most 255 places together with their parity. Assumes nothing.
+use mathlib.Core.Path.{_≡_, sym, ap, _∙_, subst}
+use mathlib.Core.Option.{some}
+use mathlib.Core.List.{List, _++_}
+use Prim.Native.Nat.{ℕ, _+_, _-_, _≤_}
+use native.Mathlib.Omega.{arith}
+use lib.Dec.{T}
+use lib.ListN.{length, length-append}
+use lib.Seq.{length-take-le, take-at}
+use Rattle.field.specs.Field.{orderTest}
+use Rattle.field.proofs.Field.{passes}
+use Rattle.reed_solomon.specs.Block.{isCodeword, parityOf}
+use Rattle.reed_solomon.proofs.Search.{Bytes, found-passing}
+use Rattle.parity.specs.Encode.{dataOf, withParity, writtenOf}
+use Rattle.parity.proofs.Followed.{append-bytes, take-bytes, Follows, follows-one, follows-found, some-follows}
+
+module _ (poly : ℕ) (test : T (orderTest poly)) (first parity : ℕ) (ds : List ℕ) where
+  follows-of : (p : List ℕ) → parityOf poly first parity ds ≡ some p → Follows poly first parity ds p
+  unfolding parityOf
+  follows-of p e = found-passing (λ p. isCodeword poly first parity (ds ++ p)) parity p e
+
+  -- Data have a parity: the search finds bytes, as many as it should.
+  pub has-parity : Bytes ds → length ds + parity ≤ 255
+      → (p : List ℕ) × (parityOf poly first parity ds ≡ some p) × (length p ≡ parity) × Bytes p
+  has-parity b small =
+      let r = some-follows poly (passes poly test) first parity ds b in
+      (r .0, follows-found poly (passes poly test) first parity ds b small (r .0) (r .1), r .1 .size, r .1 .bytes)
+
+  -- Data followed by their parity are a codeword.
+  pub parity-makes-codeword : (p : List ℕ) → parityOf poly first parity ds ≡ some p → T (isCodeword poly first parity (ds ++ p))
+  parity-makes-codeword p e = follows-of p e .test
+
+  -- It is the only codeword with these data.
+  pub only-codeword : Bytes ds → length ds + parity ≤ 255 → (p q : List ℕ) → parityOf poly first parity ds ≡ some p → length q ≡ parity → Bytes q
+      → T (isCodeword poly first parity (ds ++ q)) → q ≡ p
+  only-codeword b small p q e size bytes t =
+      follows-one poly (passes poly test) first parity ds b small q p (record { test = t; size = size; bytes = bytes }) (follows-of p e)
+
+-- What is written is a codeword of the same length with the same data.
+pub written-codeword : (poly : ℕ) → T (orderTest poly) → (first parity : ℕ) (block : List ℕ) → Bytes block → parity ≤ length block → length block ≤ 255
+    → T (isCodeword poly first parity (writtenOf poly first parity block)) × (length (writtenOf poly first parity block) ≡ length block)
+    × (dataOf parity (writtenOf poly first parity block) ≡ dataOf parity block) × Bytes (writtenOf poly first parity block)
+unfolding writtenOf withParity
+written-codeword poly test first parity block b h small =
+    let ds = dataOf parity block in
+    let k : length ds ≡ length block - parity = length-take-le (length block - parity) block (omega arith) in
+    let bd : Bytes ds = take-bytes (length block - parity) block b in
+    let r = has-parity poly test first parity ds bd (omega arith) in
+    let n : length (ds ++ r .0) ≡ length block = length-append ds (r .0) ∙ omega (arith, r .2) in
+    subst
+    (λ (w : List ℕ). T (isCodeword poly first parity w) × (length w ≡ length block) × (dataOf parity w ≡ ds) × Bytes w)
+    (sym (ap (withParity ds) (r .1))) (
+      parity-makes-codeword poly test first parity ds (r .0) (r .1),
+      n,
+      take-at ds (r .0) (length (ds ++ r .0) - parity) (k ∙ ap (λ (m : ℕ). m - parity) (sym n)),
+      append-bytes ds (r .0) bd (r .3),
+    )

@@ -1,0 +1,56 @@
+-- `division::copy` meets its contract: below k nothing is copied. Assumes nothing.
+use mathlib.Core.Path.{sym}
+use Prim.Native.Nat.{_≤_, _-_}
+use Rattle.reed_solomon.specs.Inner.{Each}
+use Rattle.reed_solomon.proofs.Each.{each-next, each-end}
+use Rattle.parity.specs.Inner.{copiedFrom}
+use Rattle.parity.proofs.Remainder.{copied-high, copying-start}
+use borrow.Author.Needs.{needs}
+use native.Mathlib.Omega.{arith}
+use Rattle.parity.proofs.division.copy.Statement.{statement}
+use Rattle.parity.proofs.division.copy.Tie as tie
+
+abbrev Inv-loop : tie.InvT-loop
+Inv-loop dst₀ src k n i₀ dst i = Each (copiedFrom k src) i dst₀ dst × (k ≤ i) × (i ≤ n)
+
+abbrev μ-loop : tie.MeasureT-loop
+μ-loop dst₀ src k n i₀ dst i = n - i
+
+loop-holds : tie.Need-loop-holds Inv-loop μ-loop
+loop-holds c = (copying-start _ _ _, omega arith, omega arith)
+
+shared-slice-read-dst : tie.Need-shared-slice-read-dst Inv-loop μ-loop
+shared-slice-read-dst c = search needs
+
+slice-write-dst : tie.Need-slice-write-dst Inv-loop μ-loop
+slice-write-dst c = omega (arith, c .before .before .loop .inv .0 .size)
+
+add-i : tie.Need-add-i Inv-loop μ-loop
+add-i c = search needs
+
+loop-less : tie.Need-loop-less Inv-loop μ-loop
+loop-less c = search needs
+
+loop-again : tie.Need-loop-again Inv-loop μ-loop
+loop-again c = (each-next _ _ _ _ _ (c .before .before .loop .inv .0) (omega arith) (sym (copied-high _ _ _ _ (c .before .before .loop .inv .1))), omega arith, omega arith)
+
+same-length : tie.Need-same-length Inv-loop μ-loop
+same-length c = c .before .loop .inv .0 .size
+
+returns : tie.Need-returns Inv-loop μ-loop
+returns c = each-end _ _ _ _ _ (c .before .loop .inv .0) (omega arith) (omega arith)
+
+pub copy-spec : {M : Type 1} → statement M
+copy-spec =
+    tie.close
+    (tie.spec
+    Inv-loop
+    μ-loop
+    loop-holds
+    shared-slice-read-dst
+    slice-write-dst
+    add-i
+    loop-less
+    loop-again
+    same-length
+    returns)

@@ -1,0 +1,75 @@
+-- `division::divide` meets its contract: one coefficient more becomes zero in each turn. Assumes nothing.
+use mathlib.Core.Path.{_≡_, refl, _∙_}
+use Prim.Native.Nat.{_+_, _≤_, _-_}
+use lib.ListN.{length}
+use Rattle.field.specs.Table.{polyOf}
+use Rattle.field.proofs.Entries.{the-field}
+use Rattle.algebra.specs.Sum.{seq}
+use Rattle.parity.specs.Inner.{Divided}
+use Rattle.parity.proofs.Remainder.{divided-start, reduced, divided-end}
+use borrow.Author.Needs.{needs}
+use native.Mathlib.Omega.{arith}
+use Rattle.parity.proofs.division.divide.Statement.{statement}
+use Rattle.parity.proofs.division.divide.Tie as tie
+
+abbrev Inv-loop : tie.InvT-loop
+Inv-loop field g d w₀ k i₀ w i = (length w ≡ length w₀) × Divided (polyOf field) d (seq g) (k + d) i (seq w₀) (seq w) × (i ≤ k)
+
+abbrev μ-loop : tie.MeasureT-loop
+μ-loop field g d w₀ k i₀ w i = k - i
+
+loop-holds : tie.Need-loop-holds Inv-loop μ-loop
+loop-holds c = (
+  refl,
+  divided-start _ (the-field _ (c .before .before .pre .0)) _ _ (c .before .before .pre .1 .1) _ _ (λ i. omega (arith, c .slice-known .given i)),
+  omega arith,
+)
+
+slice-read-q : tie.Need-slice-read-q Inv-loop μ-loop
+slice-read-q c = search needs
+
+add-add-moved : tie.Need-add-add-moved Inv-loop μ-loop
+add-add-moved c = search needs
+
+add-add-moved-2 : tie.Need-add-add-moved-2 Inv-loop μ-loop
+add-add-moved-2 c = search needs
+
+add-moved-requires : tie.Need-add-moved-requires Inv-loop μ-loop
+add-moved-requires c κs = search needs
+
+add-i : tie.Need-add-i Inv-loop μ-loop
+add-i c = search needs
+
+loop-less : tie.Need-loop-less Inv-loop μ-loop
+loop-less c = search needs
+
+loop-again : tie.Need-loop-again Inv-loop μ-loop
+loop-again c = (
+  c .before .before .add-moved .ensures .size ∙ c .before .before .before .before .before .before .loop .inv .0,
+  reduced _ (the-field _ (c .before .before .before .before .before .before .before .before .before .pre .0)) _ _ _ (c .before .before .before .before .before .before .before .before .before .args .g .now) (c .before .before .before .before .before .before .before .before .before .args .w .now) _ _ (c .before .before .before .before .before .before .before .before .before .pre .1 .1)
+      (c .before .before .before .before .before .before .loop .inv .1) (omega arith) (c .before .before .add-moved .ensures),
+  omega arith,
+)
+
+same-length : tie.Need-same-length Inv-loop μ-loop
+same-length c = c .before .loop .inv .0
+
+returns : tie.Need-returns Inv-loop μ-loop
+returns c = (c .before .loop .inv .0, divided-end _ _ _ _ _ _ _ _ (c .before .loop .inv .1) (c .before .loop .inv .2) (omega arith))
+
+pub divide-spec : {M : Type 1} → statement M
+divide-spec =
+    tie.close
+    (tie.spec
+    Inv-loop
+    μ-loop
+    loop-holds
+    slice-read-q
+    add-add-moved
+    add-add-moved-2
+    add-moved-requires
+    add-i
+    loop-less
+    loop-again
+    same-length
+    returns)

@@ -1,0 +1,25 @@
+-- `encode` meets its contract: the table is that of 163 hex. Assumes nothing.
+use mathlib.Core.Path.{ap, _∙_}
+use Prim.Native.Nat.{ℕ}
+use Rattle.parity.specs.Encode.{encodeOf}
+use native.Mathlib.Omega.{arith}
+use borrow.Author.Needs.{needs}
+use Rattle.parity.proofs.encode.Statement.{statement}
+use Rattle.parity.proofs.encode.Tie as tie
+
+han-xin-requires : tie.Need-han-xin-requires
+han-xin-requires c κs = search needs
+
+encode-over-requires : tie.Need-encode-over-requires
+encode-over-requires c κs = (c .before .before .han-xin .ensures .0, omega arith)
+
+same-length : tie.Need-same-length
+same-length c = search needs
+
+returns : tie.Need-returns
+returns c =
+    c .before .before .encode-over .ensures
+    ∙ ap (λ (p : ℕ). encodeOf p 1 (c .before .before .before .before .before .before .before .args .parity) (c .before .before .before .before .before .before .before .args .block .now)) (c .before .before .before .before .before .han-xin .ensures .1)
+
+pub encode-spec : {M : Type 1} → statement M
+encode-spec = tie.close (tie.spec han-xin-requires encode-over-requires same-length returns)

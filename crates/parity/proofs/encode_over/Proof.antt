@@ -1,0 +1,61 @@
+-- `encode_over` meets its contract: the refusals 5 in their order, and the parity of a block that is fit. Assumes nothing.
+use Rattle.parity.specs.Encode.{encoding}
+use Rattle.parity.proofs.Remainder.{generator-end, generator-monic}
+use Rattle.parity.proofs.Fit.{unfit-refused, fit-written}
+use Rattle.reed_solomon.proofs.Fit.{unfit-parity, unfit-length, unfit-long, fit}
+use native.Mathlib.Omega.{arith}
+use borrow.Author.Needs.{needs}
+use Rattle.parity.proofs.encode_over.Statement.{statement}
+use Rattle.parity.proofs.encode_over.Tie as tie
+
+returns : tie.Need-returns
+unfolding encoding
+returns c = unfit-refused _ _ _ _ (unfit-parity _ _ (c .if1 .taken))
+
+returns-2 : tie.Need-returns-2
+unfolding encoding
+returns-2 c = unfit-refused _ _ _ _ (unfit-length _ _ (c .if2 .taken))
+
+returns-3 : tie.Need-returns-3
+unfolding encoding
+returns-3 c = unfit-refused _ _ _ _ (unfit-long _ _ (c .if3 .taken))
+
+generator-requires : tie.Need-generator-requires
+generator-requires c κs = search needs
+
+slice-aggregate-write-parity : tie.Need-slice-aggregate-write-parity
+slice-aggregate-write-parity c = search needs
+
+sub-write-parity : tie.Need-sub-write-parity
+sub-write-parity c = search needs
+
+write-parity-requires : tie.Need-write-parity-requires
+write-parity-requires c κs = (
+  c .before .before .before .before .before .before .before .pre .0,
+  ((omega arith, omega (arith, c .before .before .before .if3 .left), omega (arith, c .before .before .generator .ensures .0, c .before .before .before .before .if2 .left, c .before .before .before .if3 .left)), generator-monic _ _ _ _ _ (c .before .before .generator .ensures .1) (omega (arith, c .before .before .before .before .if2 .left)) (omega (arith, c .before .before .before .before .if2 .left))),
+)
+
+same-length : tie.Need-same-length
+same-length c = search needs
+
+returns-4 : tie.Need-returns-4
+unfolding encoding
+returns-4 c =
+    fit-written _ _ _ _
+    (fit _ _ (c .before .before .before .before .before .before .before .before .if1 .left) (omega (arith, c .before .before .before .before .before .before .before .if2 .left)) (omega (arith, c .before .before .before .before .before .before .if3 .left)))
+    (omega (arith, c .before .before .before .before .before .before .before .if2 .left)) _
+    (c .before .before .write-parity .ensures _ (generator-end _ _ _ _ _ (c .before .before .before .before .before .generator .ensures .1) (omega (arith, c .before .before .before .before .before .before .before .if2 .left)) (omega (arith, c .before .before .before .before .before .before .before .if2 .left))))
+
+pub encode-over-spec : {M : Type 1} → statement M
+encode-over-spec =
+    tie.close
+    (tie.spec
+    returns
+    returns-2
+    returns-3
+    generator-requires
+    slice-aggregate-write-parity
+    sub-write-parity
+    write-parity-requires
+    same-length
+    returns-4)

@@ -1,0 +1,37 @@
+-- Document 01, "Field and block": the parity of a block, for the writer. What the call answers, and what is then in the block.
+use mathlib.Core.Bool.{cond}
+use mathlib.Core.Option.{Option, none, some}
+use mathlib.Core.List.{List, _++_}
+use Prim.Native.Nat.{ℕ, _-_}
+use lib.ListN.{length, take}
+use Rattle.reed_solomon.specs.Block.{parityOf, unfit}
+use Rattle.parity.specs.declared.Encoded.{Encoded}
+use Rattle.parity.specs.declared.Encoded.the-variants.{Written, Unfit}
+
+-- what a call gives: 0 or the refusal number, and the block as it is left
+pub record Encoding : Type 0 where
+  pub number : ℕ
+  pub block : List ℕ
+
+-- the data of a block: all but its last bytes
+abbrev pub dataOf : ℕ → List ℕ → List ℕ
+dataOf parity block = take (length block - parity) block
+
+-- data followed by their parity; there always is one where they are fit
+unfoldable pub withParity : List ℕ → Option (List ℕ) → List ℕ
+withParity ds none = ds
+withParity ds (some p) = ds ++ p
+
+-- the data of a block followed by their parity
+unfoldable pub writtenOf : ℕ → ℕ → ℕ → List ℕ → List ℕ
+writtenOf poly first parity block = withParity (dataOf parity block) (parityOf poly first parity (dataOf parity block))
+
+-- 5, and the block untouched, as in Correct a block; else 0, and the parity written behind the data
+unfoldable pub encodeOf : ℕ → ℕ → ℕ → List ℕ → Encoding
+encodeOf poly first parity block =
+    cond (unfit parity block) (record { number = 5; block = block }) (record { number = 0; block = writtenOf poly first parity block })
+
+-- 01's number for each case of the answer, with the block
+unfoldable pub encoding : Encoded → List ℕ → Encoding
+encoding Written block = record { number = 0; block = block }
+encoding Unfit block = record { number = 5; block = block }

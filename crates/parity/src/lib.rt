@@ -1,0 +1,80 @@
+// The parity of a block, for the writer: data followed by what makes them a codeword. The table of the field and the first root are lent
+// to every function but the outermost.
+ghost use mathlib.Core.Path.{_≡_};
+ghost use Prim.Native.Nat.{ℕ, _+_, _-_, _≤_, _<_};
+ghost use lib.ListN.{length};
+ghost use Rattle.field.specs.Table.{Field, polyOf};
+ghost use Rattle.algebra.specs.Sum.{seq};
+ghost use Rattle.parity.specs.Encode.{writtenOf, encodeOf, encoding};
+ghost use Rattle.parity.specs.Inner.{Monic, Generator};
+use reed_solomon::locator;
+
+mod division;
+
+// What became of a block: its parity is written, or the refusal 5 of document 01.
+pub enum Encoded {
+    Written,
+    Unfit,
+}
+
+// The generator of a code: the product of x + α^(first + j) for j < parity, highest coefficient first, zeros behind it. A writer computes
+// it once for all blocks of one parity.
+pub fn generator(field: &[u16; 1280], first: usize, parity: usize) -> [u8; 256]
+    requires { ⌜ Field (now field) ⌝ }
+    requires { ⌜ (first ≤ 1) × (parity ≤ 254) ⌝ }
+    ensures { λ g. ⌜ (length g ≡ 256) × Generator (polyOf (now (field .entry))) first parity (seq g) ⌝ }
+{
+    let mut g = [0u8; 256];
+    g[0] = 1;
+    let mut n = 0;
+    while n < parity {
+        let old = g;
+        let root = field::power(field, first + n);
+        locator::add_moved(field, &mut g, &old, root, 1, n + 2);
+        n += 1;
+    }
+    g
+}
+
+// The first k bytes of a block are data; the others become their parity, whose generator is g.
+pub fn write_parity(field: &[u16; 1280], g: &[u8], block: &mut [u8], k: usize)
+    requires { ⌜ Field (now field) ⌝ }
+    requires { ⌜ (k ≤ length (now block)) × (length (now block) ≤ 255) × (length (now block) - k < length (now g)) ⌝ }
+    requires { ⌜ Monic (length (now block) - k) (seq (now g)) ⌝ }
+    ensures { λ _. ⌜ ((first : ℕ) → Generator (polyOf (now (field .entry))) first (length (now (block .entry)) - k) (seq (now (g .entry))) → now (block .exit) ≡ writtenOf (polyOf (now (field .entry))) first (length (now (block .entry)) - k) (now (block .entry))) ⌝ }
+{
+    let n = block.len();
+    let mut w = [0u8; 256];
+    division::copy(&mut w, block, 0, k);
+    division::divide(field, g, n - k, &mut w, k);
+    division::copy(block, &w, k, n);
+}
+
+// The parity of a block of the field with the lent table, whose first root is α^first.
+pub fn encode_over(field: &[u16; 1280], first: usize, block: &mut [u8], parity: usize) -> Encoded
+    requires { ⌜ Field (now field) ⌝ }
+    requires { ⌜ first ≤ 1 ⌝ }
+    ensures { λ r. ⌜ encoding r (now (block .exit)) ≡ encodeOf (polyOf (now (field .entry))) first parity (now (block .entry)) ⌝ }
+{
+    let n = block.len();
+    if parity == 0 {
+        return Encoded::Unfit;
+    }
+    if n <= parity {
+        return Encoded::Unfit;
+    }
+    if 255 < n {
+        return Encoded::Unfit;
+    }
+    let g = generator(field, first, parity);
+    write_parity(field, &g, block, n - parity);
+    Encoded::Written
+}
+
+// The parity of a block of document 01: GF(256) under 163 hex, first root α^1.
+pub fn encode(block: &mut [u8], parity: usize) -> Encoded
+    ensures { λ r. ⌜ encoding r (now (block .exit)) ≡ encodeOf 0x163 1 parity (now (block .entry)) ⌝ }
+{
+    let field = field::han_xin();
+    encode_over(&field, 1, block, parity)
+}
