@@ -1,0 +1,2 @@
+-- The edges of document 01, proved.
+pub mod Theorems

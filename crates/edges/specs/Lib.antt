@@ -1,0 +1,2 @@
+-- Document 01, "Edges".
+pub mod Edges
