@@ -94,13 +94,27 @@ copied-more f r n x l e h k q = elim (ℕ-discrete k n) [
   | no y ↦ getD-set-other r n k x 0 y ∙ h k (omega arith)
 ]
 
+-- one module
+pub module-one : (k : ℕ) → k ≡ 0 → 1 ≡ dataModules (k ∷ [])
+unfolding dataModules
+module-one k e = ap (λ (n : ℕ). dataModules (n ∷ [])) (sym e)
+
+pub module-none : (k : ℕ) → (k ≡ 0 → ⊥) → 0 ≡ dataModules (k ∷ [])
+unfolding dataModules
+module-none zero n = absurd (n refl)
+module-none (suc k) n = refl
+
 -- data modules counted from a place on
 pub modules-more : (ks : List ℕ) (i n x : ℕ) → i < length ks → x ≡ dataModules (getD ks i 0 ∷ []) → n + dataModules (drop i ks) ≡ dataModules ks → n + x + dataModules (drop (i + 1) ks) ≡ dataModules ks
 unfolding dataModules
 modules-more ks i n x h e q =
     let s : dataModules (drop i ks) ≡ dataModules (getD ks i 0 ∷ drop (suc i) ks) = ap dataModules (drop-cons ks i 0 h) in
     let d : dataModules (drop (i + 1) ks) ≡ dataModules (drop (suc i) ks) = ap (λ (k : ℕ). dataModules (drop k ks)) (add-one i) in
-    omega (arith, s, d, e, q)
+    omega (arith, s, d, e, q, first (getD ks i 0) (drop (suc i) ks))
+  where
+    first : (k : ℕ) (us : List ℕ) → dataModules (k ∷ us) ≡ dataModules (k ∷ []) + dataModules us
+    first zero us = omega arith
+    first (suc k) us = omega arith
 
 pub modules-done : (ks : List ℕ) (i n : ℕ) → length ks ≤ i → n + dataModules (drop i ks) ≡ dataModules ks → n ≡ dataModules ks
 unfolding dataModules

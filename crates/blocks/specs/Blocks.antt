@@ -4,7 +4,7 @@ use mathlib.Core.List.{List, [], _∷_, _++_}
 use Prim.Native.Nat.{ℕ, zero, suc, _+_, _-_, _*_}
 use lib.Dec.{eqb, ltb, leb}
 use lib.ListN.{take, drop, getD}
-use Rattle.symbol.specs.Layout.{data-kind, layoutOf}
+use Rattle.symbol.specs.Layout.{layoutOf}
 use Rattle.blocks.specs.Table.{blocks, totals}
 
 -- a version's codewords in all
@@ -34,10 +34,11 @@ rowHolds r total =
     batchHolds (getD r 0 0) (getD r 1 0) (getD r 2 0)
     && (batchHolds (getD r 3 0) (getD r 4 0) (getD r 5 0) && (batchHolds (getD r 6 0) (getD r 7 0) (getD r 8 0) && eqb (rowLength r) total))
 
--- how many data modules a layout has
+-- how many data modules, of kind 0, a layout has
 unfoldable pub dataModules : List ℕ → ℕ
 dataModules [] = 0
-dataModules (k ∷ ks) = cond (eqb k data-kind) 1 0 + dataModules ks
+dataModules (zero ∷ ks) = suc (dataModules ks)
+dataModules (suc k ∷ ks) = dataModules ks
 
 -- refusal 1: a version and level whose row breaks the rule, or a version with too few data modules
 unfoldable pub hasBlocks : ℕ → ℕ → Bool
