@@ -1,0 +1,193 @@
+-- The rule holds at the row of each version and level: one test that antt computes over the table, carried to each row.
+use mathlib.Core.Path.{_≡_, refl, sym, ap, ap₂, subst, _∙_}
+use mathlib.Core.Bool.{Bool, true, false, _&&_, _||_}
+use mathlib.Core.List.{List, [], _∷_, _++_}
+use Prim.Native.Nat.{ℕ, zero, suc, _+_, _-_, _*_, _/_, _<_, _≤_}
+use native.Mathlib.Nat.{add-zero, le-of-suc-le-suc, not-suc-le-zero, mul-assoc}
+use native.Mathlib.Omega.{arith}
+use lib.Dec.{T, eqb, ltb, leb, eqb→eq, ltb→lt, leb→le}
+use lib.ListN.{length, take, drop, getD, set, length-drop, drop-of-length-le}
+use lib.Seq.{drop-drop, drop-cons, getD-take, getD-drop, getD-set-same, getD-set-other, ext-getD, length-take-le}
+use native.Mathlib.Decide.{ℕ-discrete}
+use native.Mathlib.Numerals.{add-one}
+use borrow.Author.Tests.{eqb-true}
+use Rattle.symbol.proofs.Finite.{upTo, every}
+use Rattle.blocks.specs.Table.{blocks, totals}
+use Rattle.blocks.specs.Blocks.{totalOf, rowAt, rowOf, batchHolds, rowLength, rowHolds, Shape, size, batch, shapes, shapesOf, totalSize, dataModules}
+
+and-left : (a b : Bool) → T (a && b) → T a
+and-left true b t = tt
+and-left false b t = t
+
+and-right : (a b : Bool) → T (a && b) → T b
+and-right true b t = t
+and-right false b t = absurd t
+
+four : (a b c d : Bool) → T (a && (b && (c && d))) → T a × T b × T c × T d
+four a b c d t =
+    let u = and-right a (b && (c && d)) t in
+    let w = and-right b (c && d) u in
+    (and-left a (b && (c && d)) t, and-left b (c && d) u, and-left c d w, and-right c d w)
+
+-- f holds of n rows of nine, counted from i
+everyRow : (ℕ → List ℕ → Bool) → ℕ → ℕ → List ℕ → Bool
+everyRow f zero i xs = true
+everyRow f (suc n) i xs = f i (take 9 xs) && everyRow f n (suc i) (drop 9 xs)
+
+from : (f : ℕ → List ℕ → Bool) (n i : ℕ) (xs : List ℕ) → T (everyRow f n i xs) → (k : ℕ) → k < n → T (f (i + k) (take 9 (drop (9 * k) xs)))
+unfolding everyRow
+from f zero i xs t k h = absurd (not-suc-le-zero h)
+from f (suc n) i xs t zero h = subst (λ (m : ℕ). T (f m (take 9 xs))) (sym (add-zero i)) (and-left (f i (take 9 xs)) (everyRow f n (suc i) (drop 9 xs)) t)
+from f (suc n) i xs t (suc k) h =
+    let ih : T (f (suc i + k) (take 9 (drop (9 * k) (drop 9 xs)))) = from f n (suc i) (drop 9 xs) (and-right (f i (take 9 xs)) (everyRow f n (suc i) (drop 9 xs)) t) k (le-of-suc-le-suc h) in
+    let n9 : 9 + 9 * k ≡ 9 * suc k = omega arith in
+    let e : drop (9 * k) (drop 9 xs) ≡ drop (9 * suc k) xs = drop-drop (9 * k) 9 xs ∙ ap (λ (m : ℕ). drop m xs) n9 in
+    let g : suc i + k ≡ i + suc k = omega arith in
+    subst (λ (m : ℕ). T (f m (take 9 (drop (9 * suc k) xs)))) g (subst (λ (l : List ℕ). T (f (suc i + k) (take 9 l))) e ih)
+
+test : ℕ → List ℕ → Bool
+test i r = rowHolds r (getD totals (i / 4) 0)
+
+passes : T (everyRow test 336 0 blocks)
+unfolding everyRow test rowHolds batchHolds rowLength blocks totals
+passes = tt
+
+pub row-holds : (v level : ℕ) → 1 ≤ v → v ≤ 84 → level ≤ 3 → T (rowHolds (rowOf v level) (totalOf v))
+unfolding rowOf rowAt totalOf test
+row-holds v l lo hi le =
+    let h : 4 * (v - 1) + l < 336 = omega arith in
+    let q : (0 + (4 * (v - 1) + l)) / 4 ≡ v - 1 = omega arith in
+    subst (λ (m : ℕ). T (rowHolds (take 9 (drop (9 * (4 * (v - 1) + l)) blocks)) (getD totals m 0))) q (from test 336 0 blocks passes (4 * (v - 1) + l) h)
+
+-- totals are small: a test that antt computes
+totals-small : T (upTo (λ n. leb (getD totals n 0) 3886) 84)
+unfolding totals
+totals-small = tt
+
+pub total-small : (v : ℕ) → 1 ≤ v → v ≤ 84 → totalOf v ≤ 3886
+unfolding totalOf
+total-small v lo hi = leb→le _ _ (every (λ n. leb (getD totals n 0) 3886) 84 totals-small (v - 1) (omega arith))
+
+-- a number of a row, in the table
+row-number : (v level n : ℕ) → n < 9 → getD blocks ((4 * (v - 1) + level) * 9 + n) 0 ≡ getD (rowOf v level) n 0
+unfolding rowOf rowAt
+row-number v level n h =
+    let e : (4 * (v - 1) + level) * 9 + n ≡ 9 * (4 * (v - 1) + level) + n = omega arith in
+    ap (λ (i : ℕ). getD blocks i 0) e ∙ sym (getD-take 9 (drop (9 * (4 * (v - 1) + level)) blocks) n 0 h ∙ getD-drop (9 * (4 * (v - 1) + level)) blocks n 0)
+
+rows-length : length blocks ≡ 3024
+unfolding blocks
+rows-length = refl
+
+-- a row copied number by number
+pub row-copied : (v level : ℕ) → 1 ≤ v → v ≤ 84 → level ≤ 3 → (r : List ℕ) → length r ≡ 9 → ((k : ℕ) → k < 9 → getD r k 0 ≡ getD blocks ((4 * (v - 1) + level) * 9 + k) 0) → r ≡ rowOf v level
+unfolding rowOf rowAt
+row-copied v level lo hi le r l e =
+    ext-getD 0 r (take 9 (drop (9 * (4 * (v - 1) + level)) blocks))
+    (l ∙ sym (length-take-le 9 (drop (9 * (4 * (v - 1) + level)) blocks) (omega (arith, length-drop (9 * (4 * (v - 1) + level)) blocks, rows-length))))
+    (λ i h. e i (omega arith) ∙ row-number v level i (omega arith))
+
+-- one number more
+pub copied-more : (f : ℕ → ℕ) (r : List ℕ) (n x : ℕ) → n < length r → x ≡ f n → ((k : ℕ) → k < n → getD r k 0 ≡ f k) → (k : ℕ) → k < n + 1 → getD (set r n x) k 0 ≡ f k
+copied-more f r n x l e h k q = elim (ℕ-discrete k n) [
+  | yes y ↦ ap (λ (i : ℕ). getD (set r n x) i 0) y ∙ getD-set-same r n x 0 l ∙ e ∙ ap f (sym y)
+  | no y ↦ getD-set-other r n k x 0 y ∙ h k (omega arith)
+]
+
+-- one module
+pub module-one : (k : ℕ) → k ≡ 0 → 1 ≡ dataModules (k ∷ [])
+unfolding dataModules
+module-one k e = ap (λ (n : ℕ). dataModules (n ∷ [])) (sym e)
+
+pub module-none : (k : ℕ) → (k ≡ 0 → ⊥) → 0 ≡ dataModules (k ∷ [])
+unfolding dataModules
+module-none zero n = absurd (n refl)
+module-none (suc k) n = refl
+
+-- data modules counted from a place on
+pub modules-more : (ks : List ℕ) (i n x : ℕ) → i < length ks → x ≡ dataModules (getD ks i 0 ∷ []) → n + dataModules (drop i ks) ≡ dataModules ks → n + x + dataModules (drop (i + 1) ks) ≡ dataModules ks
+unfolding dataModules
+modules-more ks i n x h e q =
+    let s : dataModules (drop i ks) ≡ dataModules (getD ks i 0 ∷ drop (suc i) ks) = ap dataModules (drop-cons ks i 0 h) in
+    let d : dataModules (drop (i + 1) ks) ≡ dataModules (drop (suc i) ks) = ap (λ (k : ℕ). dataModules (drop k ks)) (add-one i) in
+    omega (arith, s, d, e, q, first (getD ks i 0) (drop (suc i) ks))
+  where
+    first : (k : ℕ) (us : List ℕ) → dataModules (k ∷ us) ≡ dataModules (k ∷ []) + dataModules us
+    first zero us = omega arith
+    first (suc k) us = omega arith
+
+pub modules-done : (ks : List ℕ) (i n : ℕ) → length ks ≤ i → n + dataModules (drop i ks) ≡ dataModules ks → n ≡ dataModules ks
+unfolding dataModules
+modules-done ks i n h q = omega (arith, q, ap dataModules (drop-of-length-le ks {i = i} h))
+
+-- what the rule says of the blocks
+
+-- each block has data and parity, and at most 255 codewords
+pub data Sound : List Shape → Type 0 where
+  none : Sound []
+  more : {b : Shape} {bs : List Shape} → 0 < b .info → 0 < b .parity → size b ≤ 255 → Sound bs → Sound (b ∷ bs)
+
+sound-append : {bs cs : List Shape} → Sound bs → Sound cs → Sound (bs ++ cs)
+sound-append none q = q
+sound-append (more a b c p) q = more a b c (sound-append p q)
+
+sound-batch : (n d p : ℕ) → T (batchHolds n d p) → Sound (batch n d p)
+unfolding batchHolds batch
+sound-batch zero d p t = none
+sound-batch (suc n) d p t = all (suc n)
+  where
+    u : T (ltb 0 p && (ltb p (d + p) && leb (d + p) 255))
+    u = some (eqb (suc n) 0) refl t
+      where
+        some : (b : Bool) → eqb (suc n) 0 ≡ b → T (b || (ltb 0 p && (ltb p (d + p) && leb (d + p) 255))) → T (ltb 0 p && (ltb p (d + p) && leb (d + p) 255))
+        some true e s = absurd (let z : suc n ≡ 0 = eqb-true (suc n) 0 e in omega arith)
+        some false e s = s
+
+    one : 0 < p
+    one = ltb→lt 0 p (and-left (ltb 0 p) (ltb p (d + p) && leb (d + p) 255) u)
+
+    two : T (ltb p (d + p) && leb (d + p) 255)
+    two = and-right (ltb 0 p) (ltb p (d + p) && leb (d + p) 255) u
+
+    three : d + p ≤ 255
+    three = leb→le (d + p) 255 (and-right (ltb p (d + p)) (leb (d + p) 255) two)
+
+    all : (m : ℕ) → Sound (batch m d p)
+    all zero = none
+    all (suc m) = more {b = record { info = d; parity = p }} (omega (arith, ltb→lt p (d + p) (and-left (ltb p (d + p)) (leb (d + p) 255) two))) one three (all m)
+
+total-append : (bs cs : List Shape) → totalSize (bs ++ cs) ≡ totalSize bs + totalSize cs
+unfolding totalSize
+total-append [] cs = omega arith
+total-append (b ∷ bs) cs = let e = total-append bs cs in omega arith
+
+pub total-batch : (n d p : ℕ) → totalSize (batch n d p) ≡ n * (d + p)
+unfolding totalSize batch
+total-batch zero d p = omega arith
+total-batch (suc n) d p = let e = total-batch n d p in omega arith
+
+total-shapes : (r : List ℕ) → totalSize (shapes r) ≡ rowLength r
+unfolding shapes rowLength
+total-shapes r =
+    total-append (batch (getD r 0 0) (getD r 1 0) (getD r 2 0)) _
+    ∙ ap₂ _+_ (total-batch (getD r 0 0) (getD r 1 0) (getD r 2 0))
+    (total-append (batch (getD r 3 0) (getD r 4 0) (getD r 5 0)) _ ∙ ap₂ _+_ (total-batch (getD r 3 0) (getD r 4 0) (getD r 5 0)) (total-batch (getD r 6 0) (getD r 7 0) (getD r 8 0)))
+    ∙ omega arith
+
+module _ (v level : ℕ) (lo : 1 ≤ v) (hi : v ≤ 84) (le : level ≤ 3) where
+  r : List ℕ
+  r = rowOf v level
+
+  holds : T (batchHolds (getD r 0 0) (getD r 1 0) (getD r 2 0)) × T (batchHolds (getD r 3 0) (getD r 4 0) (getD r 5 0)) × T (batchHolds (getD r 6 0) (getD r 7 0) (getD r 8 0)) × T (eqb (rowLength r) (totalOf v))
+  unfolding r rowHolds
+  holds = four (batchHolds (getD r 0 0) (getD r 1 0) (getD r 2 0)) (batchHolds (getD r 3 0) (getD r 4 0) (getD r 5 0)) (batchHolds (getD r 6 0) (getD r 7 0) (getD r 8 0)) (eqb (rowLength r) (totalOf v)) (row-holds v level lo hi le)
+
+  pub shapes-total : totalSize (shapesOf v level) ≡ totalOf v
+  unfolding r shapesOf
+  shapes-total = total-shapes (rowOf v level) ∙ eqb→eq (rowLength (rowOf v level)) (totalOf v) (holds .3)
+
+  pub shapes-sound : Sound (shapesOf v level)
+  unfolding r shapesOf shapes
+  shapes-sound =
+      sound-append (sound-batch (getD r 0 0) (getD r 1 0) (getD r 2 0) (holds .0))
+      (sound-append (sound-batch (getD r 3 0) (getD r 4 0) (getD r 5 0) (holds .1)) (sound-batch (getD r 6 0) (getD r 7 0) (getD r 8 0) (holds .2)))

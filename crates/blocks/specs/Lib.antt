@@ -1,0 +1,3 @@
+-- Document 01: "Blocks".
+pub mod Table
+pub mod Blocks

@@ -1,0 +1,56 @@
+// Document 01, "Blocks": the block table, and the data modules of a layout (000: `TOTAL_CODEWORDS`, `BLOCKS`).
+ghost use mathlib.Core.Path.{_≡_};
+ghost use mathlib.Core.List.{[], _∷_};
+ghost use Prim.Native.Nat.{_≤_};
+ghost use Rattle.blocks.specs.Blocks.{totalOf, rowOf, dataModules};
+
+pub mod table;
+
+use table::BLOCKS;
+use table::TOTAL_CODEWORDS;
+
+// A version's codewords in all.
+pub fn total_codewords(version: usize) -> usize
+    requires { ⌜ (1 ≤ version) × (version ≤ 84) ⌝ }
+    ensures { λ r. ⌜ (r ≡ totalOf version) × (r ≤ 3886) ⌝ }
+{
+    TOTAL_CODEWORDS[version - 1] as usize
+}
+
+// The row of a version and level: three batches of count, data, parity. The table is read once into a local.
+pub fn block_row(version: usize, level: usize) -> [u8; 9]
+    requires { ⌜ (1 ≤ version) × (version ≤ 84) × (level ≤ 3) ⌝ }
+    ensures { λ r. ⌜ r ≡ rowOf version level ⌝ }
+{
+    let table = BLOCKS;
+    let at = (4 * (version - 1) + level) * 9;
+    let mut row = [0u8; 9];
+    let mut n: usize = 0;
+    while n < 9 {
+        row[n] = table[at + n];
+        n += 1;
+    }
+    row
+}
+
+fn data_module(kind: u8) -> usize
+    ensures { λ r. ⌜ (r ≡ dataModules (kind ∷ [])) × (r ≤ 1) ⌝ }
+{
+    if kind == 0 {
+        return 1;
+    }
+    0
+}
+
+// How many data modules a layout has.
+pub fn data_modules(kinds: &[u8]) -> usize
+    ensures { λ r. ⌜ r ≡ dataModules (now (kinds .entry)) ⌝ }
+{
+    let mut n: usize = 0;
+    let mut i: usize = 0;
+    while i < kinds.len() {
+        n += data_module(kinds[i]);
+        i += 1;
+    }
+    n
+}

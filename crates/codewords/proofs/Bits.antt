@@ -1,0 +1,62 @@
+-- Bits of codewords, and codewords of bits.
+use mathlib.Core.Path.{_≡_, refl, ap, ap₂, _∙_, sym}
+use mathlib.Core.List.{List, [], _∷_, _++_, append-assoc}
+use Prim.Native.Nat.{ℕ, zero, suc, _+_, _-_, _*_, _/_, _%_, _^_, _<_, _≤_}
+use native.Mathlib.Nat.{mod-eq-of-lt, pow-succ', add-mul, mul-assoc, add-assoc, mod-one, zero-div, zero-mod}
+use native.Mathlib.Numerals.{one-add}
+use native.Mathlib.Omega.{arith}
+use lib.ListN.{length, take, drop, getD, length-append}
+use lib.Pow.{mod-pow-add}
+use lib.Seq.{getD-take, length-take-le}
+use Rattle.codewords.specs.Codewords.{numBits, bitsOf, value, codewordsOf}
+
+pub length-bits : (s : List ℕ) → length (bitsOf s) ≡ 8 * length s
+unfolding bitsOf numBits
+length-bits [] = refl
+length-bits (b ∷ s) = let h = length-bits s in omega arith
+
+pub bit-at : (s : List ℕ) (i : ℕ) → getD (bitsOf s) i 0 ≡ getD s (i / 8) 0 / 2 ^ (7 - i % 8) % 2
+unfolding bitsOf numBits
+bit-at [] i = rw (zero-div, zero-mod)
+bit-at (b ∷ s) zero = refl
+bit-at (b ∷ s) (suc zero) = refl
+bit-at (b ∷ s) (suc (suc zero)) = refl
+bit-at (b ∷ s) (suc (suc (suc zero))) = refl
+bit-at (b ∷ s) (suc (suc (suc (suc zero)))) = refl
+bit-at (b ∷ s) (suc (suc (suc (suc (suc zero))))) = refl
+bit-at (b ∷ s) (suc (suc (suc (suc (suc (suc zero)))))) = refl
+bit-at (b ∷ s) (suc (suc (suc (suc (suc (suc (suc zero))))))) = refl
+bit-at (b ∷ s) (suc (suc (suc (suc (suc (suc (suc (suc i)))))))) =
+    let d : suc (suc (suc (suc (suc (suc (suc (suc i))))))) / 8 ≡ suc (i / 8) = omega arith in
+    let m : suc (suc (suc (suc (suc (suc (suc (suc i))))))) % 8 ≡ i % 8 = omega arith in
+    rw (d, m) (bit-at s i)
+
+-- each is a byte
+abbrev pub Bytes : List ℕ → Type 0
+Bytes [] = Unit {0}
+Bytes (b ∷ bs) = (b < 256) × Bytes bs
+
+pub length-codewords : (n : ℕ) (bs : List ℕ) → length (codewordsOf n bs) ≡ n
+unfolding codewordsOf
+length-codewords zero bs = refl
+length-codewords (suc n) bs = ap suc (length-codewords n (drop 8 bs))
+
+value-num : (n a v : ℕ) → value a (numBits n v) ≡ a * 2 ^ n + v % 2 ^ n
+unfolding numBits value
+value-num zero a v = omega (arith, mod-one v)
+value-num (suc n) a v = value-num n (a * 2 + v / 2 ^ n % 2) v ∙
+    rw (← one-add n, mod-pow-add v 1 n, one-add, pow-succ' 2 n, add-mul (a * 2) (v / 2 ^ n % 2) (2 ^ n), mul-assoc a 2 (2 ^ n)) (add-assoc (a * (2 * 2 ^ n)) ((v / 2 ^ n % 2) * 2 ^ n) (v % 2 ^ n))
+
+-- bytes that were written as bits are read back, whatever follows
+pub codewords-back : (cs rest : List ℕ) → Bytes cs → codewordsOf (length cs) (bitsOf cs ++ rest) ≡ cs
+unfolding bitsOf codewordsOf numBits
+codewords-back [] rest h = refl
+codewords-back (c ∷ cs) rest h = ap₂ _∷_ (let e = value-num 8 0 c in omega (arith, h .0)) (codewords-back cs rest (h .1))
+
+-- a bit of the first n codewords
+pub bit-front : (n t : ℕ) (s : List ℕ) → t < 8 * n → getD (bitsOf (take n s)) t 0 ≡ getD (bitsOf s) t 0
+bit-front n t s h =
+    bit-at (take n s) t ∙ ap (λ (c : ℕ). c / 2 ^ (7 - t % 8) % 2) (getD-take n s (t / 8) 0 (omega arith)) ∙ sym (bit-at s t)
+
+pub length-front : (n : ℕ) (s : List ℕ) → n ≤ length s → length (bitsOf (take n s)) ≡ 8 * n
+length-front n s h = length-bits (take n s) ∙ ap (λ (k : ℕ). 8 * k) (length-take-le n s h)

@@ -1,0 +1,6 @@
+pub mod Bits
+pub mod Masks
+pub mod Interleave
+pub mod Placement
+pub mod Back
+pub mod Theorems

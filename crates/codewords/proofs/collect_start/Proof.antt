@@ -1,0 +1,60 @@
+use Rattle.codewords.proofs.Interleave.{CollectStart, collect-enter, collect-place, collect-turn, collect-leave}
+use lib.Bits.{bitXor}
+use lib.ListN.{length, getD, take, drop}
+use Prim.Native.Nat.{ℕ, _+_, _-_, _*_, _/_, _%_, _^_, _<_, _≤_}
+use mathlib.Core.Path.{_≡_, refl, sym, ap, ap₂, subst, _∙_}
+use native.Mathlib.Omega.{arith}
+use borrow.Author.Needs.{needs}
+use Rattle.codewords.proofs.collect_start.Statement.{statement}
+use Rattle.codewords.proofs.collect_start.Tie as tie
+use Rattle.codewords.proofs.collect_start.Reads as reads
+use Rattle.codewords.proofs.collect_start.Lts as lts
+
+abbrev Inv-loop : tie.InvT-loop
+Inv-loop out₀ stream total start i n₀ p₀ out n p = CollectStart total stream out₀ out start n p
+
+abbrev μ-loop : tie.MeasureT-loop
+μ-loop out₀ stream total start i n₀ p₀ out n p = total - p
+
+loop-holds : tie.Need-loop-holds Inv-loop μ-loop
+loop-holds c = collect-enter (c .pre .0) (c .pre .1)
+
+shared-slice-read-out : tie.Need-shared-slice-read-out Inv-loop μ-loop
+shared-slice-read-out c = omega (arith, c .before .loop-test .taken, c .before .before .loop .inv .whole)
+
+slice-write-out : tie.Need-slice-write-out Inv-loop μ-loop
+slice-write-out c = omega (arith, collect-place (c .before .before .loop .inv) (c .before .loop-test .taken), c .before .before .loop .inv .room)
+
+add-n : tie.Need-add-n Inv-loop μ-loop
+add-n c = omega (arith, collect-place (c .before .before .loop .inv) (c .before .loop-test .taken), c .before .before .loop .inv .few)
+
+add-p : tie.Need-add-p Inv-loop μ-loop
+add-p c = omega (arith, c .before .loop-test .taken, c .before .before .loop .inv .few)
+
+loop-less : tie.Need-loop-less Inv-loop μ-loop
+loop-less c = omega arith
+
+loop-again : tie.Need-loop-again Inv-loop μ-loop
+loop-again c = collect-turn (c .before .before .loop .inv) (c .before .loop-test .taken)
+
+same-length : tie.Need-same-length Inv-loop μ-loop
+same-length c = c .before .loop .inv .kept
+
+returns : tie.Need-returns Inv-loop μ-loop
+returns c = (collect-leave (c .before .loop .inv) (c .loop-test .left), c .before .loop .inv .beyond)
+
+pub collect-start-spec : {M : Type 1} → statement M
+collect-start-spec =
+    tie.close
+    (tie.spec
+    Inv-loop
+    μ-loop
+    loop-holds
+    shared-slice-read-out
+    slice-write-out
+    add-n
+    add-p
+    loop-less
+    loop-again
+    same-length
+    returns)

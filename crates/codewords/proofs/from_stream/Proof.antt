@@ -1,0 +1,54 @@
+use Rattle.codewords.proofs.Interleave.{collect-first, collect-last}
+use Rattle.codewords.specs.Inner.{FromStream}
+use lib.Bits.{bitXor}
+use lib.ListN.{length, getD, take, drop}
+use Prim.Native.Nat.{ℕ, _+_, _-_, _*_, _/_, _%_, _^_, _<_, _≤_}
+use mathlib.Core.Path.{_≡_, refl, sym, ap, ap₂, subst, _∙_}
+use native.Mathlib.Omega.{arith}
+use borrow.Author.Needs.{needs}
+use Rattle.codewords.proofs.from_stream.Statement.{statement}
+use Rattle.codewords.proofs.from_stream.Tie as tie
+use Rattle.codewords.proofs.from_stream.Reads as reads
+use Rattle.codewords.proofs.from_stream.Lts as lts
+use Rattle.codewords.proofs.collect_start.Reads as collect-start-reads
+
+abbrev Inv-loop : tie.InvT-loop
+Inv-loop out₀ stream total i₀ start₀ out i start = FromStream total stream out start i × (drop total out ≡ drop total out₀) × (start ≤ 13) × (length out ≡ length out₀)
+
+abbrev μ-loop : tie.MeasureT-loop
+μ-loop out₀ stream total i₀ start₀ out i start = 13 - start
+
+loop-holds : tie.Need-loop-holds Inv-loop μ-loop
+loop-holds c = (collect-first (c .before .before .args .total) (c .before .before .args .stream .now) (c .before .before .args .out .now) (c .before .before .pre .0) (c .before .before .pre .1) (c .before .before .pre .2), refl, omega arith, refl)
+
+collect-start-requires : tie.Need-collect-start-requires Inv-loop μ-loop
+collect-start-requires c κs = (c .before .before .loop .inv .0, c .before .loop-test .taken)
+
+add-start : tie.Need-add-start Inv-loop μ-loop
+add-start c = omega (arith, c .before .before .before .before .loop-test .taken)
+
+loop-less : tie.Need-loop-less Inv-loop μ-loop
+loop-less c = omega (arith, c .before .before .before .before .loop-test .taken)
+
+loop-again : tie.Need-loop-again Inv-loop μ-loop
+loop-again c = (c .before .before .collect-start .ensures .0, c .before .before .collect-start .ensures .1 ∙ c .before .before .before .before .before .loop .inv .1, omega (arith, c .before .before .before .before .loop-test .taken), c .before .before .collect-start .kept .0 ∙ c .before .before .before .before .before .loop .inv .3)
+
+same-length : tie.Need-same-length Inv-loop μ-loop
+same-length c = c .before .loop .inv .3
+
+returns : tie.Need-returns Inv-loop μ-loop
+returns c = collect-last (c .before .before .before .before .args .out .now) (c .before .loop .inv .0) (c .loop-test .left) (c .before .loop .inv .1)
+
+pub from-stream-spec : {M : Type 1} → statement M
+from-stream-spec =
+    tie.close
+    (tie.spec
+    Inv-loop
+    μ-loop
+    loop-holds
+    collect-start-requires
+    add-start
+    loop-less
+    loop-again
+    same-length
+    returns)

@@ -1,0 +1,77 @@
+use native.Mathlib.Nat.{mod-lt}
+use Rattle.codewords.proofs.Masks.{mask-zero, mask-one, mask-two, mask-three}
+use lib.Bits.{bitXor}
+use lib.ListN.{length, getD, take, drop}
+use Prim.Native.Nat.{ℕ, _+_, _-_, _*_, _/_, _%_, _^_, _<_, _≤_}
+use mathlib.Core.Path.{_≡_, refl, sym, ap, ap₂, subst, _∙_}
+use native.Mathlib.Omega.{arith}
+use borrow.Author.Needs.{needs}
+use Rattle.codewords.proofs.masked.Statement.{statement}
+use Rattle.codewords.proofs.masked.Tie as tie
+use Rattle.codewords.proofs.masked.Reads as reads
+use Rattle.codewords.proofs.masked.Lts as lts
+
+returns : tie.Need-returns
+returns c = (mask-zero (c .before .args .mask) (c .before .args .i) (c .before .args .j) (omega arith), omega arith)
+
+add-result : tie.Need-add-result
+add-result c = search needs
+
+sub-result : tie.Need-sub-result
+sub-result c = search needs
+
+returns-2 : tie.Need-returns-2
+returns-2 c = (mask-one (c .before .before .args .mask) (c .before .before .args .i) (c .before .before .args .j) (omega arith), omega arith)
+
+add-result-2 : tie.Need-add-result-2
+add-result-2 c = search needs
+
+add-result-3 : tie.Need-add-result-3
+add-result-3 c = search needs
+
+sub-result-2 : tie.Need-sub-result-2
+sub-result-2 c = search needs
+
+returns-3 : tie.Need-returns-3
+returns-3 c = (mask-two (c .before .before .before .args .mask) (c .before .before .before .args .i) (c .before .before .before .args .j) (omega arith), omega arith)
+
+rem-result : tie.Need-rem-result
+rem-result c = search needs
+
+rem-result-2 : tie.Need-rem-result-2
+rem-result-2 c = search needs
+
+add-result-4 : tie.Need-add-result-4
+add-result-4 c = omega (arith, mod-lt (c .before .before .before .args .i) {m = c .before .before .before .args .j} (omega arith), mod-lt (c .before .before .before .args .j) {m = c .before .before .before .args .i} (omega arith))
+
+add-result-5 : tie.Need-add-result-5
+add-result-5 c = omega (arith, mod-lt (c .before .before .before .args .i) {m = c .before .before .before .args .j} (omega arith), mod-lt (c .before .before .before .args .j) {m = c .before .before .before .args .i} (omega arith))
+
+add-result-6 : tie.Need-add-result-6
+add-result-6 c = omega (arith, mod-lt (c .before .before .before .args .i) {m = c .before .before .before .args .j} (omega arith), mod-lt (c .before .before .before .args .j) {m = c .before .before .before .args .i} (omega arith))
+
+sub-result-3 : tie.Need-sub-result-3
+sub-result-3 c = search needs
+
+returns-4 : tie.Need-returns-4
+returns-4 c = (mask-three (c .before .before .before .args .mask) (c .before .before .before .args .i) (c .before .before .before .args .j) (omega arith) (omega arith) (omega arith), omega arith)
+
+pub masked-spec : {M : Type 1} → statement M
+masked-spec =
+    tie.close
+    (tie.spec
+    returns
+    add-result
+    sub-result
+    returns-2
+    add-result-2
+    add-result-3
+    sub-result-2
+    returns-3
+    rem-result
+    rem-result-2
+    add-result-4
+    add-result-5
+    add-result-6
+    sub-result-3
+    returns-4)

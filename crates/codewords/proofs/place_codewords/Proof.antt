@@ -1,0 +1,81 @@
+use Rattle.codewords.specs.Inner.{moduleOf}
+use mathlib.Core.List.{List}
+use Rattle.codewords.proofs.Masks.{mask-place, row-le, column-le, first-place}
+use Rattle.codewords.proofs.Bits.{length-front}
+use Rattle.codewords.proofs.Placement.{Placing, placing-begun, placing-more, placing-done, rest-next}
+use Rattle.codewords.specs.Inner.{OnSide}
+use Rattle.codewords.specs.Codewords.{maskAt, maskBit, bitsOf}
+use lib.Bits.{bitXor}
+use lib.ListN.{length, getD, take, drop}
+use Prim.Native.Nat.{ℕ, _+_, _-_, _*_, _/_, _%_, _^_, _<_, _≤_}
+use mathlib.Core.Path.{_≡_, refl, sym, ap, ap₂, subst, _∙_}
+use native.Mathlib.Omega.{arith}
+use borrow.Author.Needs.{needs}
+use Rattle.codewords.proofs.place_codewords.Statement.{statement}
+use Rattle.codewords.proofs.place_codewords.Tie as tie
+use Rattle.codewords.proofs.place_codewords.Reads as reads
+use Rattle.codewords.proofs.place_codewords.Lts as lts
+use Rattle.codewords.proofs.module_of.Reads as module-of-reads
+use Rattle.codewords.proofs.next_bit.Reads as next-bit-reads
+use Rattle.codewords.proofs.next_place.Reads as next-place-reads
+
+abbrev Inv-loop : tie.InvT-loop
+Inv-loop square₀ kinds codewords total side mask place₀ t₀ i₀ square place t i = Placing (maskBit side mask) kinds square₀ square (bitsOf (take total codewords)) (drop t (bitsOf (take total codewords))) i × OnSide side place × (place .at ≡ i) × (t ≤ total * 8)
+
+abbrev μ-loop : tie.MeasureT-loop
+μ-loop square₀ kinds codewords total side mask place₀ t₀ i₀ square place t i = length square₀ - i
+
+loop-holds : tie.Need-loop-holds Inv-loop μ-loop
+loop-holds c = (placing-begun (maskBit (c .before .before .before .args .side) (c .before .before .before .args .mask)) (c .before .before .before .args .kinds .now) (c .before .before .before .args .square .now) (bitsOf (take (c .before .before .before .args .total) (c .before .before .before .args .codewords .now))), record { here = first-place (c .before .before .before .args .side) (c .before .before .before .pre .2); inside = c .before .before .before .pre .2 }, refl, omega arith)
+
+shared-slice-read-kind : tie.Need-shared-slice-read-kind Inv-loop μ-loop
+shared-slice-read-kind c = omega (arith, c .before .before .before .before .before .before .pre .0, c .before .loop-test .taken, c .before .before .loop .inv .0 .size)
+
+module-of-requires : tie.Need-module-of-requires Inv-loop μ-loop
+module-of-requires c κs = (c .before .before .before .before .before .before .pre .3, c .before .before .before .before .before .before .pre .4, omega (arith, row-le (c .before .before .loop .inv .1), c .before .before .loop .inv .2, c .before .loop-test .taken, c .before .before .loop .inv .0 .size, c .before .before .before .before .before .before .pre .1), omega (arith, column-le (c .before .before .loop .inv .1), c .before .before .loop .inv .2, c .before .loop-test .taken, c .before .before .loop .inv .0 .size, c .before .before .before .before .before .before .pre .1))
+
+slice-write-square : tie.Need-slice-write-square Inv-loop μ-loop
+slice-write-square c = c .before .before .loop-test .taken
+
+mul-next-bit : tie.Need-mul-next-bit Inv-loop μ-loop
+mul-next-bit c = omega (arith, c .before .before .before .before .before .before .before .pre .4)
+
+next-bit-requires : tie.Need-next-bit-requires Inv-loop μ-loop
+next-bit-requires c κs = c .before .before .before .loop .inv .3
+
+next-place-requires : tie.Need-next-place-requires Inv-loop μ-loop
+next-place-requires c κs = (c .before .before .before .before .loop .inv .1, omega (arith, c .before .before .before .before .loop .inv .2, c .before .before .before .loop-test .taken, c .before .before .before .before .loop .inv .0 .size, c .before .before .before .before .before .before .before .before .pre .1))
+
+add-i : tie.Need-add-i Inv-loop μ-loop
+add-i c = omega (arith, c .before .before .before .before .loop-test .taken, c .before .before .before .before .before .loop .inv .0 .size, c .before .before .before .before .before .before .before .before .before .pre .1)
+
+loop-less : tie.Need-loop-less Inv-loop μ-loop
+loop-less c = omega (arith, c .before .before .before .before .loop-test .taken, c .before .before .before .before .before .loop .inv .0 .size)
+
+loop-again : tie.Need-loop-again Inv-loop μ-loop
+loop-again c = (placing-more (maskBit (c .before .before .before .before .before .before .before .before .before .args .side) (c .before .before .before .before .before .before .before .before .before .args .mask)) (c .before .before .before .before .before .loop .inv .0) (c .before .before .before .before .before .before .before .before .before .pre .0) (omega (arith, c .before .before .before .before .loop-test .taken, c .before .before .before .before .before .loop .inv .0 .size)) (c .before .before .module-of .ensures ∙ ap (λ (b : ℕ). moduleOf b (getD (c .before .before .before .before .before .before .before .before .before .args .kinds .now) (c .before .before .before .before .before .loop .i) 0) (drop (c .before .before .before .before .before .loop .t) (bitsOf (take (c .before .before .before .before .before .before .before .before .before .args .total) (c .before .before .before .before .before .before .before .before .before .args .codewords .now))))) (sym (mask-place (c .before .before .before .before .before .before .before .before .before .args .side) (c .before .before .before .before .before .before .before .before .before .args .mask) (c .before .before .before .before .before .loop .inv .1)) ∙ ap (maskBit (c .before .before .before .before .before .before .before .before .before .args .side) (c .before .before .before .before .before .before .before .before .before .args .mask)) (c .before .before .before .before .before .loop .inv .2))) (rest-next (getD (c .before .before .before .before .before .before .before .before .before .args .kinds .now) (c .before .before .before .before .before .loop .i) 0) (c .before .before .before .before .before .loop .t) (c .before .next-bit .result) (bitsOf (take (c .before .before .before .before .before .before .before .before .before .args .total) (c .before .before .before .before .before .before .before .before .before .args .codewords .now))) (let l = length-front (c .before .before .before .before .before .before .before .before .before .args .total) (c .before .before .before .before .before .before .before .before .before .args .codewords .now) (c .before .before .before .before .before .before .before .before .before .pre .3) in (λ e h. c .before .next-bit .ensures .1 .0 e (omega arith), c .before .next-bit .ensures .1 .1, λ h. c .before .next-bit .ensures .1 .2 (omega arith)))), c .next-place .ensures .0, omega (arith, c .next-place .ensures .1, c .before .before .before .before .before .loop .inv .2), c .before .next-bit .ensures .0)
+
+same-length : tie.Need-same-length Inv-loop μ-loop
+same-length c = c .before .loop .inv .0 .size
+
+returns : tie.Need-returns Inv-loop μ-loop
+returns c = placing-done (maskBit (c .before .before .before .before .before .args .side) (c .before .before .before .before .before .args .mask)) (c .before .loop .inv .0) (c .before .before .before .before .before .pre .0) (omega (arith, c .loop-test .left, c .before .loop .inv .0 .size))
+
+pub place-codewords-spec : {M : Type 1} → statement M
+place-codewords-spec =
+    tie.close
+    (tie.spec
+    Inv-loop
+    μ-loop
+    loop-holds
+    shared-slice-read-kind
+    module-of-requires
+    slice-write-square
+    mul-next-bit
+    next-bit-requires
+    next-place-requires
+    add-i
+    loop-less
+    loop-again
+    same-length
+    returns)

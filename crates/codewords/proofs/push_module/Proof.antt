@@ -1,0 +1,54 @@
+use lib.Bits.{xor-lt}
+use lib.Bits.{bitXor}
+use lib.ListN.{length, getD, take, drop}
+use Prim.Native.Nat.{ℕ, _+_, _-_, _*_, _/_, _%_, _^_, _<_, _≤_}
+use mathlib.Core.Path.{_≡_, refl, sym, ap, ap₂, subst, _∙_}
+use native.Mathlib.Omega.{arith}
+use borrow.Author.Needs.{needs}
+use Rattle.codewords.proofs.push_module.Statement.{statement}
+use Rattle.codewords.proofs.push_module.Tie as tie
+use Rattle.codewords.proofs.push_module.Reads as reads
+use Rattle.codewords.proofs.push_module.Lts as lts
+use Rattle.codewords.proofs.masked.Reads as masked-reads
+use Rattle.codewords.proofs.wide.Reads as wide-reads
+
+returns : tie.Need-returns
+returns c = record { hit = λ e. absurd (c .if1 .taken e); miss = λ n. (refl, refl) }
+
+add-masked : tie.Need-add-masked
+add-masked c = search needs
+
+add-masked-2 : tie.Need-add-masked-2
+add-masked-2 c = search needs
+
+masked-requires : tie.Need-masked-requires
+masked-requires c κs = (omega arith, omega (arith, c .before .before .before .pre .3), omega arith, omega (arith, c .before .before .before .pre .4))
+
+mul-t8 : tie.Need-mul-t8
+mul-t8 c = omega (arith, c .before .before .before .before .before .pre .0)
+
+wide-requires : tie.Need-wide-requires
+wide-requires c κs = search needs
+
+add-t11 : tie.Need-add-t11
+add-t11 c = omega (arith, c .before .before .before .before .before .before .pre .0, xor-lt 1 (c .wide .result) (c .before .before .masked .result) (omega (arith, c .wide .ensures, c .before .before .before .before .before .before .pre .2)) (c .before .before .masked .ensures .1))
+
+add-t12 : tie.Need-add-t12
+add-t12 c = omega (arith, c .before .before .before .before .before .before .before .pre .1)
+
+returns-2 : tie.Need-returns-2
+returns-2 c = record { hit = λ e. (ap (λ (n : ℕ). c .before .before .before .before .before .before .before .args .byte .value * 2 + n) (ap₂ bitXor (c .before .wide .ensures) (c .before .before .before .masked .ensures .0)), refl); miss = λ n. absurd (n (c .before .before .before .before .before .before .if1 .left)) }
+
+pub push-module-spec : {M : Type 1} → statement M
+push-module-spec =
+    tie.close
+    (tie.spec
+    returns
+    add-masked
+    add-masked-2
+    masked-requires
+    mul-t8
+    wide-requires
+    add-t11
+    add-t12
+    returns-2)

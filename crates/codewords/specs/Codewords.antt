@@ -1,0 +1,94 @@
+-- Document 01, "Codewords" (000: `masked`, first half of `decode_data`): from a square to its stream of codewords, and back.
+use mathlib.Core.List.{List, [], _∷_, _++_, map}
+use Prim.Native.Nat.{ℕ, zero, suc, _+_, _-_, _*_, _/_, _%_, _^_}
+use lib.Bits.{bitXor}
+use lib.ListN.{length, getD, set, take, drop, replicate}
+
+-- Masks: 1 where the module is inverted.
+
+-- the mask at i = row + 1 and j = column + 1
+unfoldable pub maskAt : ℕ → ℕ → ℕ → ℕ
+maskAt zero i j = 0
+maskAt (suc zero) i j = 1 - (i + j) % 2
+maskAt (suc (suc zero)) i j = 1 - ((i + j) % 3 + j % 3) % 2
+maskAt (suc (suc (suc mask))) i j = 1 - (i % j + j % i + i % 3 + j % 3) % 2
+
+-- the mask at a place of a square of side s
+unfoldable pub maskBit : ℕ → ℕ → ℕ → ℕ
+maskBit s mask at = maskAt mask (at / s + 1) (at % s + 1)
+
+-- Bits, high bit first.
+
+-- the n low bits of a number
+unfoldable pub numBits : ℕ → ℕ → List ℕ
+numBits zero v = []
+numBits (suc n) v = (v / 2 ^ n % 2) ∷ numBits n v
+
+-- the bits of codewords
+unfoldable pub bitsOf : List ℕ → List ℕ
+bitsOf [] = []
+bitsOf (c ∷ cs) = numBits 8 c ++ bitsOf cs
+
+-- the number that bits say behind the number a
+unfoldable pub value : ℕ → List ℕ → ℕ
+value a [] = a
+value a (b ∷ bs) = value (a * 2 + b) bs
+
+-- the first n codewords of bits
+unfoldable pub codewordsOf : ℕ → List ℕ → List ℕ
+codewordsOf zero bs = []
+codewordsOf (suc n) bs = value 0 (take 8 bs) ∷ codewordsOf n (drop 8 bs)
+
+-- Placement: kinds are those of the layout, 0 data, 1 information, 2 light, 3 dark; m is the mask by place, i the first place.
+
+-- the data modules of a square, row by row, unmasked
+unfoldable pub dataBits : (ℕ → ℕ) → ℕ → List ℕ → List ℕ → List ℕ
+dataBits m i [] sq = []
+dataBits m i (k ∷ ks) [] = []
+dataBits m i (zero ∷ ks) (b ∷ sq) = bitXor b (m i) ∷ dataBits m (suc i) ks sq
+dataBits m i (suc k ∷ ks) (b ∷ sq) = dataBits m (suc i) ks sq
+
+-- a square of data bits: leftover data modules are light, and the information modules too until the word is written
+unfoldable pub placed : (ℕ → ℕ) → ℕ → List ℕ → List ℕ → List ℕ
+placed m i [] ds = []
+placed m i (zero ∷ ks) [] = 0 ∷ placed m (suc i) ks []
+placed m i (zero ∷ ks) (d ∷ ds) = bitXor d (m i) ∷ placed m (suc i) ks ds
+placed m i (suc zero ∷ ks) ds = 0 ∷ placed m (suc i) ks ds
+placed m i (suc (suc zero) ∷ ks) ds = 0 ∷ placed m (suc i) ks ds
+placed m i (suc (suc (suc k)) ∷ ks) ds = 1 ∷ placed m (suc i) ks ds
+
+-- Interleave: the codewords of a square go to stream places 0, 13, 26, .., then 1, 14, .. up to start 12.
+
+-- n places from p on, 13 apart
+unfoldable pub steps : ℕ → ℕ → List ℕ
+steps p zero = []
+steps p (suc n) = p ∷ steps (p + 13) n
+
+-- the places below total from k starts: start, start + 1, ..
+unfoldable pub starts : ℕ → ℕ → ℕ → List ℕ
+starts total start zero = []
+starts total start (suc k) = steps start ((total + 12 - start) / 13) ++ starts total (suc start) k
+
+-- the stream place of each codeword
+unfoldable pub order : ℕ → List ℕ
+order total = starts total 0 13
+
+-- the i-th codeword is stored at the i-th place
+unfoldable pub storeAt : List ℕ → List ℕ → List ℕ → List ℕ
+storeAt [] cs s = s
+storeAt (p ∷ ps) [] s = s
+storeAt (p ∷ ps) (c ∷ cs) s = storeAt ps cs (set s p c)
+
+-- the stream of the codewords of a square, and the codewords of a stream
+unfoldable pub streamOf : List ℕ → List ℕ
+streamOf cs = storeAt (order (length cs)) cs (replicate (length cs) 0)
+
+unfoldable pub interleaved : List ℕ → List ℕ
+interleaved s = map (λ p. getD s p 0) (order (length s))
+
+-- the stream of a square, and the square of a stream
+unfoldable pub streamIn : ℕ → (ℕ → ℕ) → List ℕ → List ℕ → List ℕ
+streamIn total m ks sq = streamOf (codewordsOf total (dataBits m 0 ks sq))
+
+unfoldable pub squareOf : (ℕ → ℕ) → List ℕ → List ℕ → List ℕ
+squareOf m ks s = placed m 0 ks (bitsOf (interleaved s))

@@ -1,0 +1,3 @@
+-- Document 01: "Codewords".
+pub mod Codewords
+pub mod Inner

@@ -1,0 +1,37 @@
+use Rattle.compare_symbol.specs.Answers.{maskAnswer}
+use mathlib.Core.List.{List}
+use Prim.Native.Nat.{ℕ}
+use lib.ListN.{getD}
+use mathlib.Core.Path.{ap, _∙_}
+use borrow.Author.Tests.{le-leb, lt-leb, lt-ltb, le-ltb}
+use borrow.Author.Needs.{needs}
+use Rattle.compare_symbol.proofs.hx_masked.Statement.{statement}
+use Rattle.compare_symbol.proofs.hx_masked.Tie as tie
+use Rattle.compare_symbol.proofs.hx_masked.Reads as reads
+use Rattle.compare_symbol.proofs.hx_masked.Lts as lts
+use Rattle.codewords.proofs.masked.Reads as masked-reads
+
+returns : tie.Need-returns
+unfolding maskAnswer
+returns c = simp (le-ltb _ _ (c .if1 .taken))
+
+returns-2 : tie.Need-returns-2
+unfolding maskAnswer
+returns-2 c = simp (lt-ltb _ _ (c .before .if1 .left), le-ltb _ _ (c .if2 .taken))
+
+add-masked : tie.Need-add-masked
+add-masked c = search needs
+
+add-masked-2 : tie.Need-add-masked-2
+add-masked-2 c = search needs
+
+masked-requires : tie.Need-masked-requires
+masked-requires c κs = search needs
+
+returns-3 : tie.Need-returns-3
+unfolding maskAnswer
+returns-3 c = simp (lt-ltb _ _ (c .before .before .if1 .left), lt-ltb _ _ (c .before .if2 .left)) (c .masked .ensures .0)
+
+pub hx-masked-spec : {M : Type 1} → statement M
+hx-masked-spec =
+    tie.close (tie.spec returns returns-2 add-masked add-masked-2 masked-requires returns-3)

@@ -1,0 +1,31 @@
+use Rattle.compare_symbol.specs.Answers.{totalAnswer}
+use mathlib.Core.List.{List}
+use Prim.Native.Nat.{ℕ}
+use lib.ListN.{getD}
+use mathlib.Core.Path.{ap, _∙_}
+use borrow.Author.Tests.{le-leb, lt-leb, lt-ltb, le-ltb}
+use Rattle.symbol.specs.Version.{isVersion}
+use borrow.Author.Needs.{needs}
+use Rattle.compare_symbol.proofs.hx_total.Statement.{statement}
+use Rattle.compare_symbol.proofs.hx_total.Tie as tie
+use Rattle.compare_symbol.proofs.hx_total.Reads as reads
+use Rattle.compare_symbol.proofs.hx_total.Lts as lts
+use Rattle.blocks.proofs.total_codewords.Reads as total-codewords-reads
+
+returns : tie.Need-returns
+unfolding totalAnswer isVersion
+returns c = simp (lt-leb _ _ (c .if1 .taken))
+
+returns-2 : tie.Need-returns-2
+unfolding totalAnswer isVersion
+returns-2 c = simp (le-leb _ _ (c .before .if1 .left), lt-leb _ _ (c .if2 .taken))
+
+total-codewords-requires : tie.Need-total-codewords-requires
+total-codewords-requires c κs = search needs
+
+returns-3 : tie.Need-returns-3
+unfolding totalAnswer isVersion
+returns-3 c = simp (le-leb _ _ (c .before .before .if1 .left), le-leb _ _ (c .before .if2 .left)) (c .total-codewords .ensures .0)
+
+pub hx-total-spec : {M : Type 1} → statement M
+hx-total-spec = tie.close (tie.spec returns returns-2 total-codewords-requires returns-3)

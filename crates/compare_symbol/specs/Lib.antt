@@ -1,0 +1,2 @@
+-- What the exports for the comparison answer outside the ranges of what they compare.
+pub mod Answers

@@ -1,0 +1,53 @@
+-- What the functions on information modules need of numbers.
+use mathlib.Core.Path.{_≡_, refl, sym, ap, ap₂, subst, _∙_}
+use mathlib.Core.Bool.{Bool, true, false, cond}
+use mathlib.Core.List.{List}
+use Prim.Native.Nat.{ℕ, zero, suc, _+_, _-_, _*_, _^_, _<_, _≤_}
+use native.Mathlib.Nat.{mul-le-mul, pow-suc}
+use native.Mathlib.Numerals.{add-one}
+use native.Mathlib.Omega.{arith}
+use lib.Dec.{lit<}
+use lib.Pow.{pow-mono}
+use lib.ListN.{getD, set}
+use Rattle.information.specs.Information.{positionRow, positionColumn, infoPosition, numberOf, bitOf, bitsWritten}
+use Rattle.information.proofs.Distinct.{row-lt, column-lt, place-lt}
+
+module _ (s n : ℕ) (big : 23 ≤ s) (hi : s ≤ 189) (h : n < 34) {r : ℕ} (d : r ≡ positionRow n) where
+  pub row-fits : r * s ≤ 1701
+  row-fits = mul-le-mul (let e : r ≤ 9 = omega (arith, d, row-lt s big n) in e) hi
+
+  module _ {c : ℕ} (e : c ≡ positionColumn s n) where
+    pub first-is : r * s + c ≡ infoPosition s false n
+    unfolding infoPosition
+    first-is = ap₂ (λ (x y : ℕ). x * s + y) d e
+
+    pub second-is : s * s - 1 - (r * s + c) ≡ infoPosition s true n
+    unfolding infoPosition
+    second-is = ap (λ (k : ℕ). s * s - 1 - k) (ap₂ (λ (x y : ℕ). x * s + y) d e)
+
+    pub first-lt : r * s + c < s * s
+    first-lt = subst (λ (k : ℕ). k < s * s) (sym first-is) (place-lt s big false n h)
+
+pub square-le : (s : ℕ) → s ≤ 189 → s * s ≤ 35721
+square-le s h = mul-le-mul h h
+
+number-lt : (f : ℕ → ℕ) → ((k : ℕ) → f k < 2) → (n : ℕ) → numberOf f n < 2 ^ n
+unfolding numberOf
+number-lt f b zero = lit< tt
+number-lt f b (suc n) = omega (arith, number-lt f b n, b n, pow-suc 2 n)
+
+pub number-small : (f : ℕ → ℕ) → ((k : ℕ) → f k < 2) → (n : ℕ) → n ≤ 34 → numberOf f n < 17179869184
+number-small f b n h = omega (arith, number-lt f b n, pow-mono {i = n} {j = 34} h)
+
+pub number-more : (f : ℕ → ℕ) (n : ℕ) {w x : ℕ} → w ≡ numberOf f n → x ≡ f n → w * 2 + x ≡ numberOf f (n + 1)
+unfolding numberOf
+number-more f n e d = ap₂ (λ (a b : ℕ). a * 2 + b) e d ∙ ap (numberOf f) (sym (add-one n))
+
+pub write-more : (s : ℕ) (b : Bool) (w n : ℕ) (g₀ : List ℕ) {g : List ℕ} {i x : ℕ} → g ≡ bitsWritten s b w n g₀ → i ≡ infoPosition s b n → x ≡ bitOf w n → set g i x ≡ bitsWritten s b w (n + 1) g₀
+unfolding bitsWritten
+write-more s b w n g₀ {g} {i} {x} e d f =
+    ap (λ (l : List ℕ). set l i x) e ∙ ap₂ (λ (j y : ℕ). set (bitsWritten s b w n g₀) j y) d f ∙ ap (λ (m : ℕ). bitsWritten s b w m g₀) (sym (add-one n))
+
+-- by the flag of a copy
+pub by-copy : (s n i : ℕ) (b t : Bool) → b ≡ t → i ≡ infoPosition s t n → i ≡ infoPosition s b n
+by-copy s n i b t e d = d ∙ ap (λ (c : Bool). infoPosition s c n) (sym e)

@@ -1,0 +1,9 @@
+pub mod Xor
+pub mod Apart
+pub mod Products
+pub mod Distinct
+pub mod Read
+pub mod Kind
+pub mod Copies
+pub mod Flips
+pub mod Theorems

@@ -1,0 +1,56 @@
+use Rattle.information.proofs.Products.{one-more}
+use Rattle.information.specs.Information.{productFrom, gf16Mul}
+use Prim.Native.Nat.{ℕ, _+_, _-_, _*_, _/_, _%_, _<_, _≤_}
+use mathlib.Core.Path.{_≡_, refl, sym, ap, ap₂, subst, _∙_}
+use borrow.Author.Needs.{needs}
+use native.Mathlib.Omega.{arith}
+use borrow.Author.Tests.{lt-ltb, le-ltb, le-leb, lt-leb, eq-eqb, ne-eqb}
+use Rattle.information.proofs.gf16_mul.Statement.{statement}
+use Rattle.information.proofs.gf16_mul.Tie as tie
+use Rattle.information.proofs.gf16_mul.Reads as reads
+use Rattle.information.proofs.gf16_mul.Lts as lts
+use Rattle.information.proofs.plus_if_odd.Reads as plus-if-odd-reads
+use Rattle.information.proofs.times_x.Reads as times-x-reads
+
+abbrev Inv-loop : tie.InvT-loop
+Inv-loop x y p₀ a₀ b₀ i₀ p a b i = (p < 16) × (a < 16) × (b < 16) × (i ≤ 4) × (productFrom (4 - i) p a b ≡ gf16Mul x y)
+
+abbrev μ-loop : tie.MeasureT-loop
+μ-loop x y p₀ a₀ b₀ i₀ p a b i = 4 - i
+
+loop-holds : tie.Need-loop-holds Inv-loop μ-loop
+unfolding gf16Mul
+loop-holds c = (omega arith, omega arith, omega arith, omega arith, refl)
+
+plus-if-odd-requires : tie.Need-plus-if-odd-requires Inv-loop μ-loop
+plus-if-odd-requires c κs = search needs
+
+times-x-requires : tie.Need-times-x-requires Inv-loop μ-loop
+times-x-requires c κs = search needs
+
+add-i : tie.Need-add-i Inv-loop μ-loop
+add-i c = omega arith
+
+loop-less : tie.Need-loop-less Inv-loop μ-loop
+loop-less c = omega arith
+
+loop-again : tie.Need-loop-again Inv-loop μ-loop
+loop-again c = (c .before .plus-if-odd .ensures .1, c .times-x .ensures .1, omega arith, omega arith, sym (one-more (c .before .before .before .loop .p) (c .before .before .before .loop .a) (c .before .before .before .loop .b) (c .before .before .before .loop .i) (c .before .before .loop-test .taken) (c .before .plus-if-odd .ensures .0) (c .times-x .ensures .0)) ∙ c .before .before .before .loop .inv .4)
+
+returns : tie.Need-returns Inv-loop μ-loop
+unfolding productFrom
+returns c = let e : 4 - c .before .loop .i ≡ 0 = omega arith in let q : productFrom (4 - c .before .loop .i) (c .before .loop .p) (c .before .loop .a) (c .before .loop .b) ≡ gf16Mul (c .before .before .args .x) (c .before .before .args .y) = c .before .loop .inv .4 in (rw e at q, c .before .loop .inv .0)
+
+pub gf16-mul-spec : {M : Type 1} → statement M
+gf16-mul-spec =
+    tie.close
+    (tie.spec
+    Inv-loop
+    μ-loop
+    loop-holds
+    plus-if-odd-requires
+    times-x-requires
+    add-i
+    loop-less
+    loop-again
+    returns)

@@ -1,0 +1,69 @@
+use Rattle.information.specs.Information.{wordOf, dataOf, infoBits, isInfo, infoRefusal, infoWord}
+use Rattle.symbol.specs.Version.{isVersion}
+use mathlib.Core.Path.{ap, _∙_}
+use borrow.Author.Tests.{le-leb, lt-leb}
+use borrow.Author.Needs.{needs}
+use Rattle.information.proofs.info_bits.Statement.{statement}
+use Rattle.information.proofs.info_bits.Tie as tie
+use Rattle.information.proofs.info_bits.Reads as reads
+use Rattle.information.proofs.info_bits.Lts as lts
+use Rattle.information.proofs.wide.Reads as wide-reads
+use Rattle.information.proofs.word_of.Reads as word-of-reads
+
+returns : tie.Need-returns
+unfolding infoRefusal infoWord isInfo isVersion
+returns c = (simp (lt-leb _ _ (c .if1 .taken)), simp (lt-leb _ _ (c .if1 .taken)))
+
+returns-2 : tie.Need-returns-2
+unfolding infoRefusal infoWord isInfo isVersion
+returns-2 c = (simp (le-leb _ _ (c .before .if1 .left), lt-leb _ _ (c .if2 .taken)), simp (le-leb _ _ (c .before .if1 .left), lt-leb _ _ (c .if2 .taken)))
+
+returns-3 : tie.Need-returns-3
+unfolding infoRefusal infoWord isInfo isVersion
+returns-3 c = (simp (le-leb _ _ (c .before .before .if1 .left), le-leb _ _ (c .before .if2 .left), lt-leb _ _ (c .if3 .taken)), simp (le-leb _ _ (c .before .before .if1 .left), le-leb _ _ (c .before .if2 .left), lt-leb _ _ (c .if3 .taken)))
+
+returns-4 : tie.Need-returns-4
+unfolding infoRefusal infoWord isInfo isVersion
+returns-4 c = (simp (le-leb _ _ (c .before .before .before .if1 .left), le-leb _ _ (c .before .before .if2 .left), le-leb _ _ (c .before .if3 .left), lt-leb _ _ (c .if4 .taken)), simp (le-leb _ _ (c .before .before .before .if1 .left), le-leb _ _ (c .before .before .if2 .left), le-leb _ _ (c .before .if3 .left), lt-leb _ _ (c .if4 .taken)))
+
+add-wide : tie.Need-add-wide
+add-wide c = search needs
+
+mul-wide : tie.Need-mul-wide
+mul-wide c = search needs
+
+mul-wide-2 : tie.Need-mul-wide-2
+mul-wide-2 c = search needs
+
+add-wide-2 : tie.Need-add-wide-2
+add-wide-2 c = search needs
+
+add-wide-3 : tie.Need-add-wide-3
+add-wide-3 c = search needs
+
+wide-requires : tie.Need-wide-requires
+wide-requires c κs = search needs
+
+word-of-requires : tie.Need-word-of-requires
+word-of-requires c κs = search needs
+
+returns-5 : tie.Need-returns-5
+unfolding infoRefusal infoWord isInfo isVersion infoBits dataOf
+returns-5 c = (simp (le-leb _ _ (c .before .before .before .before .before .if1 .left), le-leb _ _ (c .before .before .before .before .if2 .left), le-leb _ _ (c .before .before .before .if3 .left), le-leb _ _ (c .before .before .if4 .left)), simp (le-leb _ _ (c .before .before .before .before .before .if1 .left), le-leb _ _ (c .before .before .before .before .if2 .left), le-leb _ _ (c .before .before .before .if3 .left), le-leb _ _ (c .before .before .if4 .left)) (c .word-of .ensures ∙ ap wordOf (c .before .wide .ensures)))
+
+pub info-bits-spec : {M : Type 1} → statement M
+info-bits-spec =
+    tie.close
+    (tie.spec
+    returns
+    returns-2
+    returns-3
+    returns-4
+    add-wide
+    mul-wide
+    mul-wide-2
+    add-wide-2
+    add-wide-3
+    wide-requires
+    word-of-requires
+    returns-5)

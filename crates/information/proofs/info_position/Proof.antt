@@ -1,0 +1,55 @@
+use mathlib.Core.Bool.{true, false}
+use Rattle.symbol.proofs.Coordinates.{square-le}
+use Rattle.information.proofs.Copies.{row-fits, first-is, second-is, first-lt, by-copy}
+use Prim.Native.Nat.{ℕ, _+_, _-_, _*_, _/_, _%_, _<_, _≤_}
+use mathlib.Core.Path.{_≡_, refl, sym, ap, ap₂, subst, _∙_}
+use native.Mathlib.Omega.{arith}
+use borrow.Author.Tests.{lt-ltb, le-ltb, le-leb, lt-leb, eq-eqb, ne-eqb}
+use borrow.Author.Needs.{needs}
+use Rattle.information.proofs.info_position.Statement.{statement}
+use Rattle.information.proofs.info_position.Tie as tie
+use Rattle.information.proofs.info_position.Reads as reads
+use Rattle.information.proofs.info_position.Lts as lts
+use Rattle.information.proofs.position_column.Reads as position-column-reads
+use Rattle.information.proofs.position_row.Reads as position-row-reads
+
+position-row-requires : tie.Need-position-row-requires
+position-row-requires c κs = search needs
+
+mul-i : tie.Need-mul-i
+mul-i c = omega (arith, row-fits (c .before .args .side) (c .before .args .n) (c .before .pre .0) (c .before .pre .1) (c .before .pre .2) (c .position-row .ensures))
+
+position-column-requires : tie.Need-position-column-requires
+position-column-requires c κs = search needs
+
+add-i : tie.Need-add-i
+add-i c = omega (arith, first-lt (c .before .before .args .side) (c .before .before .args .n) (c .before .before .pre .0) (c .before .before .pre .1) (c .before .before .pre .2) (c .before .position-row .ensures) (c .position-column .ensures), square-le (c .before .before .args .side) (c .before .before .pre .1))
+
+mul-result : tie.Need-mul-result
+mul-result c = omega (arith, square-le (c .before .before .before .args .side) (c .before .before .before .pre .1))
+
+sub-result : tie.Need-sub-result
+sub-result c = omega (arith, first-lt (c .before .before .before .args .side) (c .before .before .before .args .n) (c .before .before .before .pre .0) (c .before .before .before .pre .1) (c .before .before .before .pre .2) (c .before .before .position-row .ensures) (c .before .position-column .ensures))
+
+sub-result-2 : tie.Need-sub-result-2
+sub-result-2 c = omega (arith, first-lt (c .before .before .before .args .side) (c .before .before .before .args .n) (c .before .before .before .pre .0) (c .before .before .before .pre .1) (c .before .before .before .pre .2) (c .before .before .position-row .ensures) (c .before .position-column .ensures))
+
+returns : tie.Need-returns
+returns c = (by-copy (c .before .before .before .args .side) (c .before .before .before .args .n) _ (c .before .before .before .args .second) true (c .if1 .taken) (second-is (c .before .before .before .args .side) (c .before .before .before .args .n) (c .before .before .before .pre .0) (c .before .before .before .pre .1) (c .before .before .before .pre .2) (c .before .before .position-row .ensures) (c .before .position-column .ensures)), omega (arith, first-lt (c .before .before .before .args .side) (c .before .before .before .args .n) (c .before .before .before .pre .0) (c .before .before .before .pre .1) (c .before .before .before .pre .2) (c .before .before .position-row .ensures) (c .before .position-column .ensures)))
+
+returns-2 : tie.Need-returns-2
+returns-2 c = (by-copy (c .before .before .before .args .side) (c .before .before .before .args .n) _ (c .before .before .before .args .second) false (c .if1 .left) (first-is (c .before .before .before .args .side) (c .before .before .before .args .n) (c .before .before .before .pre .0) (c .before .before .before .pre .1) (c .before .before .before .pre .2) (c .before .before .position-row .ensures) (c .before .position-column .ensures)), omega (arith, first-lt (c .before .before .before .args .side) (c .before .before .before .args .n) (c .before .before .before .pre .0) (c .before .before .before .pre .1) (c .before .before .before .pre .2) (c .before .before .position-row .ensures) (c .before .position-column .ensures)))
+
+pub info-position-spec : {M : Type 1} → statement M
+info-position-spec =
+    tie.close
+    (tie.spec
+    position-row-requires
+    mul-i
+    position-column-requires
+    add-i
+    mul-result
+    sub-result
+    sub-result-2
+    returns
+    returns-2)

@@ -1,0 +1,29 @@
+use Rattle.information.specs.Information.{nearestRefusal, nearestLevel, nearestMask, nearestDistance}
+use Rattle.symbol.specs.Version.{isVersion}
+use Prim.Native.Nat.{ℕ, _/_, _%_}
+use mathlib.Core.Path.{refl, ap, _∙_}
+use borrow.Author.Tests.{le-leb, lt-leb}
+use borrow.Author.Needs.{needs}
+use Rattle.information.proofs.nearest_info.Statement.{statement}
+use Rattle.information.proofs.nearest_info.Tie as tie
+use Rattle.information.proofs.nearest_info.Reads as reads
+use Rattle.information.proofs.nearest_info.Lts as lts
+use Rattle.information.proofs.nearest_word.Reads as nearest-word-reads
+
+returns : tie.Need-returns
+unfolding nearestRefusal nearestLevel nearestMask nearestDistance isVersion
+returns c = (simp (lt-leb _ _ (c .if1 .taken)), simp (lt-leb _ _ (c .if1 .taken)), simp (lt-leb _ _ (c .if1 .taken)), simp (lt-leb _ _ (c .if1 .taken)))
+
+returns-2 : tie.Need-returns-2
+unfolding nearestRefusal nearestLevel nearestMask nearestDistance isVersion
+returns-2 c = (simp (le-leb _ _ (c .before .if1 .left), lt-leb _ _ (c .if2 .taken)), simp (le-leb _ _ (c .before .if1 .left), lt-leb _ _ (c .if2 .taken)), simp (le-leb _ _ (c .before .if1 .left), lt-leb _ _ (c .if2 .taken)), simp (le-leb _ _ (c .before .if1 .left), lt-leb _ _ (c .if2 .taken)))
+
+nearest-word-requires : tie.Need-nearest-word-requires
+nearest-word-requires c κs = search needs
+
+returns-3 : tie.Need-returns-3
+unfolding nearestRefusal nearestLevel nearestMask nearestDistance isVersion
+returns-3 c = (simp (le-leb _ _ (c .before .before .before .before .if1 .left), le-leb _ _ (c .before .before .before .if2 .left)), simp (le-leb _ _ (c .before .before .before .before .if1 .left), le-leb _ _ (c .before .before .before .if2 .left)) (ap (λ (n : ℕ). n / 4) (c .before .before .nearest-word .ensures .word-is)), simp (le-leb _ _ (c .before .before .before .before .if1 .left), le-leb _ _ (c .before .before .before .if2 .left)) (ap (λ (n : ℕ). n % 4) (c .before .before .nearest-word .ensures .word-is)), simp (le-leb _ _ (c .before .before .before .before .if1 .left), le-leb _ _ (c .before .before .before .if2 .left)) (c .before .before .nearest-word .ensures .at))
+
+pub nearest-info-spec : {M : Type 1} → statement M
+nearest-info-spec = tie.close (tie.spec returns returns-2 nearest-word-requires returns-3)

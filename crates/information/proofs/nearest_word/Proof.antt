@@ -1,0 +1,90 @@
+use lib.Bits.{bitXor}
+use lib.Count.{ones}
+use Rattle.information.proofs.Products.{least-more}
+use Rattle.information.proofs.Apart.{first-word, distance-at}
+use Rattle.information.specs.Inner.{Found, differences}
+use Rattle.information.specs.Information.{distance, leastOf, nearest}
+use Prim.Native.Nat.{ℕ, _+_, _-_, _*_, _<_, _≤_}
+use mathlib.Core.Path.{_≡_, refl, sym, ap, subst, _∙_}
+use native.Mathlib.Omega.{arith}
+use borrow.Author.Needs.{needs}
+use Rattle.information.proofs.nearest_word.Statement.{statement}
+use Rattle.information.proofs.nearest_word.Tie as tie
+use Rattle.information.proofs.nearest_word.Reads as reads
+use Rattle.information.proofs.nearest_word.Lts as lts
+use Rattle.information.proofs.distance.Reads as distance-reads
+use Rattle.information.proofs.nearer.Reads as nearer-reads
+use Rattle.information.proofs.wide.Reads as wide-reads
+use Rattle.information.proofs.word_of.Reads as word-of-reads
+
+abbrev Inv-loop : tie.InvT-loop
+Inv-loop version first second differences word best₀ k₀ best k = (k ≤ 15) × Found (distance version first second) (leastOf (distance version first second) k) best
+
+abbrev μ-loop : tie.MeasureT-loop
+μ-loop version first second differences word best₀ k₀ best k = 15 - k
+
+add-wide : tie.Need-add-wide Inv-loop μ-loop
+add-wide c = omega arith
+
+mul-wide : tie.Need-mul-wide Inv-loop μ-loop
+mul-wide c = omega arith
+
+wide-requires : tie.Need-wide-requires Inv-loop μ-loop
+wide-requires c κs = search needs
+
+word-of-requires : tie.Need-word-of-requires Inv-loop μ-loop
+word-of-requires c κs = omega (arith, c .wide .ensures)
+
+distance-requires : tie.Need-distance-requires Inv-loop μ-loop
+distance-requires c κs = search needs
+
+loop-holds : tie.Need-loop-holds Inv-loop μ-loop
+unfolding leastOf distance
+loop-holds c = (omega arith, record { word-is = refl; at = c .distance .ensures .0 ∙ ap (λ (n : ℕ). ones (bitXor n (c .before .before .before .args .first)) + ones (bitXor n (c .before .before .before .args .second))) (first-word (c .before .before .before .args .version) (c .before .before .before .pre) (c .before .word-of .ensures) (c .before .before .wide .ensures)); small = omega arith })
+
+add-k : tie.Need-add-k Inv-loop μ-loop
+add-k c = omega arith
+
+mul-distance : tie.Need-mul-distance Inv-loop μ-loop
+mul-distance c = omega arith
+
+array-read-distance : tie.Need-array-read-distance Inv-loop μ-loop
+array-read-distance c = omega arith
+
+distance-requires-2 : tie.Need-distance-requires-2 Inv-loop μ-loop
+distance-requires-2 c κs = search needs
+
+nearer-requires : tie.Need-nearer-requires Inv-loop μ-loop
+nearer-requires c κs = search needs
+
+loop-less : tie.Need-loop-less Inv-loop μ-loop
+loop-less c = omega arith
+
+loop-again : tie.Need-loop-again Inv-loop μ-loop
+unfolding differences
+loop-again c = (omega arith, least-more (distance (c .before .before .before .before .before .before .before .args .version) (c .before .before .before .before .before .before .before .args .first) (c .before .before .before .before .before .before .before .args .second)) (c .before .before .before .loop .k) (c .before .distance2 .result) (c .before .before .before .loop .inv .1) (c .before .distance2 .ensures .0 ∙ distance-at (c .before .before .before .before .before .before .before .args .version) (c .before .before .before .loop .k + 1) (c .before .before .before .before .before .before .before .args .first) (c .before .before .before .before .before .before .before .args .second) (c .before .before .before .before .before .before .before .pre) (omega arith) (first-word (c .before .before .before .before .before .before .before .args .version) (c .before .before .before .before .before .before .before .pre) (c .before .before .before .before .before .word-of .ensures) (c .before .before .before .before .before .before .wide .ensures))) (omega arith) (c .nearer .ensures))
+
+returns : tie.Need-returns Inv-loop μ-loop
+unfolding nearest
+returns c = let e : c .before .loop .k ≡ 15 = omega arith in subst (λ (n : ℕ). Found (distance (c .before .before .before .before .before .args .version) (c .before .before .before .before .before .args .first) (c .before .before .before .before .before .args .second)) (leastOf (distance (c .before .before .before .before .before .args .version) (c .before .before .before .before .before .args .first) (c .before .before .before .before .before .args .second)) n) (c .before .loop .best)) e (c .before .loop .inv .1)
+
+pub nearest-word-spec : {M : Type 1} → statement M
+nearest-word-spec =
+    tie.close
+    (tie.spec
+    Inv-loop
+    μ-loop
+    add-wide
+    mul-wide
+    wide-requires
+    word-of-requires
+    distance-requires
+    loop-holds
+    add-k
+    mul-distance
+    array-read-distance
+    distance-requires-2
+    nearer-requires
+    loop-less
+    loop-again
+    returns)

@@ -1,0 +1,22 @@
+use lib.Bits.{xor-lt}
+use Rattle.information.specs.Information.{plusIfOdd}
+use Prim.Native.Nat.{ℕ, _+_, _-_, _*_, _/_, _%_, _<_, _≤_}
+use mathlib.Core.Path.{_≡_, refl, sym, ap, ap₂, subst, _∙_}
+use borrow.Author.Needs.{needs}
+use native.Mathlib.Omega.{arith}
+use borrow.Author.Tests.{lt-ltb, le-ltb, le-leb, lt-leb, eq-eqb, ne-eqb}
+use Rattle.information.proofs.plus_if_odd.Statement.{statement}
+use Rattle.information.proofs.plus_if_odd.Tie as tie
+use Rattle.information.proofs.plus_if_odd.Reads as reads
+use Rattle.information.proofs.plus_if_odd.Lts as lts
+
+returns : tie.Need-returns
+unfolding plusIfOdd
+returns c = (simp (eq-eqb _ _ (c .if1 .taken)), xor-lt 4 (c .before .args .p) (c .before .args .a) (c .before .pre .0) (c .before .pre .1))
+
+returns-2 : tie.Need-returns-2
+unfolding plusIfOdd
+returns-2 c = (simp (ne-eqb _ _ (c .if1 .left)), c .before .pre .0)
+
+pub plus-if-odd-spec : {M : Type 1} → statement M
+plus-if-odd-spec = tie.close (tie.spec returns returns-2)

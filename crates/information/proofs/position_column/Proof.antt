@@ -1,0 +1,51 @@
+use Rattle.information.specs.Information.{positionColumn}
+use Prim.Native.Nat.{ℕ, _+_, _-_, _*_, _/_, _%_, _<_, _≤_}
+use mathlib.Core.Path.{_≡_, refl, sym, ap, ap₂, subst, _∙_}
+use native.Mathlib.Omega.{arith}
+use borrow.Author.Tests.{lt-ltb, le-ltb, le-leb, lt-leb, eq-eqb, ne-eqb}
+use borrow.Author.Needs.{needs}
+use Rattle.information.proofs.position_column.Statement.{statement}
+use Rattle.information.proofs.position_column.Tie as tie
+use Rattle.information.proofs.position_column.Reads as reads
+use Rattle.information.proofs.position_column.Lts as lts
+
+returns : tie.Need-returns
+unfolding positionColumn
+returns c = simp (lt-ltb _ _ (c .if1 .taken))
+
+returns-2 : tie.Need-returns-2
+unfolding positionColumn
+returns-2 c = simp (le-ltb _ _ (c .before .if1 .left), lt-ltb _ _ (c .if2 .taken))
+
+sub-result : tie.Need-sub-result
+sub-result c = search needs
+
+returns-3 : tie.Need-returns-3
+unfolding positionColumn
+returns-3 c = simp (le-ltb _ _ (c .before .before .if1 .left), le-ltb _ _ (c .before .if2 .left), lt-ltb _ _ (c .if3 .taken))
+
+sub-result-2 : tie.Need-sub-result-2
+sub-result-2 c = search needs
+
+sub-result-3 : tie.Need-sub-result-3
+sub-result-3 c = search needs
+
+add-result : tie.Need-add-result
+add-result c = search needs
+
+returns-4 : tie.Need-returns-4
+unfolding positionColumn
+returns-4 c = simp (le-ltb _ _ (c .before .before .if1 .left), le-ltb _ _ (c .before .if2 .left), le-ltb _ _ (c .if3 .left))
+
+pub position-column-spec : {M : Type 1} → statement M
+position-column-spec =
+    tie.close
+    (tie.spec
+    returns
+    returns-2
+    sub-result
+    returns-3
+    sub-result-2
+    sub-result-3
+    add-result
+    returns-4)

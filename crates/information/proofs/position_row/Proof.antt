@@ -1,0 +1,32 @@
+use Rattle.information.specs.Information.{positionRow}
+use Prim.Native.Nat.{ℕ, _+_, _-_, _*_, _/_, _%_, _<_, _≤_}
+use mathlib.Core.Path.{_≡_, refl, sym, ap, ap₂, subst, _∙_}
+use native.Mathlib.Omega.{arith}
+use borrow.Author.Tests.{lt-ltb, le-ltb, le-leb, lt-leb, eq-eqb, ne-eqb}
+use borrow.Author.Needs.{needs}
+use Rattle.information.proofs.position_row.Statement.{statement}
+use Rattle.information.proofs.position_row.Tie as tie
+use Rattle.information.proofs.position_row.Reads as reads
+use Rattle.information.proofs.position_row.Lts as lts
+
+returns : tie.Need-returns
+unfolding positionRow
+returns c = simp (lt-ltb _ _ (c .if1 .taken))
+
+sub-result : tie.Need-sub-result
+sub-result c = search needs
+
+returns-2 : tie.Need-returns-2
+unfolding positionRow
+returns-2 c = simp (le-ltb _ _ (c .before .if1 .left), lt-ltb _ _ (c .if2 .taken))
+
+returns-3 : tie.Need-returns-3
+unfolding positionRow
+returns-3 c = simp (le-ltb _ _ (c .before .before .if1 .left), le-ltb _ _ (c .before .if2 .left), lt-ltb _ _ (c .if3 .taken))
+
+returns-4 : tie.Need-returns-4
+unfolding positionRow
+returns-4 c = simp (le-ltb _ _ (c .before .before .if1 .left), le-ltb _ _ (c .before .if2 .left), le-ltb _ _ (c .if3 .left))
+
+pub position-row-spec : {M : Type 1} → statement M
+position-row-spec = tie.close (tie.spec returns sub-result returns-2 returns-3 returns-4)

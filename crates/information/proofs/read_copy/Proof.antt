@@ -1,0 +1,69 @@
+use lib.ListN.{length, getD}
+use Rattle.information.proofs.Copies.{number-small, number-more}
+use Rattle.information.specs.Information.{infoPosition, numberOf, copyOf}
+use Prim.Native.Nat.{ℕ, _+_, _-_, _*_, _/_, _%_, _<_, _≤_}
+use mathlib.Core.Path.{_≡_, refl, sym, ap, ap₂, subst, _∙_}
+use borrow.Author.Needs.{needs}
+use native.Mathlib.Omega.{arith}
+use borrow.Author.Tests.{lt-ltb, le-ltb, le-leb, lt-leb, eq-eqb, ne-eqb}
+use Rattle.information.proofs.read_copy.Statement.{statement}
+use Rattle.information.proofs.read_copy.Tie as tie
+use Rattle.information.proofs.read_copy.Reads as reads
+use Rattle.information.proofs.read_copy.Lts as lts
+use Rattle.information.proofs.info_position.Reads as info-position-reads
+use Rattle.information.proofs.wide8.Reads as wide8-reads
+
+abbrev Inv-loop : tie.InvT-loop
+Inv-loop square side second w₀ n₀ w n = (n ≤ 34) × (w ≡ numberOf (λ k. getD square (infoPosition side second k) 0) n)
+
+abbrev μ-loop : tie.MeasureT-loop
+μ-loop square side second w₀ n₀ w n = 34 - n
+
+loop-holds : tie.Need-loop-holds Inv-loop μ-loop
+unfolding numberOf
+loop-holds c = (omega arith, refl)
+
+info-position-requires : tie.Need-info-position-requires Inv-loop μ-loop
+info-position-requires c κs = (c .before .before .before .pre .0, c .before .before .before .pre .1, c .loop-test .taken)
+
+mul-w : tie.Need-mul-w Inv-loop μ-loop
+mul-w c = omega (arith, number-small (λ k. getD (c .before .before .before .before .args .square .now) (infoPosition (c .before .before .before .before .args .side) (c .before .before .before .before .args .second) k) 0) (λ k. c .before .before .before .before .pre .3 (infoPosition (c .before .before .before .before .args .side) (c .before .before .before .before .args .second) k)) (c .before .before .loop .n) (c .before .before .loop .inv .0), c .before .before .loop .inv .1)
+
+shared-slice-read-wide8 : tie.Need-shared-slice-read-wide8 Inv-loop μ-loop
+shared-slice-read-wide8 c = omega (arith, c .before .info-position .ensures .1, c .before .before .before .before .before .pre .2)
+
+wide8-requires : tie.Need-wide8-requires Inv-loop μ-loop
+wide8-requires c κs = search needs
+
+add-w : tie.Need-add-w Inv-loop μ-loop
+add-w c = omega (arith, number-small (λ k. getD (c .before .before .before .before .before .before .args .square .now) (infoPosition (c .before .before .before .before .before .before .args .side) (c .before .before .before .before .before .before .args .second) k) 0) (λ k. c .before .before .before .before .before .before .pre .3 (infoPosition (c .before .before .before .before .before .before .args .side) (c .before .before .before .before .before .before .args .second) k)) (c .before .before .before .before .loop .n) (c .before .before .before .before .loop .inv .0), c .before .before .before .before .loop .inv .1, c .wide8 .ensures, c .before .before .before .before .before .before .pre .3 (c .before .before .info-position .result))
+
+add-n : tie.Need-add-n Inv-loop μ-loop
+add-n c = omega arith
+
+loop-less : tie.Need-loop-less Inv-loop μ-loop
+loop-less c = omega arith
+
+loop-again : tie.Need-loop-again Inv-loop μ-loop
+loop-again c = (omega arith, number-more (λ k. getD (c .before .before .before .before .before .before .args .square .now) (infoPosition (c .before .before .before .before .before .before .args .side) (c .before .before .before .before .before .before .args .second) k) 0) (c .before .before .before .before .loop .n) (c .before .before .before .before .loop .inv .1) (c .wide8 .ensures ∙ ap (λ (k : ℕ). getD (c .before .before .before .before .before .before .args .square .now) k 0) (c .before .before .info-position .ensures .0)))
+
+returns : tie.Need-returns Inv-loop μ-loop
+unfolding copyOf
+returns c = c .before .loop .inv .1 ∙ ap (numberOf (λ k. getD (c .before .before .before .args .square .now) (infoPosition (c .before .before .before .args .side) (c .before .before .before .args .second) k) 0)) (let e : c .before .loop .n ≡ 34 = omega arith in e)
+
+pub read-copy-spec : {M : Type 1} → statement M
+read-copy-spec =
+    tie.close
+    (tie.spec
+    Inv-loop
+    μ-loop
+    loop-holds
+    info-position-requires
+    mul-w
+    shared-slice-read-wide8
+    wide8-requires
+    add-w
+    add-n
+    loop-less
+    loop-again
+    returns)

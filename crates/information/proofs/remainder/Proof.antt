@@ -1,0 +1,25 @@
+use Prim.Native.Nat.{ℕ, _*_, _/_, _%_, _<_}
+use mathlib.Core.Path.{_≡_, sym, subst}
+use native.Mathlib.Omega.{arith}
+use lib.Bits.{bitXor, xor-lt}
+use Rattle.information.proofs.Apart.{remainder-lt}
+use Rattle.information.proofs.Products.{shown}
+use Rattle.information.specs.Information.{remainder}
+use borrow.Author.Needs.{needs}
+use Rattle.information.proofs.remainder.Statement.{statement}
+use Rattle.information.proofs.remainder.Tie as tie
+use Rattle.information.proofs.remainder.Reads as reads
+use Rattle.information.proofs.remainder.Lts as lts
+use Rattle.information.proofs.generator_times.Reads as generator-times-reads
+
+mul-result : tie.Need-mul-result
+mul-result c = search needs
+
+generator-times-requires : tie.Need-generator-times-requires
+generator-times-requires c κs = xor-lt 4 (c .args .nibble) (c .args .r / 4096) (c .pre .1) (omega arith)
+
+returns : tie.Need-returns
+returns c = let e : bitXor (c .before .args .r % 4096 * 16) (c .generator-times .result) ≡ remainder (c .before .args .r) (c .before .args .nibble) = shown (c .before .args .r) (c .before .args .nibble) (c .generator-times .ensures) in (e, subst (λ (n : ℕ). n < 65536) (sym e) (remainder-lt (c .before .args .r) (c .before .args .nibble) (c .before .pre .0) (c .before .pre .1)))
+
+pub remainder-spec : {M : Type 1} → statement M
+remainder-spec = tie.close (tie.spec mul-result generator-times-requires returns)

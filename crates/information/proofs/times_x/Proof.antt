@@ -1,0 +1,25 @@
+use Rattle.information.proofs.Products.{eight}
+use Rattle.information.specs.Information.{timesX}
+use Prim.Native.Nat.{ℕ, _+_, _-_, _*_, _/_, _%_, _<_, _≤_}
+use mathlib.Core.Path.{_≡_, refl, sym, ap, ap₂, subst, _∙_}
+use native.Mathlib.Omega.{arith}
+use borrow.Author.Tests.{lt-ltb, le-ltb, le-leb, lt-leb, eq-eqb, ne-eqb}
+use borrow.Author.Needs.{needs}
+use Rattle.information.proofs.times_x.Statement.{statement}
+use Rattle.information.proofs.times_x.Tie as tie
+use Rattle.information.proofs.times_x.Reads as reads
+use Rattle.information.proofs.times_x.Lts as lts
+
+mul-d : tie.Need-mul-d
+mul-d c = search needs
+
+returns : tie.Need-returns
+unfolding timesX
+returns c = (simp (lt-ltb _ _ (c .if1 .taken)), c .if1 .taken)
+
+returns-2 : tie.Need-returns-2
+unfolding timesX
+returns-2 c = (simp (le-ltb _ _ (c .if1 .left)), eight (c .before .args .a) (c .if1 .left) (c .before .pre))
+
+pub times-x-spec : {M : Type 1} → statement M
+times-x-spec = tie.close (tie.spec mul-d returns returns-2)

@@ -1,0 +1,28 @@
+use Prim.Native.Nat.{ℕ}
+use mathlib.Core.Path.{ap, _∙_}
+use mathlib.Core.Bool.{true}
+use mathlib.Core.List.{List}
+use Rattle.information.specs.Information.{copyWritten, infoWritten}
+use borrow.Author.Needs.{needs}
+use Rattle.information.proofs.write_info.Statement.{statement}
+use Rattle.information.proofs.write_info.Tie as tie
+use Rattle.information.proofs.write_info.Reads as reads
+use Rattle.information.proofs.write_info.Lts as lts
+use Rattle.information.proofs.write_copy.Reads as write-copy-reads
+
+write-copy-requires : tie.Need-write-copy-requires
+write-copy-requires c κs = search needs
+
+write-copy-requires-2 : tie.Need-write-copy-requires-2
+write-copy-requires-2 c κs = search needs
+
+same-length : tie.Need-same-length
+same-length c = search needs
+
+returns : tie.Need-returns
+unfolding infoWritten
+returns c = c .before .before .write-copy2 .ensures ∙ ap (λ (g : List ℕ). copyWritten (c .before .before .before .before .before .before .before .before .before .args .side) true (c .before .before .before .before .before .before .before .before .before .args .word) g) (c .before .before .before .before .before .before .write-copy .ensures)
+
+pub write-info-spec : {M : Type 1} → statement M
+write-info-spec =
+    tie.close (tie.spec write-copy-requires write-copy-requires-2 same-length returns)

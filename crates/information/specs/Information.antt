@@ -1,0 +1,164 @@
+-- Document 01, "Information" (000: `info_positions`, `gf16_mul`, `info_bits`, `nearest_info`). A word has 34 bits, the first in bit 33.
+use mathlib.Core.Bool.{Bool, cond, not, _&&_, true, false}
+use mathlib.Core.List.{List, [], _∷_}
+use Prim.Native.Nat.{ℕ, zero, suc, _+_, _-_, _*_, _/_, _%_, _^_}
+use lib.Dec.{ltb, leb, eqb}
+use lib.Bits.{bitXor}
+use lib.Count.{ones}
+use lib.ListN.{getD, set}
+use Rattle.symbol.specs.Version.{isVersion}
+use Rattle.information.specs.declared.InfoBits.{InfoBits}
+use Rattle.information.specs.declared.InfoBits.the-variants as bits
+use Rattle.information.specs.declared.NearestInfo.{NearestInfo}
+use Rattle.information.specs.declared.NearestInfo.the-variants as near
+
+-- The word of a version, level and mask.
+
+-- a times x in GF(16), x^4 + x + 1
+unfoldable pub timesX : ℕ → ℕ
+timesX a = cond (ltb (2 * a) 16) (2 * a) (bitXor (2 * a) 0x13)
+
+-- p, plus a where b is odd
+unfoldable pub plusIfOdd : ℕ → ℕ → ℕ → ℕ
+plusIfOdd p a b = cond (eqb (b % 2) 1) (bitXor p a) p
+
+-- p, plus a times the n lowest bits of b
+unfoldable pub productFrom : ℕ → ℕ → ℕ → ℕ → ℕ
+productFrom zero p a b = p
+productFrom (suc n) p a b = productFrom n (plusIfOdd p a b) (timesX a) (b / 2)
+
+-- the product in GF(16)
+unfoldable pub gf16Mul : ℕ → ℕ → ℕ
+gf16Mul a b = productFrom 4 0 a b
+
+-- f times the generator's coefficients 13, 12, 8 and 7, the first being 1: four nibbles
+unfoldable pub generatorTimes : ℕ → ℕ
+generatorTimes f = gf16Mul f 13 * 4096 + gf16Mul f 12 * 256 + gf16Mul f 8 * 16 + gf16Mul f 7
+
+-- the remainder of four nibbles, with one data nibble more
+unfoldable pub remainder : ℕ → ℕ → ℕ
+remainder r nibble = bitXor (r % 4096 * 16) (generatorTimes (bitXor nibble (r / 4096)))
+
+-- three data nibbles, four parity nibbles, six zero bits
+unfoldable pub wordOf : ℕ → ℕ
+wordOf d = (d * 65536 + remainder (remainder (remainder 0 (d / 256)) (d / 16 % 16)) (d % 16)) * 64
+
+-- the 12 bits v + 20, level, mask
+unfoldable pub dataOf : ℕ → ℕ → ℕ → ℕ
+dataOf v level mask = (v + 20) * 16 + level * 4 + mask
+
+unfoldable pub infoBits : ℕ → ℕ → ℕ → ℕ
+infoBits v level mask = wordOf (dataOf v level mask)
+
+-- Operation Information word. 1: version, level or mask outside its range; 0, and the word beside it.
+unfoldable pub isInfo : ℕ → ℕ → ℕ → Bool
+isInfo v level mask = isVersion v && (leb level 3 && leb mask 3)
+
+unfoldable pub infoRefusal : ℕ → ℕ → ℕ → ℕ
+infoRefusal v level mask = cond (isInfo v level mask) 0 1
+
+unfoldable pub infoWord : ℕ → ℕ → ℕ → ℕ
+infoWord v level mask = cond (isInfo v level mask) (infoBits v level mask) 0
+
+-- an answer's refusal number and word
+abbrev pub wordRefusalOf : InfoBits → ℕ
+wordRefusalOf (bits.Word w) = 0
+wordRefusalOf bits.OutOfRange = 1
+
+abbrev pub wordIn : InfoBits → ℕ
+wordIn (bits.Word w) = w
+wordIn bits.OutOfRange = 0
+
+-- The nearest of the 16 words of a version.
+
+-- word k has level k / 4 and mask k % 4
+unfoldable pub wordAt : ℕ → ℕ → ℕ
+wordAt v k = infoBits v (k / 4) (k % 4)
+
+-- the differing bits of both copies, a and b
+unfoldable pub distance : ℕ → ℕ → ℕ → ℕ → ℕ
+distance v a b k = ones (bitXor (wordAt v k) a) + ones (bitXor (wordAt v k) b)
+
+-- the first of 0 to n at which d is least
+unfoldable pub leastOf : (ℕ → ℕ) → ℕ → ℕ
+leastOf d zero = 0
+leastOf d (suc n) = let best = leastOf d n in cond (ltb (d (suc n)) (d best)) (suc n) best
+
+-- the nearest word: ties to the lowest level, then mask
+unfoldable pub nearest : ℕ → ℕ → ℕ → ℕ
+nearest v a b = leastOf (distance v a b) 15
+
+-- Operation Nearest word. 1: version outside its range; 0, and level, mask and distance beside it.
+unfoldable pub nearestRefusal : ℕ → ℕ
+nearestRefusal v = cond (isVersion v) 0 1
+
+unfoldable pub nearestLevel : ℕ → ℕ → ℕ → ℕ
+nearestLevel v a b = cond (isVersion v) (nearest v a b / 4) 0
+
+unfoldable pub nearestMask : ℕ → ℕ → ℕ → ℕ
+nearestMask v a b = cond (isVersion v) (nearest v a b % 4) 0
+
+unfoldable pub nearestDistance : ℕ → ℕ → ℕ → ℕ
+nearestDistance v a b = cond (isVersion v) (distance v a b (nearest v a b)) 0
+
+-- an answer's refusal number, level, mask and distance
+abbrev pub nearestRefusalOf : NearestInfo → ℕ
+nearestRefusalOf (near.Nearest l m d) = 0
+nearestRefusalOf near.NoVersion = 1
+
+abbrev pub levelOf : NearestInfo → ℕ
+levelOf (near.Nearest l m d) = l
+levelOf near.NoVersion = 0
+
+abbrev pub maskOf : NearestInfo → ℕ
+maskOf (near.Nearest l m d) = m
+maskOf near.NoVersion = 0
+
+abbrev pub distanceOf : NearestInfo → ℕ
+distanceOf (near.Nearest l m d) = d
+distanceOf near.NoVersion = 0
+
+-- The 68 information modules of a square of side s: 34 places, each in two copies.
+
+-- the first copy: along row 8 to the corner (place 8), up column 8 to the top, down column s − 9 to the corner (place 25), along row 8 to the right
+unfoldable pub positionRow : ℕ → ℕ
+positionRow n = cond (ltb n 9) 8 (cond (ltb n 17) (16 - n) (cond (ltb n 26) (n - 17) 8))
+
+unfoldable pub positionColumn : ℕ → ℕ → ℕ
+positionColumn s n = cond (ltb n 9) n (cond (ltb n 17) 8 (cond (ltb n 26) (s - 9) (s - 9 + (n - 25))))
+
+-- the second copy is the first, turned half round
+unfoldable pub infoPosition : ℕ → Bool → ℕ → ℕ
+infoPosition s second n = cond second (s * s - 1 - (positionRow n * s + positionColumn s n)) (positionRow n * s + positionColumn s n)
+
+-- the number with the bits f 0, .. f (n − 1), the first the highest
+unfoldable pub numberOf : (ℕ → ℕ) → ℕ → ℕ
+numberOf f zero = 0
+numberOf f (suc n) = numberOf f n * 2 + f n
+
+-- a copy that is read out of a square
+unfoldable pub copyOf : ℕ → Bool → List ℕ → ℕ
+copyOf s second g = numberOf (λ n. getD g (infoPosition s second n) 0) 34
+
+-- bit n of a word, the first of 34 the highest
+unfoldable pub bitOf : ℕ → ℕ → ℕ
+bitOf w n = w / 2 ^ (33 - n) % 2
+
+-- the first n bits of a word written into a copy
+unfoldable pub bitsWritten : ℕ → Bool → ℕ → ℕ → List ℕ → List ℕ
+bitsWritten s second w zero g = g
+bitsWritten s second w (suc n) g = set (bitsWritten s second w n g) (infoPosition s second n) (bitOf w n)
+
+-- a word written into a copy, and into both
+unfoldable pub copyWritten : ℕ → Bool → ℕ → List ℕ → List ℕ
+copyWritten s second w g = bitsWritten s second w 34 g
+
+unfoldable pub infoWritten : ℕ → ℕ → List ℕ → List ℕ
+infoWritten s w g = copyWritten s true w (copyWritten s false w g)
+
+-- how many information modules of two squares differ, by the layout's kinds
+unfoldable pub infoFlips : List ℕ → List ℕ → List ℕ → ℕ
+infoFlips [] g h = 0
+infoFlips (k ∷ ks) [] h = 0
+infoFlips (k ∷ ks) (x ∷ g) [] = 0
+infoFlips (k ∷ ks) (x ∷ g) (y ∷ h) = cond (eqb k 1 && not (eqb x y)) 1 0 + infoFlips ks g h

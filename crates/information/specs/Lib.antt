@@ -1,0 +1,3 @@
+-- Document 01: "Information".
+pub mod Information
+pub mod Inner

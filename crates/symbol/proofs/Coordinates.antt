@@ -1,0 +1,159 @@
+-- Signed coordinates as the machine reads them, and the place that two of them name.
+use mathlib.Core.Path.{_≡_, refl, sym, ap, subst, _∙_}
+use mathlib.Core.Bool.{Bool, true, false, cond}
+use Prim.Native.Nat.{ℕ, zero, suc, _+_, _-_, _*_, _<_, _≤_, _^_}
+use native.Mathlib.Nat.{mul-le-mul}
+use native.Mathlib.Omega.{arith}
+use lib.Arith.{digits-lt}
+use lib.Dec.{T, ltb, leb}
+use lib.IntN.{ℤ, pos, negsuc, natAbs, negℤ, _+ℤ_, _-ℤ_, subℕ, +ℤ-assoc, negℤ-+ℤ}
+use lib.Signed.{ltZ, leZ, mag, nonNeg}
+use borrow.Author.Tests.{lt-ltb, le-ltb, ltb-true, ltb-false, le-leb, lt-leb}
+use mir.Syntax.{w64}
+use mir.Val.{Fits, SFits, toZ, ofZ}
+use mir.Facts.{toZ-ofZ, fits-natAbs, sfits-lit}
+use Rattle.symbol.specs.Layout.{placeAt}
+
+true-false : true ≡ false → ⊥
+true-false e = subst (λ (b : Bool). T b) e tt
+
+-- a signed number as the machine reads it
+pub same : {x : ℤ} → SFits w64 x → toZ w64 (ofZ w64 x) ≡ x
+same f = toZ-ofZ f
+
+pub below-zero : {x : ℤ} (b : Bool) → SFits w64 x → ltZ (toZ w64 (ofZ w64 x)) (toZ w64 (ofZ w64 (pos 0))) ≡ b → ltZ x (pos 0) ≡ b
+below-zero b f e = simp (toZ-ofZ f) at e
+
+pub cast : (x : ℤ) → SFits w64 x → ltZ x (pos 0) ≡ false → T (nonNeg (toZ w64 (ofZ w64 x))) × Fits w64 (natAbs (toZ w64 (ofZ w64 x)))
+cast x f l = subst (λ (z : ℤ). T (nonNeg z) × Fits w64 (natAbs z)) (sym (toZ-ofZ f)) (positive x l, fits-natAbs tt f)
+  where
+    positive : (x : ℤ) → ltZ x (pos 0) ≡ false → T (nonNeg x)
+    positive (pos n) l = tt
+    positive (negsuc n) l = absurd (true-false l)
+
+mag-sub : (a b : ℕ) → mag (subℕ a b) ≤ a + b
+mag-sub a b = by (ltb a b) refl
+  where
+    by : (t : Bool) → ltb a b ≡ t → mag (cond t (negsuc (b - suc a)) (pos (a - b))) ≤ a + b
+    by true e = omega arith
+    by false e = omega arith
+
+pub mag-add : (x d : ℤ) → mag (x +ℤ d) ≤ mag x + mag d + 1
+mag-add (pos a) (pos b) = omega arith
+mag-add (pos a) (negsuc b) = omega (arith, mag-sub a (suc b))
+mag-add (negsuc a) (pos b) = omega (arith, mag-sub b (suc a))
+mag-add (negsuc a) (negsuc b) = omega arith
+
+mag-neg : (n : ℕ) → mag (negℤ (pos n)) ≤ n
+mag-neg zero = omega arith
+mag-neg (suc n) = omega arith
+
+pub mag-back : (x : ℤ) (n : ℕ) → mag (x -ℤ pos n) ≤ mag x + n + 1
+mag-back x n = omega (arith, mag-add x (negℤ (pos n)), mag-neg n)
+
+pub mag-forth : (x : ℤ) (n : ℕ) → mag (x +ℤ pos n) ≤ mag x + n + 1
+mag-forth x n = mag-add x (pos n)
+
+pub small : (x : ℤ) → mag x < 4000 → SFits w64 x
+small x h = record { sfits = omega arith }
+
+-- a number below a thousand as a signed one
+pub unsigned : (n : ℕ) → n < 1000 → toZ w64 n ≡ pos n
+unsigned n h = toZ-ofZ {z = pos n} (small (pos n) (omega arith))
+
+module _ (x : ℤ) (n : ℕ) (f : SFits w64 x) (a : mag x < 1000) (b : n < 1000) where
+  pub back-fits : SFits w64 (toZ w64 (ofZ w64 x) -ℤ toZ w64 n)
+  back-fits = simp (toZ-ofZ f, unsigned n b) (small (x -ℤ pos n) (omega (arith, mag-back x n)))
+
+  pub back-is : toZ w64 (ofZ w64 (toZ w64 (ofZ w64 x) -ℤ toZ w64 n)) ≡ x -ℤ pos n
+  back-is = toZ-ofZ back-fits ∙ simp (toZ-ofZ f, unsigned n b)
+
+  pub forth-fits : SFits w64 (toZ w64 (ofZ w64 x) +ℤ toZ w64 n)
+  forth-fits = simp (toZ-ofZ f, unsigned n b) (small (x +ℤ pos n) (omega (arith, mag-forth x n)))
+
+  pub forth-is : toZ w64 (ofZ w64 (toZ w64 (ofZ w64 x) +ℤ toZ w64 n)) ≡ x +ℤ pos n
+  forth-is = toZ-ofZ forth-fits ∙ simp (toZ-ofZ f, unsigned n b)
+
+pub square-le : (s : ℕ) → s ≤ 189 → s * s ≤ 35721
+square-le s h = mul-le-mul h h
+
+-- the place of x and y
+module _ (s : ℕ) where
+  pub place-left : (x y : ℤ) → ltZ x (pos 0) ≡ true → s * s ≡ placeAt s x y
+  unfolding placeAt
+  place-left (pos x) y h = absurd (let k : x < 0 = ltb-true _ _ h in omega arith)
+  place-left (negsuc x) y h = refl
+
+  pub place-above : (x y : ℤ) → ltZ y (pos 0) ≡ true → s * s ≡ placeAt s x y
+  unfolding placeAt
+  place-above (pos x) (pos y) h = absurd (let k : y < 0 = ltb-true _ _ h in omega arith)
+  place-above (pos x) (negsuc y) h = refl
+  place-above (negsuc x) y h = refl
+
+  pub place-right : (x y : ℤ) → s ≤ natAbs x → s * s ≡ placeAt s x y
+  unfolding placeAt
+  place-right (pos x) (pos y) h = simp (le-ltb x s h)
+  place-right (pos x) (negsuc y) h = refl
+  place-right (negsuc x) y h = refl
+
+  pub place-below : (x y : ℤ) → natAbs x < s → s ≤ natAbs y → s * s ≡ placeAt s x y
+  unfolding placeAt
+  place-below (pos x) (pos y) l h = simp (lt-ltb x s l, le-ltb y s h)
+  place-below (pos x) (negsuc y) l h = refl
+  place-below (negsuc x) y l h = refl
+
+  pub place-in : (x y : ℤ) → ltZ x (pos 0) ≡ false → ltZ y (pos 0) ≡ false → natAbs x < s → natAbs y < s → natAbs y * s + natAbs x ≡ placeAt s x y
+  unfolding placeAt
+  place-in (pos x) (pos y) a b l h = simp (lt-ltb x s l, lt-ltb y s h)
+  place-in (pos x) (negsuc y) a b l h = absurd (true-false b)
+  place-in (negsuc x) y a b l h = absurd (true-false a)
+
+-- the same of signed numbers as the machine reads them
+module _ (s : ℕ) (x y : ℤ) (f : SFits w64 x) (g : SFits w64 y) where
+  pub right-of : s ≤ natAbs (toZ w64 (ofZ w64 x)) → s * s ≡ placeAt s x y
+  right-of h = place-right s x y (simp (toZ-ofZ f) at h)
+
+  pub under : natAbs (toZ w64 (ofZ w64 x)) < s → s ≤ natAbs (toZ w64 (ofZ w64 y)) → s * s ≡ placeAt s x y
+  under l h = place-below s x y (simp (toZ-ofZ f) at l) (simp (toZ-ofZ g) at h)
+
+  pub inside : ltZ x (pos 0) ≡ false → ltZ y (pos 0) ≡ false → natAbs (toZ w64 (ofZ w64 x)) < s → natAbs (toZ w64 (ofZ w64 y)) < s → natAbs (toZ w64 (ofZ w64 y)) * s + natAbs (toZ w64 (ofZ w64 x)) ≡ placeAt s x y
+  inside a b l h = simp (toZ-ofZ f, toZ-ofZ g) (place-in s x y a b (simp (toZ-ofZ f) at l) (simp (toZ-ofZ g) at h))
+
+-- what is said of signed numbers as the machine reads them, of the numbers
+pub read : {A : Type 0} (F : ℤ → A) {x : ℤ} → SFits w64 x → F (toZ w64 (ofZ w64 x)) ≡ F x
+read F f = ap F (toZ-ofZ f)
+
+pub read2 : {A : Type 0} (F : ℤ → ℤ → A) {x y : ℤ} → SFits w64 x → SFits w64 y → F (toZ w64 (ofZ w64 x)) (toZ w64 (ofZ w64 y)) ≡ F x y
+read2 F {x} {y} f g = ap (λ (z : ℤ). F z (toZ w64 (ofZ w64 y))) (toZ-ofZ f) ∙ ap (F x) (toZ-ofZ g)
+
+-- the range of a call's result
+pub ok : (x : ℤ) → mag x < 2 ^ 63 → SFits w64 x
+ok x h = record { sfits = h }
+
+pub near : {x : ℤ} (n : ℕ) → SFits w64 x → mag x < n → mag (toZ w64 (ofZ w64 x)) < n
+near n f h = subst (λ (z : ℤ). mag z < n) (sym (toZ-ofZ f)) h
+
+pub whole-near : {x : ℤ} {n : ℕ} (k : ℕ) → SFits w64 x → x ≡ pos n → n < k → mag (toZ w64 (ofZ w64 x)) < k
+whole-near {x} {n} k f e h = near k f (subst (λ (z : ℤ). mag z < k) (sym e) h)
+
+pub room-of : {s t : ℕ} {n : ℕ} → s ≡ t → t * t ≤ n → s * s ≤ n
+room-of {s} {t} {n} e h = subst (λ (k : ℕ). k * k ≤ n) (sym e) h
+
+-- a signed loop variable against a signed bound
+pub less : {y e : ℤ} {a b : ℕ} → y ≡ pos a → e ≡ pos b → ltZ y e ≡ true → a < b
+less {y} {e} {a} {b} p q h = ltb-true a b (subst (λ (z : ℤ). ltZ (pos a) z ≡ true) q (subst (λ (z : ℤ). ltZ z e ≡ true) p h))
+
+pub not-less : {y e : ℤ} {a b : ℕ} → y ≡ pos a → e ≡ pos b → ltZ y e ≡ false → b ≤ a
+not-less {y} {e} {a} {b} p q h = ltb-false a b (subst (λ (z : ℤ). ltZ (pos a) z ≡ false) q (subst (λ (z : ℤ). ltZ z e ≡ false) p h))
+
+-- a difference of two numbers, and a further number taken off
+pub above-difference : (a b : ℕ) → leZ (pos 0) (pos a -ℤ pos b) ≡ leb b a
+above-difference a zero = le-leb 0 (a + 0) (omega arith) ∙ sym (le-leb 0 a (omega arith))
+above-difference a (suc b) = by (ltb a (suc b)) refl
+  where
+    by : (t : Bool) → ltb a (suc b) ≡ t → leZ (pos 0) (cond t (negsuc (suc b - suc a)) (pos (a - suc b))) ≡ leb (suc b) a
+    by true e = sym (lt-leb (suc b) a (ltb-true a (suc b) e))
+    by false e = le-leb 0 (a - suc b) (omega arith) ∙ sym (le-leb (suc b) a (ltb-false a (suc b) e))
+
+pub take-off : (a b c : ℕ) → pos a -ℤ pos b -ℤ pos c ≡ pos a -ℤ pos (b + c)
+take-off a b c = +ℤ-assoc (pos a) (negℤ (pos b)) (negℤ (pos c)) ∙ ap (λ (z : ℤ). pos a +ℤ z) (sym (negℤ-+ℤ (pos b) (pos c)))

@@ -1,0 +1,257 @@
+-- The rows of the corners, stretch by stretch.
+use mathlib.Core.Path.{_≡_, refl, sym, ap, subst, _∙_}
+use mathlib.Core.Bool.{Bool, true, false, cond}
+use mathlib.Core.List.{List, []}
+use Prim.Native.Nat.{ℕ, zero, suc, _+_, _-_, _*_, _/_, _%_, _^_, _<_, _≤_}
+use native.Mathlib.Omega.{arith}
+use native.Mathlib.Nat.{mul-le-mul-right, mul-div-mul-left, pow-succ', suc-mul, zero-div}
+use native.Mathlib.Decide.{decLt}
+use native.Mathlib.Numerals.{add-one}
+use lib.Arith.{digits-div, digits-mod}
+use lib.Dec.{T, ltb, eqb, ltb→lt, lit<}
+use lib.ListN.{getD}
+use borrow.Author.Tests.{lt-ltb, le-ltb, ltb-true, ltb-false, eq-eqb, ne-eqb}
+use Rattle.symbol.specs.Layout.{finders, edge, ring, half, within, finderRow, finderAt, cornerAt, cornerKind}
+use Rattle.symbol.specs.Inner.{Stored}
+use Rattle.symbol.proofs.Finite.{upTo, every}
+use Rattle.symbol.proofs.Stored.{stored-next, stored-as}
+
+-- a row of a finder has seven bits: a test that antt computes
+rows-small : T (upTo (λ n. ltb (getD (getD finders (n / 7) []) (n % 7) 0) 128) 28)
+unfolding finders
+rows-small = tt
+
+pub row-small : (corner row : ℕ) → corner < 4 → row < 7 → getD (getD finders corner []) row 0 < 128
+row-small corner row h g =
+    let n : 7 * corner + row < 28 = omega arith in
+    let p : (7 * corner + row) / 7 ≡ corner = omega arith in
+    let q : (7 * corner + row) % 7 ≡ row = omega arith in
+    let t : getD (getD finders ((7 * corner + row) / 7) []) ((7 * corner + row) % 7) 0 < 128 = ltb→lt _ _ (every (λ n. ltb (getD (getD finders (n / 7) []) (n % 7) 0) 128) 28 rows-small (7 * corner + row) n) in
+    rw (p, q) at t
+
+-- by the test a < b
+by-lt : (P : ℕ → Type 0) (a b x y : ℕ) → (a < b → P x) → (b ≤ a → P y) → P (cond (ltb a b) x y)
+by-lt P a b x y f g = go (ltb a b) refl
+  where
+    go : (t : Bool) → ltb a b ≡ t → P (cond t x y)
+    go true e = f (ltb-true a b e)
+    go false e = g (ltb-false a b e)
+
+pub edge-near : (s i : ℕ) → i < s - 1 - i → edge s i ≡ i
+unfolding edge
+edge-near s i h = simp (lt-ltb i (s - 1 - i) h)
+
+pub edge-far : (s i : ℕ) → s - 1 - i ≤ i → edge s i ≡ s - 1 - i
+unfolding edge
+edge-far s i h = simp (le-ltb i (s - 1 - i) h)
+
+-- where a row or column lies that is within a bound of an edge
+pub edge-low : (s i b : ℕ) → edge s i < b → b ≤ i → s - b ≤ i
+unfolding edge
+edge-low s i b = by-lt (λ (e : ℕ). e < b → b ≤ i → s - b ≤ i) i (s - 1 - i) i (s - 1 - i) (λ l h g. omega arith) (λ l h g. omega arith)
+
+pub edge-mid : (s i b : ℕ) → b ≤ i → i + b < s → b ≤ edge s i
+unfolding edge
+edge-mid s i b h g = by-lt (λ (e : ℕ). b ≤ e) i (s - 1 - i) i (s - 1 - i) (λ l. h) (λ l. omega arith)
+
+pub edge-top : (s i : ℕ) → edge s i ≤ i
+unfolding edge
+edge-top s i = by-lt (λ (e : ℕ). e ≤ i) i (s - 1 - i) i (s - 1 - i) (λ l. omega arith) (λ l. l)
+
+pub edge-bottom : (s i : ℕ) → edge s i ≤ s - 1 - i
+unfolding edge
+edge-bottom s i = by-lt (λ (e : ℕ). e ≤ s - 1 - i) i (s - 1 - i) i (s - 1 - i) (λ l. omega arith) (λ l. omega arith)
+
+-- the row byte of a finder above and below
+pub upper-row : (s side r : ℕ) → r < 7 → finderRow s side r ≡ getD (getD finders (2 * side) []) r 0
+unfolding finderRow half within
+upper-row s side r h = let e : 0 + 2 * side ≡ 2 * side = omega arith in simp (lt-ltb r 7 h) (ap (λ (n : ℕ). getD (getD finders n []) r 0) e)
+
+pub lower-row : (s side r : ℕ) → 7 ≤ r → finderRow s side r ≡ getD (getD finders (1 + 2 * side) []) (r - (s - 7)) 0
+unfolding finderRow half within
+lower-row s side r h = simp (le-ltb r 7 h)
+
+-- the kinds by the distances of row and column
+module _ (s r c : ℕ) where
+  ring-max : (P : ℕ → Type 0) → (edge s r < edge s c → P (edge s c)) → (edge s c ≤ edge s r → P (edge s r)) → P (ring s r c)
+  unfolding ring
+  ring-max P f g = by-lt P (edge s r) (edge s c) (edge s c) (edge s r) f g
+
+  pub in-finder : edge s r < 7 → edge s c < 7 → cornerAt s r c ≡ finderAt s r c
+  unfolding cornerAt
+  in-finder a b = let h : ring s r c < 7 = ring-max (λ (n : ℕ). n < 7) (λ l. b) (λ l. a) in simp (lt-ltb (ring s r c) 7 h)
+
+  pub in-separator : edge s r ≤ 7 → edge s c ≤ 7 → (edge s r < 7 → edge s c ≡ 7) → cornerAt s r c ≡ 2
+  unfolding cornerAt
+  in-separator a b k =
+      let h : ring s r c ≡ 7 = ring-max (λ (n : ℕ). n ≡ 7) (λ l. k (omega arith)) (λ l. by l) in rw h
+    where
+      by : edge s c ≤ edge s r → edge s r ≡ 7
+      by l = go (ltb (edge s r) 7) refl
+        where
+          go : (t : Bool) → ltb (edge s r) 7 ≡ t → edge s r ≡ 7
+          go true e = let z = k (ltb-true (edge s r) 7 e) in absurd (omega (arith, ltb-true (edge s r) 7 e))
+          go false e = omega (arith, ltb-false (edge s r) 7 e)
+
+  pub in-information : edge s r ≤ 8 → edge s c ≤ 8 → (edge s r < 8 → edge s c ≡ 8) → cornerAt s r c ≡ 1
+  unfolding cornerAt
+  in-information a b k = let h : ring s r c ≡ 8 = ring-max (λ (n : ℕ). n ≡ 8) (λ l. k (omega arith)) (λ l. by l) in rw h
+    where
+      by : edge s c ≤ edge s r → edge s r ≡ 8
+      by l = go (ltb (edge s r) 8) refl
+        where
+          go : (t : Bool) → ltb (edge s r) 8 ≡ t → edge s r ≡ 8
+          go true e = let z = k (ltb-true (edge s r) 8 e) in absurd (omega (arith, ltb-true (edge s r) 8 e))
+          go false e = omega (arith, ltb-false (edge s r) 8 e)
+
+  wide-ring : (n : ℕ) → n ≡ ring s r c → 9 ≤ n → cornerAt s r c ≡ 0
+  unfolding cornerAt
+  wide-ring n e h = rw (← e) (simp (le-ltb n 7 (omega arith), ne-eqb n 7 (λ z. omega arith), ne-eqb n 8 (λ z. omega arith)))
+
+  pub in-data-row : 9 ≤ edge s r → cornerAt s r c ≡ 0
+  in-data-row h = wide-ring (ring s r c) refl (ring-max (λ (n : ℕ). 9 ≤ n) (λ l. omega arith) (λ l. h))
+
+  pub in-data-column : 9 ≤ edge s c → cornerAt s r c ≡ 0
+  in-data-column h = wide-ring (ring s r c) refl (ring-max (λ (n : ℕ). 9 ≤ n) (λ l. h) (λ l. omega arith))
+
+-- the kind at a column of a row
+pub row-kind : (s r c : ℕ) → c < s → cornerKind s (r * s + c) ≡ cornerAt s r c
+row-kind s r c h = ap (λ (k : ℕ). cornerAt s k ((r * s + c) % s)) (digits-div r h) ∙ ap (cornerAt s r) (digits-mod r h)
+
+-- a stretch of a row from its place on
+pub along : (s r : ℕ) (f : ℕ → ℕ) {from to : ℕ} → r * s ≤ from → to ≤ r * s + s → ((c : ℕ) → from ≤ r * s + c → r * s + c < to → f (r * s + c) ≡ cornerAt s r c)
+    → (i : ℕ) → from ≤ i → i < to → f i ≡ cornerKind s i
+along s r f {from} {to} a b k i h g =
+    let e : r * s + (i - r * s) ≡ i = omega arith in
+    let t : f (r * s + (i - r * s)) ≡ cornerKind s (r * s + (i - r * s)) = k (i - r * s) (omega arith) (omega arith) ∙ sym (row-kind s r (i - r * s) (omega arith)) in
+    subst (λ (n : ℕ). f n ≡ cornerKind s n) e t
+
+pub row-end : (s r : ℕ) → r < s → r * s + s ≤ s * s
+row-end s r h = subst (λ (n : ℕ). n ≤ s * s) (suc-mul r s) (mul-le-mul-right s h)
+
+module _ (s r : ℕ) (big : 23 ≤ s) (in-row : r < s) where
+  near-column : (c : ℕ) → c ≤ 8 → edge s c ≡ c
+  near-column c h = edge-near s c (omega arith)
+
+  far-column : (k : ℕ) → k ≤ 8 → edge s (s - 1 - k) ≡ k
+  far-column k h = edge-far s (s - 1 - k) (omega arith) ∙ (let e : s - 1 - (s - 1 - k) ≡ k = omega arith in e)
+
+  pub data-column : (c : ℕ) → 9 ≤ c → c + 9 < s → cornerAt s r c ≡ 0
+  data-column c h g = in-data-column s r c (edge-mid s c 9 h g)
+
+  -- in the row of the information arms
+  module _ (arm : edge s r ≡ 8) where
+    pub arm-left : (c : ℕ) → c < 9 → cornerAt s r c ≡ 1
+    arm-left c h = in-information s r c (omega arith) (omega (arith, near-column c (omega arith))) (λ z. absurd (omega arith))
+
+    pub arm-right : (c : ℕ) → s ≤ c + 9 → c < s → cornerAt s r c ≡ 1
+    arm-right c h g =
+        let e : s - 1 - (s - 1 - c) ≡ c = omega arith in
+        let d : edge s c ≡ s - 1 - c = ap (edge s) (sym e) ∙ far-column (s - 1 - c) (omega arith) in
+        in-information s r c (omega arith) (omega arith) (λ z. absurd (omega arith))
+
+  -- in a row of the finders and their separators: the modules of a row byte
+  module _ (near : edge s r < 8) where
+    pub left-information : cornerAt s r 8 ≡ 1
+    left-information = let d = near-column 8 (omega arith) in in-information s r 8 (omega arith) (omega arith) (λ z. d)
+
+    pub right-information : cornerAt s r (s - 9) ≡ 1
+    right-information =
+        let e : s - 1 - 8 ≡ s - 9 = omega arith in
+        let d : edge s (s - 9) ≡ 8 = ap (edge s) (sym e) ∙ far-column 8 (omega arith) in
+        in-information s r (s - 9) (omega arith) (omega arith) (λ z. d)
+
+    -- a row byte of a finder, or 0 in the row of the separators
+    module _ (bits side : ℕ) (small : bits < 128) (row : edge s r < 7 → bits ≡ finderRow s side r) (none : edge s r ≡ 7 → bits ≡ 0) where
+      separator-row : (c n : ℕ) → edge s c ≤ 7 → edge s r ≡ 7 → (b : ℕ) → b ≡ 0 → 2 + b / n % 2 ≡ cornerAt s r c
+      separator-row c n h e b z =
+          ap (λ (k : ℕ). 2 + k / n % 2) z ∙ ap (λ (k : ℕ). 2 + k % 2) (zero-div n) ∙ sym (in-separator s r c (omega arith) h (λ l. absurd (omega arith)))
+
+      pub left-modules : side ≡ 0 → (c : ℕ) → c < 8 → 2 + 2 * bits / 2 ^ (7 - c) % 2 ≡ cornerAt s r c
+      unfolding finderAt half within
+      left-modules z c h = elim (decLt (edge s r) 7) [ yes l ↦ elim (decLt c 7) [ yes k ↦ finder l k | no k ↦ last l (omega arith) ] | no l ↦ light (omega arith) ]
+        where
+          d : edge s c ≡ c
+          d = near-column c (omega arith)
+
+          light : edge s r ≡ 7 → 2 + 2 * bits / 2 ^ (7 - c) % 2 ≡ cornerAt s r c
+          light e = separator-row c (2 ^ (7 - c)) (omega (arith, d)) e (2 * bits) (omega (arith, none e))
+
+          last : edge s r < 7 → c ≡ 7 → 2 + 2 * bits / 2 ^ (7 - c) % 2 ≡ cornerAt s r c
+          last l k =
+              let e : 7 - c ≡ 0 = omega arith in
+              let q : 2 + 2 * bits / 1 % 2 ≡ 2 = omega arith in
+              ap (λ (n : ℕ). 2 + 2 * bits / 2 ^ n % 2) e ∙ q ∙ sym (in-separator s r c (omega arith) (omega (arith, d)) (λ w. omega (arith, d)))
+
+          finder : edge s r < 7 → c < 7 → 2 + 2 * bits / 2 ^ (7 - c) % 2 ≡ cornerAt s r c
+          finder l k =
+              let e : 7 - c ≡ suc (6 - c) = omega arith in
+              ap (λ (n : ℕ). 2 + 2 * bits / n % 2) (ap (λ (n : ℕ). 2 ^ n) e ∙ pow-succ' 2 (6 - c)) ∙ ap (λ (n : ℕ). 2 + n % 2) (mul-div-mul-left bits (2 ^ (6 - c)) (lit< tt))
+              ∙ ap (λ (n : ℕ). 2 + n / 2 ^ (6 - c) % 2) (row l ∙ ap (λ (n : ℕ). finderRow s n r) z)
+              ∙ sym (in-finder s r c l (omega (arith, d)) ∙ simp (lt-ltb c 7 k))
+
+      pub right-modules : side ≡ 1 → (c k : ℕ) → c ≡ s - 8 + k → k < 8 → 2 + bits / 2 ^ (7 - k) % 2 ≡ cornerAt s r c
+      unfolding finderAt half within
+      right-modules z c k f h = elim (decLt (edge s r) 7) [ yes l ↦ elim (decLt 0 k) [ yes i ↦ finder l i | no i ↦ first l (omega arith) ] | no l ↦ light (omega arith) ]
+        where
+          d : edge s c ≡ 7 - k
+          d = let e : s - 1 - (7 - k) ≡ c = omega arith in ap (edge s) (sym e) ∙ far-column (7 - k) (omega arith)
+
+          light : edge s r ≡ 7 → 2 + bits / 2 ^ (7 - k) % 2 ≡ cornerAt s r c
+          light e = separator-row c (2 ^ (7 - k)) (omega (arith, d)) e bits (none e)
+
+          first : edge s r < 7 → k ≡ 0 → 2 + bits / 2 ^ (7 - k) % 2 ≡ cornerAt s r c
+          first l e =
+              let q : 2 + bits / 128 % 2 ≡ 2 = omega arith in
+              ap (λ (n : ℕ). 2 + bits / 2 ^ (7 - n) % 2) e ∙ q ∙ sym (in-separator s r c (omega arith) (omega (arith, d)) (λ w. omega (arith, d)))
+
+          finder : edge s r < 7 → 0 < k → 2 + bits / 2 ^ (7 - k) % 2 ≡ cornerAt s r c
+          finder l i =
+              let e : 6 - (c - (s - 7)) ≡ 7 - k = omega arith in
+              ap (λ (n : ℕ). 2 + n / 2 ^ (7 - k) % 2) (row l ∙ ap (λ (n : ℕ). finderRow s n r) z)
+              ∙ ap (λ (n : ℕ). 2 + finderRow s 1 r / 2 ^ n % 2) (sym e)
+              ∙ sym (in-finder s r c l (omega (arith, d)) ∙ simp (le-ltb c 7 (omega arith)))
+
+-- a row of the corners from its stretches
+module _ (s r : ℕ) (big : 23 ≤ s) (in-row : r < s) where
+  pub finder-row : (left right : ℕ) → edge s r < 8
+      → (left < 128) × ((edge s r < 7 → left ≡ finderRow s 0 r) × (edge s r ≡ 7 → left ≡ 0))
+      → (right < 128) × ((edge s r < 7 → right ≡ finderRow s 1 r) × (edge s r ≡ 7 → right ≡ 0))
+      → {g g₁ g₂ g₃ g₄ g₅ : List ℕ}
+      → Stored (λ i. 2 + 2 * left / 2 ^ (7 - (i - r * s)) % 2) (r * s) (r * s + 8) g g₁
+      → Stored (λ i. 1) (r * s + 8) (r * s + 9) g₁ g₂
+      → Stored (λ i. 0) (r * s + 9) (r * s + s - 9) g₂ g₃
+      → Stored (λ i. 1) (r * s + s - 9) (r * s + s - 8) g₃ g₄
+      → Stored (λ i. 2 + right / 2 ^ (7 - (i - (r * s + s - 8))) % 2) (r * s + s - 8) (r * s + s - 8 + 8) g₄ g₅
+      → Stored (cornerKind s) (r * s) (r * s + s) g g₅
+  finder-row left right near l q {g} {g₁} {g₂} {g₃} {g₄} {g₅} a b c d e =
+      let end : r * s + s - 8 + 8 ≡ r * s + s = omega arith in
+      let e′ : Stored (λ i. 2 + right / 2 ^ (7 - (i - (r * s + s - 8))) % 2) (r * s + s - 8) (r * s + s) g₄ g₅ = subst (λ (n : ℕ). Stored (λ i. 2 + right / 2 ^ (7 - (i - (r * s + s - 8))) % 2) (r * s + s - 8) n g₄ g₅) end e in
+      stored-next (omega arith) (omega arith) (stored-as (cornerKind s) (along s r (λ i. 2 + 2 * left / 2 ^ (7 - (i - r * s)) % 2) (omega arith) (omega arith) lefts) a)
+      (stored-next (omega arith) (omega arith) (stored-as (cornerKind s) (along s r (λ i. 1) (omega arith) (omega arith) (λ k h j. let z : 8 ≡ k = omega arith in sym (left-information s r big in-row near) ∙ ap (cornerAt s r) z)) b)
+      (stored-next (omega arith) (omega arith) (stored-as (cornerKind s) (along s r (λ i. 0) (omega arith) (omega arith) (λ k h j. sym (data-column s r big in-row k (omega arith) (omega arith)))) c)
+      (stored-next (omega arith) (omega arith) (stored-as (cornerKind s) (along s r (λ i. 1) (omega arith) (omega arith) (λ k h j. let z : s - 9 ≡ k = omega arith in sym (right-information s r big in-row near) ∙ ap (cornerAt s r) z)) d)
+      (stored-as (cornerKind s) (along s r (λ i. 2 + right / 2 ^ (7 - (i - (r * s + s - 8))) % 2) (omega arith) (omega arith) rights) e′))))
+    where
+      lefts : (k : ℕ) → r * s ≤ r * s + k → r * s + k < r * s + 8 → 2 + 2 * left / 2 ^ (7 - (r * s + k - r * s)) % 2 ≡ cornerAt s r k
+      lefts k h j =
+          let z : r * s + k - r * s ≡ k = omega arith in
+          ap (λ (n : ℕ). 2 + 2 * left / 2 ^ (7 - n) % 2) z ∙ left-modules s r big in-row near left 0 (l .0) (l .1 .0) (l .1 .1) refl k (omega arith)
+
+      rights : (k : ℕ) → r * s + s - 8 ≤ r * s + k → r * s + k < r * s + s → 2 + right / 2 ^ (7 - (r * s + k - (r * s + s - 8))) % 2 ≡ cornerAt s r k
+      rights k h j = right-modules s r big in-row near right 1 (q .0) (q .1 .0) (q .1 .1) refl k (r * s + k - (r * s + s - 8)) (omega arith) (omega arith)
+
+  pub information-row : edge s r ≡ 8 → {g g₁ g₂ g₃ : List ℕ}
+      → Stored (λ i. 1) (r * s) (r * s + 9) g g₁ → Stored (λ i. 0) (r * s + 9) (r * s + s - 9) g₁ g₂ → Stored (λ i. 1) (r * s + s - 9) (r * s + s) g₂ g₃
+      → Stored (cornerKind s) (r * s) (r * s + s) g g₃
+  information-row arm a b c =
+      stored-next (omega arith) (omega arith) (stored-as (cornerKind s) (along s r (λ i. 1) (omega arith) (omega arith) (λ k h j. sym (arm-left s r big in-row arm k (omega arith)))) a)
+      (stored-next (omega arith) (omega arith) (stored-as (cornerKind s) (along s r (λ i. 0) (omega arith) (omega arith) (λ k h j. sym (data-column s r big in-row k (omega arith) (omega arith)))) b)
+      (stored-as (cornerKind s) (along s r (λ i. 1) (omega arith) (omega arith) (λ k h j. sym (arm-right s r big in-row arm k (omega arith) (omega arith)))) c))
+
+  pub data-row : 9 ≤ edge s r → {g g' : List ℕ} → Stored (λ i. 0) (r * s) (r * s + s) g g' → Stored (cornerKind s) (r * s) (r * s + s) g g'
+  data-row h a = stored-as (cornerKind s) (along s r (λ i. 0) (omega arith) (omega arith) (λ k d j. sym (in-data-row s r k h))) a
+
+-- one row more
+pub row-next : (s r : ℕ) → r * s + s ≡ (r + 1) * s
+row-next s r = sym (suc-mul r s) ∙ ap (λ (n : ℕ). n * s) (sym (add-one r))

@@ -1,0 +1,11 @@
+pub mod Finite
+pub mod Coordinates
+pub mod Plots
+pub mod Places
+pub mod Stored
+pub mod CornerRows
+pub mod Lines
+pub mod Walk
+pub mod Answer
+pub mod KindsLow
+pub mod Theorems

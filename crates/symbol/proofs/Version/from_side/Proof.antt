@@ -1,0 +1,31 @@
+use Prim.Native.Nat.{_%_}
+use Rattle.symbol.specs.Version.{isSide, sideRefusal, sideVersion}
+use native.Mathlib.Omega.{arith}
+use borrow.Author.Tests.{le-leb, lt-leb, eq-eqb, ne-eqb}
+use borrow.Author.Needs.{needs}
+use Rattle.symbol.proofs.Version.from_side.Statement.{statement}
+use Rattle.symbol.proofs.Version.from_side.Tie as tie
+use Rattle.symbol.proofs.Version.from_side.Reads as reads
+use Rattle.symbol.proofs.Version.from_side.Lts as lts
+
+returns : tie.Need-returns
+unfolding isSide sideRefusal sideVersion
+returns c = (simp (lt-leb _ _ (c .if1 .taken)), simp (lt-leb _ _ (c .if1 .taken)))
+
+returns-2 : tie.Need-returns-2
+unfolding isSide sideRefusal sideVersion
+returns-2 c = (simp (le-leb _ _ (c .before .if1 .left), lt-leb _ _ (c .if2 .taken)), simp (le-leb _ _ (c .before .if1 .left), lt-leb _ _ (c .if2 .taken)))
+
+returns-3 : tie.Need-returns-3
+unfolding isSide sideRefusal sideVersion
+returns-3 c = let h = ne-eqb (c .before .before .before .args .side % 2) 1 (λ z. omega arith) in (simp (le-leb _ _ (c .before .before .if1 .left), le-leb _ _ (c .before .if2 .left), h), simp (le-leb _ _ (c .before .before .if1 .left), le-leb _ _ (c .before .if2 .left), h))
+
+sub-t3 : tie.Need-sub-t3
+sub-t3 c = search needs
+
+returns-4 : tie.Need-returns-4
+unfolding isSide sideRefusal sideVersion
+returns-4 c = let h = eq-eqb (c .before .before .before .args .side % 2) 1 (omega (arith, c .if3 .left)) in (simp (le-leb _ _ (c .before .before .if1 .left), le-leb _ _ (c .before .if2 .left), h), simp (le-leb _ _ (c .before .before .if1 .left), le-leb _ _ (c .before .if2 .left), h))
+
+pub from-side-spec : {M : Type 1} → statement M
+from-side-spec = tie.close (tie.spec returns returns-2 returns-3 sub-t3 returns-4)

@@ -1,0 +1,31 @@
+use Rattle.symbol.proofs.Plots.{next}
+use Rattle.symbol.specs.Layout.{alignment}
+use borrow.Author.Needs.{needs}
+use Rattle.symbol.proofs.alignment.Statement.{statement}
+use Rattle.symbol.proofs.alignment.Tie as tie
+use Rattle.symbol.proofs.alignment.Reads as reads
+use Rattle.symbol.proofs.alignment.Lts as lts
+use Rattle.symbol.proofs.columns_ends.Reads as columns-ends-reads
+use Rattle.symbol.proofs.crossings.Reads as crossings-reads
+use Rattle.symbol.proofs.rows_ends.Reads as rows-ends-reads
+
+rows-ends-requires : tie.Need-rows-ends-requires
+rows-ends-requires c κs = search needs
+
+columns-ends-requires : tie.Need-columns-ends-requires
+columns-ends-requires c κs = search needs
+
+crossings-requires : tie.Need-crossings-requires
+crossings-requires c κs = search needs
+
+same-length : tie.Need-same-length
+same-length c = search needs
+
+returns : tie.Need-returns
+unfolding alignment
+returns c = next (c .before .before .before .before .before .before .before .before .before .before .rows-ends .ensures) (next (c .before .before .before .before .before .before .columns-ends .ensures) (c .before .before .crossings .ensures))
+
+pub alignment-spec : {M : Type 1} → statement M
+alignment-spec =
+    tie.close
+    (tie.spec rows-ends-requires columns-ends-requires crossings-requires same-length returns)

@@ -1,0 +1,52 @@
+use Rattle.symbol.specs.Layout.{threeAt, assistant, plot, light, dark}
+use lib.IntN.{ℤ, pos, _+ℤ_, _-ℤ_}
+use mathlib.Core.List.{List, [], _∷_, _++_}
+use mathlib.Core.Path.{refl, _∙_}
+use Rattle.symbol.proofs.Coordinates.{read, ok}
+use Rattle.symbol.proofs.Plots.{next, heard}
+use borrow.Author.Needs.{needs}
+use Rattle.symbol.proofs.assistant.Statement.{statement}
+use Rattle.symbol.proofs.assistant.Tie as tie
+use Rattle.symbol.proofs.assistant.Reads as reads
+use Rattle.symbol.proofs.assistant.Lts as lts
+use Rattle.symbol.proofs.back.Reads as back-reads
+use Rattle.symbol.proofs.forth.Reads as forth-reads
+use Rattle.symbol.proofs.three.Reads as three-reads
+
+back-requires : tie.Need-back-requires
+back-requires c κs = search needs
+
+three-requires : tie.Need-three-requires
+three-requires c κs = search needs
+
+three-requires-2 : tie.Need-three-requires-2
+three-requires-2 c κs = search needs
+
+forth-requires : tie.Need-forth-requires
+forth-requires c κs = search needs
+
+three-requires-3 : tie.Need-three-requires-3
+three-requires-3 c κs = search needs
+
+same-length : tie.Need-same-length
+same-length c = search needs
+
+returns : tie.Need-returns
+unfolding assistant
+returns c = let o = c .before .before .before .before .before .before .before .before .before .before .before .before .before .before .before in
+    let up = heard (λ a b. threeAt a b light) (o .fits .x) (ok (c .before .before .before .before .before .before .before .before .before .before .before .before .back .result) (c .before .before .before .before .before .before .before .before .before .before .before .before .back .ok)) refl (c .before .before .before .before .before .before .before .before .before .before .before .before .back .ensures ∙ read (λ z. z -ℤ pos 1) (o .fits .y)) (c .before .before .before .before .before .before .before .before .before .before .before .three .ensures) in
+    let middle = heard (λ a b. threeAt a b dark) (o .fits .x) (o .fits .y) refl refl (c .before .before .before .before .before .before .before .three2 .ensures) in
+    let low = heard (λ a b. threeAt a b light) (o .fits .x) (ok (c .before .before .before .forth .result) (c .before .before .before .forth .ok)) refl (c .before .before .before .forth .ensures ∙ read (λ z. z +ℤ pos 1) (o .fits .y)) (c .before .before .three3 .ensures) in
+    next up (next middle low)
+
+pub assistant-spec : {M : Type 1} → statement M
+assistant-spec =
+    tie.close
+    (tie.spec
+    back-requires
+    three-requires
+    three-requires-2
+    forth-requires
+    three-requires-3
+    same-length
+    returns)

@@ -1,0 +1,71 @@
+use Rattle.symbol.specs.Layout.{mOf, lineOf, rowOf, columnOf, rowEnds, columnEnds, crossing, crossings, each}
+use Rattle.symbol.proofs.Walk.{Walk, begin, roomy, on, small, further, done, row-inside, row-last, column-inside, column-last, column-start}
+use Rattle.symbol.proofs.Coordinates.{ok, near, whole-near, room-of}
+use mir.Syntax.{w64}
+use mir.Val.{toZ}
+use mir.Facts.{toZ-ofZ}
+use lib.IntN.{ℤ, pos}
+use mathlib.Core.Path.{_≡_, refl, sym, ap, _∙_}
+use Prim.Native.Nat.{ℕ, _+_, _-_}
+use native.Mathlib.Omega.{arith}
+use borrow.Author.Needs.{needs}
+use Rattle.symbol.proofs.columns_ends.Statement.{statement}
+use Rattle.symbol.proofs.columns_ends.Tie as tie
+use Rattle.symbol.proofs.columns_ends.Reads as reads
+use Rattle.symbol.proofs.columns_ends.Lts as lts
+use Rattle.symbol.proofs.column_ends.Reads as column-ends-reads
+use Rattle.symbol.proofs.next_column.Reads as next-column-reads
+use Rattle.symbol.proofs.signed.Reads as signed-reads
+
+abbrev Inv-loop : tie.InvT-loop
+Inv-loop grid₀ p x₀ n₀ grid x n = Walk p columnOf (columnEnds (p .version)) grid₀ grid (toZ w64 x) n
+
+abbrev μ-loop : tie.MeasureT-loop
+μ-loop grid₀ p x₀ n₀ grid x n = mOf (p .version) + 2 - n
+
+sub-signed : tie.Need-sub-signed Inv-loop μ-loop
+sub-signed c = omega (arith, c .before .before .pre .spaced .side-is)
+
+signed-requires : tie.Need-signed-requires Inv-loop μ-loop
+signed-requires c κs = omega (arith, c .before .before .pre .spaced .side-is, c .before .before .pre .spaced .high)
+
+loop-holds : tie.Need-loop-holds Inv-loop μ-loop
+loop-holds c = begin (c .before .before .before .args .p) columnOf (columnEnds (c .before .before .before .args .p .version)) (c .before .before .before .args .grid .now) (toZ-ofZ (ok (c .signed .result) (c .signed .ok)) ∙ c .signed .ensures ∙ ap (λ (k : ℕ). pos (k - 1)) (c .before .before .before .pre .spaced .side-is) ∙ column-start (c .before .before .before .args .p .version))
+
+column-ends-requires : tie.Need-column-ends-requires Inv-loop μ-loop
+column-ends-requires c κs = (roomy (c .before .before .before .before .before .before .pre) (c .before .before .loop .inv), on (c .before .before .before .before .before .before .pre) (c .before .before .loop .inv) (column-inside (c .before .before .before .before .before .before .pre .spaced) (c .before .before .loop .n) (c .before .before .loop .inv .few) (c .before .before .loop .inv .here) (c .before .loop-test .taken)))
+
+next-column-requires : tie.Need-next-column-requires Inv-loop μ-loop
+next-column-requires c κs = (c .before .before .before .before .before .before .before .before .before .pre .spaced, on (c .before .before .before .before .before .before .before .before .before .pre) (c .before .before .before .before .before .loop .inv) (column-inside (c .before .before .before .before .before .before .before .before .before .pre .spaced) (c .before .before .before .before .before .loop .n) (c .before .before .before .before .before .loop .inv .few) (c .before .before .before .before .before .loop .inv .here) (c .before .before .before .before .loop-test .taken)))
+
+add-n : tie.Need-add-n Inv-loop μ-loop
+add-n c = omega (arith, small (c .before .before .before .before .before .before .before .before .before .before .pre) (c .before .before .before .before .before .before .loop .inv) (column-inside (c .before .before .before .before .before .before .before .before .before .before .pre .spaced) (c .before .before .before .before .before .before .loop .n) (c .before .before .before .before .before .before .loop .inv .few) (c .before .before .before .before .before .before .loop .inv .here) (c .before .before .before .before .before .loop-test .taken)))
+
+loop-less : tie.Need-loop-less Inv-loop μ-loop
+loop-less c = omega (arith, (column-inside (c .before .before .before .before .before .before .before .before .before .before .pre .spaced) (c .before .before .before .before .before .before .loop .n) (c .before .before .before .before .before .before .loop .inv .few) (c .before .before .before .before .before .before .loop .inv .here) (c .before .before .before .before .before .loop-test .taken)))
+
+loop-again : tie.Need-loop-again Inv-loop μ-loop
+loop-again c = further (c .before .before .before .before .before .before .before .before .before .before .pre) (c .before .before .before .before .before .before .loop .inv) (column-inside (c .before .before .before .before .before .before .before .before .before .before .pre .spaced) (c .before .before .before .before .before .before .loop .n) (c .before .before .before .before .before .before .loop .inv .few) (c .before .before .before .before .before .before .loop .inv .here) (c .before .before .before .before .before .loop-test .taken)) (c .before .before .before .column-ends .ensures) (c .before .before .before .column-ends .kept .0) (toZ-ofZ (ok (c .next-column .result) (c .next-column .ok)) ∙ c .next-column .ensures)
+
+same-length : tie.Need-same-length Inv-loop μ-loop
+same-length c = c .before .loop .inv .kept
+
+returns : tie.Need-returns Inv-loop μ-loop
+returns c = done (c .before .before .before .before .before .pre) (c .before .loop .inv) (column-last (c .before .before .before .before .before .pre .spaced) (c .before .loop .n) (c .before .loop .inv .few) (c .before .loop .inv .here) (c .loop-test .left))
+
+pub columns-ends-spec : {M : Type 1} → statement M
+columns-ends-spec =
+    tie.close
+    (tie.spec
+    Inv-loop
+    μ-loop
+    sub-signed
+    signed-requires
+    loop-holds
+    column-ends-requires
+    next-column-requires
+    add-n
+    loop-less
+    loop-again
+    same-length
+    returns)

@@ -1,0 +1,69 @@
+use Rattle.symbol.proofs.Answer.{too-low, too-high, too-short, small, large}
+use Rattle.symbol.proofs.Coordinates.{square-le}
+use Rattle.symbol.specs.Version.{sideOf}
+use lib.ListN.{length}
+use mathlib.Core.Path.{sym, subst, ap, _∙_}
+use Prim.Native.Nat.{ℕ, _*_, _<_, _≤_}
+use native.Mathlib.Omega.{arith}
+use borrow.Author.Needs.{needs}
+use Rattle.symbol.proofs.layout.Statement.{statement}
+use Rattle.symbol.proofs.layout.Tie as tie
+use Rattle.symbol.proofs.layout.Reads as reads
+use Rattle.symbol.proofs.layout.Lts as lts
+use Rattle.symbol.proofs.Version.side.Reads as side-reads
+use Rattle.symbol.proofs.alignment.Reads as alignment-reads
+use Rattle.symbol.proofs.corners.Reads as corners-reads
+use Rattle.symbol.proofs.spacing_of.Reads as spacing-of-reads
+
+returns : tie.Need-returns
+returns c = too-low (c .before .before .args .version) (c .before .before .args .out .now) (c .if1 .taken)
+
+returns-2 : tie.Need-returns-2
+returns-2 c = too-high (c .before .before .before .args .version) (c .before .before .before .args .out .now) (c .before .if1 .left) (c .if2 .taken)
+
+side-requires : tie.Need-side-requires
+side-requires c κs = search needs
+
+mul-if3 : tie.Need-mul-if3
+mul-if3 c = omega (arith, square-le (c .side .result) (omega (arith, c .side .ensures, c .before .if2 .left)))
+
+returns-3 : tie.Need-returns-3
+returns-3 c = too-short (c .before .before .before .before .before .args .version) (c .before .before .before .before .before .args .out .now) (c .before .before .before .if1 .left) (c .before .before .if2 .left) (subst (λ (k : ℕ). length (c .before .before .before .before .before .args .out .now) < k * k) (c .before .side .ensures) (c .if3 .taken))
+
+corners-requires : tie.Need-corners-requires
+corners-requires c κs = search needs
+
+same-length : tie.Need-same-length
+same-length c = search needs
+
+returns-4 : tie.Need-returns-4
+returns-4 c = small (c .before .before .before .before .before .before .before .before .before .before .args .version) (c .before .before .before .before .before .before .before .before .before .before .args .out .now) (c .before .before .before .before .before .before .before .before .if1 .left) (c .before .before .before .before .before .before .before .if2 .left) (subst (λ (k : ℕ). k * k ≤ length (c .before .before .before .before .before .before .before .before .before .before .args .out .now)) (c .before .before .before .before .before .before .side .ensures) (c .before .before .before .before .before .if3 .left)) (c .before .before .before .before .before .before .side .ensures) (c .before .before .before .corners .ensures) (c .if4 .taken)
+
+spacing-of-requires : tie.Need-spacing-of-requires
+spacing-of-requires c κs = search needs
+
+alignment-requires : tie.Need-alignment-requires
+alignment-requires c κs = record { spaced = c .spacing-of .ensures .0; room = subst (λ (k : ℕ). sideOf k * sideOf k ≤ length (c .before .before .before .before .before .corners .last .0)) (sym (c .spacing-of .ensures .1)) (omega (arith, c .before .before .before .before .before .corners .kept .0, subst (λ (k : ℕ). k * k ≤ length (c .before .before .before .before .before .before .before .before .before .before .before .before .args .out .now)) (c .before .before .before .before .before .before .before .before .side .ensures) (c .before .before .before .before .before .before .before .if3 .left))) }
+
+same-length-2 : tie.Need-same-length-2
+same-length-2 c = search needs
+
+returns-5 : tie.Need-returns-5
+returns-5 c = large (c .before .before .before .before .before .before .before .before .before .before .before .before .before .before .before .args .version) (c .before .before .before .before .before .before .before .before .before .before .before .before .before .before .before .args .out .now) (c .before .before .before .before .before .before .before .before .before .before .before .before .before .if1 .left) (c .before .before .before .before .before .before .before .before .before .before .before .before .if2 .left) (subst (λ (k : ℕ). k * k ≤ length (c .before .before .before .before .before .before .before .before .before .before .before .before .before .before .before .args .out .now)) (c .before .before .before .before .before .before .before .before .before .before .before .side .ensures) (c .before .before .before .before .before .before .before .before .before .before .if3 .left)) (c .before .before .before .before .before .before .before .before .before .before .before .side .ensures) (c .before .before .before .before .before .before .before .before .corners .ensures) (c .before .before .before .before .before .if4 .left) (c .before .before .before .spacing-of .ensures .1) (c .before .before .alignment .ensures)
+
+pub layout-spec : {M : Type 1} → statement M
+layout-spec =
+    tie.close
+    (tie.spec
+    returns
+    returns-2
+    side-requires
+    mul-if3
+    returns-3
+    corners-requires
+    same-length
+    returns-4
+    spacing-of-requires
+    alignment-requires
+    same-length-2
+    returns-5)

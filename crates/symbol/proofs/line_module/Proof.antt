@@ -1,0 +1,41 @@
+use Rattle.symbol.specs.Layout.{lineModule, plot, light, dark}
+use lib.IntN.{ℤ, pos, _+ℤ_, _-ℤ_}
+use mathlib.Core.List.{List, [], _∷_}
+use mathlib.Core.Path.{refl, _∙_}
+use Rattle.symbol.proofs.Coordinates.{read, ok}
+use Rattle.symbol.proofs.Plots.{next, heard}
+use borrow.Author.Needs.{needs}
+use Rattle.symbol.proofs.line_module.Statement.{statement}
+use Rattle.symbol.proofs.line_module.Tie as tie
+use Rattle.symbol.proofs.line_module.Reads as reads
+use Rattle.symbol.proofs.line_module.Lts as lts
+use Rattle.symbol.proofs.back.Reads as back-reads
+use Rattle.symbol.proofs.forth.Reads as forth-reads
+use Rattle.symbol.proofs.plot.Reads as plot-reads
+
+plot-requires : tie.Need-plot-requires
+plot-requires c κs = search needs
+
+back-requires : tie.Need-back-requires
+back-requires c κs = search needs
+
+forth-requires : tie.Need-forth-requires
+forth-requires c κs = search needs
+
+plot-requires-2 : tie.Need-plot-requires-2
+plot-requires-2 c κs = search needs
+
+same-length : tie.Need-same-length
+same-length c = search needs
+
+returns : tie.Need-returns
+unfolding lineModule
+returns c = let o = c .before .before .before .before .before .before .before .before .before .before .before in
+    let first = heard (λ a b. plot a b dark ∷ []) (o .fits .x) (o .fits .y) refl refl (c .before .before .before .before .before .before .before .before .plot .ensures) in
+    let second = heard (λ a b. plot a b light ∷ []) (ok (c .before .before .before .before .back .result) (c .before .before .before .before .back .ok)) (ok (c .before .before .before .forth .result) (c .before .before .before .forth .ok)) (c .before .before .before .before .back .ensures ∙ read (λ z. z -ℤ pos 1) (o .fits .x)) (c .before .before .before .forth .ensures ∙ read (λ z. z +ℤ pos 1) (o .fits .y)) (c .before .before .plot2 .ensures) in
+    next first second
+
+pub line-module-spec : {M : Type 1} → statement M
+line-module-spec =
+    tie.close
+    (tie.spec plot-requires back-requires forth-requires plot-requires-2 same-length returns)

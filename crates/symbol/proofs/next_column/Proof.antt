@@ -1,0 +1,25 @@
+use native.Mathlib.Omega.{arith}
+use mathlib.Core.Path.{_∙_}
+use lib.IntN.{ℤ, pos, _-ℤ_}
+use mir.Facts.{toZ-ofZ}
+use Rattle.symbol.proofs.Coordinates.{near, ok, read}
+use Rattle.symbol.proofs.Walk.{column-near, column-more}
+use borrow.Author.Needs.{needs}
+use Rattle.symbol.proofs.next_column.Statement.{statement}
+use Rattle.symbol.proofs.next_column.Tie as tie
+use Rattle.symbol.proofs.next_column.Reads as reads
+use Rattle.symbol.proofs.next_column.Lts as lts
+use Rattle.symbol.proofs.back.Reads as back-reads
+use Rattle.symbol.proofs.step.Reads as step-reads
+
+step-requires : tie.Need-step-requires
+step-requires c κs = search needs
+
+back-requires : tie.Need-back-requires
+back-requires c κs = (near 1000 (c .before .fits .x) (omega (arith, column-near (c .before .pre .0) (c .before .pre .1))), omega (arith, c .step .ensures .1 .1))
+
+returns : tie.Need-returns
+returns c = toZ-ofZ (ok (c .back .result) (c .back .ok)) ∙ c .back .ensures ∙ read (λ z. z -ℤ pos (c .before .step .result)) (c .before .before .fits .x) ∙ column-more (c .before .before .args .p .version) (c .before .before .args .n) (c .before .step .result) (c .before .before .pre .1 .here) (c .before .step .ensures .0)
+
+pub next-column-spec : {M : Type 1} → statement M
+next-column-spec = tie.close (tie.spec step-requires back-requires returns)

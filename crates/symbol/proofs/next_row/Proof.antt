@@ -1,0 +1,25 @@
+use native.Mathlib.Omega.{arith}
+use mathlib.Core.Path.{_∙_}
+use lib.IntN.{ℤ, pos, _+ℤ_}
+use mir.Facts.{toZ-ofZ}
+use Rattle.symbol.proofs.Coordinates.{near, ok, read}
+use Rattle.symbol.proofs.Walk.{row-near, row-more}
+use borrow.Author.Needs.{needs}
+use Rattle.symbol.proofs.next_row.Statement.{statement}
+use Rattle.symbol.proofs.next_row.Tie as tie
+use Rattle.symbol.proofs.next_row.Reads as reads
+use Rattle.symbol.proofs.next_row.Lts as lts
+use Rattle.symbol.proofs.forth.Reads as forth-reads
+use Rattle.symbol.proofs.step.Reads as step-reads
+
+step-requires : tie.Need-step-requires
+step-requires c κs = search needs
+
+forth-requires : tie.Need-forth-requires
+forth-requires c κs = (near 1000 (c .before .fits .y) (omega (arith, row-near (c .before .pre .0) (c .before .pre .1))), omega (arith, c .step .ensures .1 .1))
+
+returns : tie.Need-returns
+returns c = toZ-ofZ (ok (c .forth .result) (c .forth .ok)) ∙ c .forth .ensures ∙ read (λ z. z +ℤ pos (c .before .step .result)) (c .before .before .fits .y) ∙ row-more (c .before .before .args .p .version) (c .before .before .args .n) (c .before .step .result) (c .before .before .pre .1 .here) (c .before .step .ensures .0)
+
+pub next-row-spec : {M : Type 1} → statement M
+next-row-spec = tie.close (tie.spec step-requires forth-requires returns)

@@ -1,0 +1,58 @@
+use mathlib.Core.Bool.{Bool}
+use Rattle.symbol.specs.Layout.{odd, rowEnds, columnEnds}
+use Rattle.symbol.proofs.Plots.{next, assisted}
+use Rattle.symbol.proofs.Walk.{row-near}
+use Rattle.symbol.proofs.Lines.{tabled}
+use Rattle.symbol.proofs.Coordinates.{ok, near, whole-near, room-of}
+use mir.Syntax.{w64}
+use mir.Val.{toZ}
+use mir.Facts.{toZ-ofZ}
+use lib.IntN.{ℤ, pos}
+use mathlib.Core.Path.{_≡_, refl, sym, ap, _∙_}
+use Prim.Native.Nat.{ℕ, _+_, _-_}
+use native.Mathlib.Omega.{arith}
+use borrow.Author.Needs.{needs}
+use Rattle.symbol.proofs.row_ends.Statement.{statement}
+use Rattle.symbol.proofs.row_ends.Tie as tie
+use Rattle.symbol.proofs.row_ends.Reads as reads
+use Rattle.symbol.proofs.row_ends.Lts as lts
+use Rattle.symbol.proofs.assistant_if.Reads as assistant-if-reads
+use Rattle.symbol.proofs.signed.Reads as signed-reads
+
+signed-requires : tie.Need-signed-requires
+signed-requires c κs = search needs
+
+sub-signed : tie.Need-sub-signed
+sub-signed c = search needs
+
+signed-requires-2 : tie.Need-signed-requires-2
+signed-requires-2 c κs = search needs
+
+add-assistant-if : tie.Need-add-assistant-if
+add-assistant-if c = omega (arith, tabled (c .before .before .before .before .before .before .args .p .version) (c .before .before .before .before .before .before .pre .0 .spaced .low) (c .before .before .before .before .before .before .pre .0 .spaced .high) .m-le, c .before .before .before .before .before .before .pre .1 .inside, c .before .before .before .before .before .before .pre .0 .spaced .m-is)
+
+assistant-if-requires : tie.Need-assistant-if-requires
+assistant-if-requires c κs = (omega (arith, c .before .before .before .before .before .before .pre .0 .spaced .side-is, c .before .before .before .before .before .before .pre .0 .spaced .high), room-of (c .before .before .before .before .before .before .pre .0 .spaced .side-is) (c .before .before .before .before .before .before .pre .0 .room), whole-near 1000 (ok (c .before .before .before .before .signed .result) (c .before .before .before .before .signed .ok)) (c .before .before .before .before .signed .ensures) (omega arith), near 1000 (c .before .before .before .before .before .before .fits .y) (omega (arith, row-near (c .before .before .before .before .before .before .pre .0 .spaced) (c .before .before .before .before .before .before .pre .1))))
+
+assistant-if-requires-2 : tie.Need-assistant-if-requires-2
+assistant-if-requires-2 c κs = (omega (arith, c .before .before .before .before .before .before .before .before .before .before .pre .0 .spaced .side-is, c .before .before .before .before .before .before .before .before .before .before .pre .0 .spaced .high), omega (arith, c .before .before .before .assistant-if .kept .0, room-of (c .before .before .before .before .before .before .before .before .before .before .pre .0 .spaced .side-is) (c .before .before .before .before .before .before .before .before .before .before .pre .0 .room)), whole-near 1000 (ok (c .before .before .before .before .before .before .signed2 .result) (c .before .before .before .before .before .before .signed2 .ok)) (c .before .before .before .before .before .before .signed2 .ensures) (omega (arith, c .before .before .before .before .before .before .before .before .before .before .pre .0 .spaced .side-is, c .before .before .before .before .before .before .before .before .before .before .pre .0 .spaced .high)), near 1000 (c .before .before .before .before .before .before .before .before .before .before .fits .y) (omega (arith, row-near (c .before .before .before .before .before .before .before .before .before .before .pre .0 .spaced) (c .before .before .before .before .before .before .before .before .before .before .pre .1))))
+
+same-length : tie.Need-same-length
+same-length c = search needs
+
+returns : tie.Need-returns
+unfolding rowEnds
+returns c = next (assisted (c .before .before .before .before .before .before .before .before .before .before .before .before .before .pre .0 .spaced .side-is) (ap (λ (k : ℕ). odd (c .before .before .before .before .before .before .before .before .before .before .before .before .before .args .n + k)) (c .before .before .before .before .before .before .before .before .before .before .before .before .before .pre .0 .spaced .m-is)) (ok (c .before .before .before .before .before .before .before .before .before .before .before .signed .result) (c .before .before .before .before .before .before .before .before .before .before .before .signed .ok)) (c .before .before .before .before .before .before .before .before .before .before .before .before .before .fits .y) (c .before .before .before .before .before .before .before .before .before .before .before .signed .ensures) (c .before .before .before .before .before .before .before .before .before .before .before .before .before .pre .1 .here) (c .before .before .before .before .before .before .assistant-if .ensures)) (assisted {b = odd (c .before .before .before .before .before .before .before .before .before .before .before .before .before .args .n)} (c .before .before .before .before .before .before .before .before .before .before .before .before .before .pre .0 .spaced .side-is) refl (ok (c .before .before .before .before .before .before .before .before .before .signed2 .result) (c .before .before .before .before .before .before .before .before .before .signed2 .ok)) (c .before .before .before .before .before .before .before .before .before .before .before .before .before .fits .y) (c .before .before .before .before .before .before .before .before .before .signed2 .ensures ∙ ap (λ (k : ℕ). pos (k - 1)) (c .before .before .before .before .before .before .before .before .before .before .before .before .before .pre .0 .spaced .side-is)) (c .before .before .before .before .before .before .before .before .before .before .before .before .before .pre .1 .here) (c .before .before .assistant-if2 .ensures))
+
+pub row-ends-spec : {M : Type 1} → statement M
+row-ends-spec =
+    tie.close
+    (tie.spec
+    signed-requires
+    sub-signed
+    signed-requires-2
+    add-assistant-if
+    assistant-if-requires
+    assistant-if-requires-2
+    same-length
+    returns)

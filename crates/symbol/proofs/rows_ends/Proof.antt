@@ -1,0 +1,68 @@
+use Rattle.symbol.specs.Layout.{mOf, lineOf, rowOf, columnOf, rowEnds, columnEnds, crossing, crossings, each}
+use Rattle.symbol.proofs.Walk.{Walk, begin, roomy, on, small, further, done, row-inside, row-last, column-inside, column-last, column-start}
+use Rattle.symbol.proofs.Coordinates.{ok, near, whole-near, room-of}
+use mir.Syntax.{w64}
+use mir.Val.{toZ}
+use mir.Facts.{toZ-ofZ}
+use lib.IntN.{ℤ, pos}
+use mathlib.Core.Path.{_≡_, refl, sym, ap, _∙_}
+use Prim.Native.Nat.{ℕ, _+_, _-_}
+use native.Mathlib.Omega.{arith}
+use borrow.Author.Needs.{needs}
+use Rattle.symbol.proofs.rows_ends.Statement.{statement}
+use Rattle.symbol.proofs.rows_ends.Tie as tie
+use Rattle.symbol.proofs.rows_ends.Reads as reads
+use Rattle.symbol.proofs.rows_ends.Lts as lts
+use Rattle.symbol.proofs.next_row.Reads as next-row-reads
+use Rattle.symbol.proofs.row_ends.Reads as row-ends-reads
+use Rattle.symbol.proofs.signed.Reads as signed-reads
+
+abbrev Inv-loop : tie.InvT-loop
+Inv-loop grid₀ p end y₀ n₀ grid y n = Walk p rowOf (rowEnds (p .version)) grid₀ grid (toZ w64 y) n
+
+abbrev μ-loop : tie.MeasureT-loop
+μ-loop grid₀ p end y₀ n₀ grid y n = mOf (p .version) + 2 - n
+
+signed-requires : tie.Need-signed-requires Inv-loop μ-loop
+signed-requires c κs = omega (arith, c .before .pre .spaced .side-is, c .before .pre .spaced .high)
+
+loop-holds : tie.Need-loop-holds Inv-loop μ-loop
+unfolding lineOf
+loop-holds c = begin (c .before .before .args .p) rowOf (rowEnds (c .before .before .args .p .version)) (c .before .before .args .grid .now) refl
+
+row-ends-requires : tie.Need-row-ends-requires Inv-loop μ-loop
+row-ends-requires c κs = (roomy (c .before .before .before .before .before .pre) (c .before .before .loop .inv), on (c .before .before .before .before .before .pre) (c .before .before .loop .inv) (row-inside (c .before .before .before .before .before .pre .spaced) (c .before .before .loop .n) (c .before .before .loop .inv .few) (c .before .before .loop .inv .here) (toZ-ofZ (ok (c .before .before .before .signed .result) (c .before .before .before .signed .ok)) ∙ c .before .before .before .signed .ensures ∙ ap pos (c .before .before .before .before .before .pre .spaced .side-is)) (c .before .loop-test .taken)))
+
+next-row-requires : tie.Need-next-row-requires Inv-loop μ-loop
+next-row-requires c κs = (c .before .before .before .before .before .before .before .before .pre .spaced, on (c .before .before .before .before .before .before .before .before .pre) (c .before .before .before .before .before .loop .inv) (row-inside (c .before .before .before .before .before .before .before .before .pre .spaced) (c .before .before .before .before .before .loop .n) (c .before .before .before .before .before .loop .inv .few) (c .before .before .before .before .before .loop .inv .here) (toZ-ofZ (ok (c .before .before .before .before .before .before .signed .result) (c .before .before .before .before .before .before .signed .ok)) ∙ c .before .before .before .before .before .before .signed .ensures ∙ ap pos (c .before .before .before .before .before .before .before .before .pre .spaced .side-is)) (c .before .before .before .before .loop-test .taken)))
+
+add-n : tie.Need-add-n Inv-loop μ-loop
+add-n c = omega (arith, small (c .before .before .before .before .before .before .before .before .before .pre) (c .before .before .before .before .before .before .loop .inv) (row-inside (c .before .before .before .before .before .before .before .before .before .pre .spaced) (c .before .before .before .before .before .before .loop .n) (c .before .before .before .before .before .before .loop .inv .few) (c .before .before .before .before .before .before .loop .inv .here) (toZ-ofZ (ok (c .before .before .before .before .before .before .before .signed .result) (c .before .before .before .before .before .before .before .signed .ok)) ∙ c .before .before .before .before .before .before .before .signed .ensures ∙ ap pos (c .before .before .before .before .before .before .before .before .before .pre .spaced .side-is)) (c .before .before .before .before .before .loop-test .taken)))
+
+loop-less : tie.Need-loop-less Inv-loop μ-loop
+loop-less c = omega (arith, (row-inside (c .before .before .before .before .before .before .before .before .before .pre .spaced) (c .before .before .before .before .before .before .loop .n) (c .before .before .before .before .before .before .loop .inv .few) (c .before .before .before .before .before .before .loop .inv .here) (toZ-ofZ (ok (c .before .before .before .before .before .before .before .signed .result) (c .before .before .before .before .before .before .before .signed .ok)) ∙ c .before .before .before .before .before .before .before .signed .ensures ∙ ap pos (c .before .before .before .before .before .before .before .before .before .pre .spaced .side-is)) (c .before .before .before .before .before .loop-test .taken)))
+
+loop-again : tie.Need-loop-again Inv-loop μ-loop
+loop-again c = further (c .before .before .before .before .before .before .before .before .before .pre) (c .before .before .before .before .before .before .loop .inv) (row-inside (c .before .before .before .before .before .before .before .before .before .pre .spaced) (c .before .before .before .before .before .before .loop .n) (c .before .before .before .before .before .before .loop .inv .few) (c .before .before .before .before .before .before .loop .inv .here) (toZ-ofZ (ok (c .before .before .before .before .before .before .before .signed .result) (c .before .before .before .before .before .before .before .signed .ok)) ∙ c .before .before .before .before .before .before .before .signed .ensures ∙ ap pos (c .before .before .before .before .before .before .before .before .before .pre .spaced .side-is)) (c .before .before .before .before .before .loop-test .taken)) (c .before .before .before .row-ends .ensures) (c .before .before .before .row-ends .kept .0) (toZ-ofZ (ok (c .next-row .result) (c .next-row .ok)) ∙ c .next-row .ensures)
+
+same-length : tie.Need-same-length Inv-loop μ-loop
+same-length c = c .before .loop .inv .kept
+
+returns : tie.Need-returns Inv-loop μ-loop
+returns c = done (c .before .before .before .before .pre) (c .before .loop .inv) (row-last (c .before .before .before .before .pre .spaced) (c .before .loop .n) (c .before .loop .inv .few) (c .before .loop .inv .here) (toZ-ofZ (ok (c .before .before .signed .result) (c .before .before .signed .ok)) ∙ c .before .before .signed .ensures ∙ ap pos (c .before .before .before .before .pre .spaced .side-is)) (c .loop-test .left))
+
+pub rows-ends-spec : {M : Type 1} → statement M
+rows-ends-spec =
+    tie.close
+    (tie.spec
+    Inv-loop
+    μ-loop
+    signed-requires
+    loop-holds
+    row-ends-requires
+    next-row-requires
+    add-n
+    loop-less
+    loop-again
+    same-length
+    returns)

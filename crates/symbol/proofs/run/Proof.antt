@@ -1,0 +1,53 @@
+use Prim.Native.Nat.{ℕ}
+use mathlib.Core.Path.{_≡_, refl, subst}
+use Rattle.symbol.proofs.Stored.{stored-none, stored-more}
+use Rattle.symbol.specs.Inner.{Stored}
+use lib.ListN.{length}
+use Prim.Native.Nat.{_-_, _≤_}
+use native.Mathlib.Omega.{arith}
+use borrow.Author.Needs.{needs}
+use Rattle.symbol.proofs.run.Statement.{statement}
+use Rattle.symbol.proofs.run.Tie as tie
+use Rattle.symbol.proofs.run.Reads as reads
+use Rattle.symbol.proofs.run.Lts as lts
+
+abbrev Inv-loop : tie.InvT-loop
+Inv-loop out₀ from to kind i₀ out i = Stored (λ i. kind) from i out₀ out × (from ≤ i) × (i ≤ to)
+
+abbrev μ-loop : tie.MeasureT-loop
+μ-loop out₀ from to kind i₀ out i = to - i
+
+loop-holds : tie.Need-loop-holds Inv-loop μ-loop
+loop-holds c = (stored-none _ _ _, omega arith, omega arith)
+
+slice-write-out : tie.Need-slice-write-out Inv-loop μ-loop
+slice-write-out c = omega (arith, c .before .loop .inv .0 .size)
+
+add-i : tie.Need-add-i Inv-loop μ-loop
+add-i c = omega arith
+
+loop-less : tie.Need-loop-less Inv-loop μ-loop
+loop-less c = omega arith
+
+loop-again : tie.Need-loop-again Inv-loop μ-loop
+loop-again c = (stored-more (c .before .loop .inv .1) (omega (arith, c .before .loop .inv .0 .size)) refl (c .before .loop .inv .0), omega arith, omega arith)
+
+same-length : tie.Need-same-length Inv-loop μ-loop
+same-length c = c .before .loop .inv .0 .size
+
+returns : tie.Need-returns Inv-loop μ-loop
+returns c = let e : c .before .loop .i ≡ c .before .before .args .to = omega arith in subst (λ (n : ℕ). Stored (λ i. c .before .before .args .kind) (c .before .before .args .from) n (c .before .before .args .out .now) (c .before .loop .out)) e (c .before .loop .inv .0)
+
+pub run-spec : {M : Type 1} → statement M
+run-spec =
+    tie.close
+    (tie.spec
+    Inv-loop
+    μ-loop
+    loop-holds
+    slice-write-out
+    add-i
+    loop-less
+    loop-again
+    same-length
+    returns)

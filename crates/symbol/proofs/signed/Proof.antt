@@ -1,0 +1,15 @@
+use Rattle.symbol.proofs.Coordinates.{unsigned}
+use borrow.Author.Needs.{needs}
+use Rattle.symbol.proofs.signed.Statement.{statement}
+use Rattle.symbol.proofs.signed.Tie as tie
+use Rattle.symbol.proofs.signed.Reads as reads
+use Rattle.symbol.proofs.signed.Lts as lts
+
+cast-result : tie.Need-cast-result
+cast-result c = search needs
+
+returns : tie.Need-returns
+returns c = unsigned (c .args .n) (c .pre)
+
+pub signed-spec : {M : Type 1} → statement M
+signed-spec = tie.close (tie.spec cast-result returns)

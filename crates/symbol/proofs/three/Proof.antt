@@ -1,0 +1,52 @@
+use Rattle.symbol.specs.Layout.{threeAt, plot, light}
+use lib.IntN.{ℤ, pos, _+ℤ_, _-ℤ_}
+use mathlib.Core.List.{List, [], _∷_}
+use mathlib.Core.Path.{refl, _∙_}
+use Rattle.symbol.proofs.Coordinates.{read, ok}
+use Rattle.symbol.proofs.Plots.{next, heard}
+use borrow.Author.Needs.{needs}
+use Rattle.symbol.proofs.three.Statement.{statement}
+use Rattle.symbol.proofs.three.Tie as tie
+use Rattle.symbol.proofs.three.Reads as reads
+use Rattle.symbol.proofs.three.Lts as lts
+use Rattle.symbol.proofs.back.Reads as back-reads
+use Rattle.symbol.proofs.forth.Reads as forth-reads
+use Rattle.symbol.proofs.plot.Reads as plot-reads
+
+back-requires : tie.Need-back-requires
+back-requires c κs = search needs
+
+plot-requires : tie.Need-plot-requires
+plot-requires c κs = search needs
+
+plot-requires-2 : tie.Need-plot-requires-2
+plot-requires-2 c κs = search needs
+
+forth-requires : tie.Need-forth-requires
+forth-requires c κs = search needs
+
+plot-requires-3 : tie.Need-plot-requires-3
+plot-requires-3 c κs = search needs
+
+same-length : tie.Need-same-length
+same-length c = search needs
+
+returns : tie.Need-returns
+unfolding threeAt
+returns c = let o = c .before .before .before .before .before .before .before .before .before .before .before .before .before .before .before in
+    let left = heard (λ a b. plot a b light ∷ []) (ok (c .before .before .before .before .before .before .before .before .before .before .before .before .back .result) (c .before .before .before .before .before .before .before .before .before .before .before .before .back .ok)) (o .fits .y) (c .before .before .before .before .before .before .before .before .before .before .before .before .back .ensures ∙ read (λ z. z -ℤ pos 1) (o .fits .x)) refl (c .before .before .before .before .before .before .before .before .before .before .before .plot .ensures) in
+    let middle = heard (λ a b. plot a b (o .args .kind) ∷ []) (o .fits .x) (o .fits .y) refl refl (c .before .before .before .before .before .before .before .plot2 .ensures) in
+    let right = heard (λ a b. plot a b light ∷ []) (ok (c .before .before .before .forth .result) (c .before .before .before .forth .ok)) (o .fits .y) (c .before .before .before .forth .ensures ∙ read (λ z. z +ℤ pos 1) (o .fits .x)) refl (c .before .before .plot3 .ensures) in
+    next left (next middle right)
+
+pub three-spec : {M : Type 1} → statement M
+three-spec =
+    tie.close
+    (tie.spec
+    back-requires
+    plot-requires
+    plot-requires-2
+    forth-requires
+    plot-requires-3
+    same-length
+    returns)

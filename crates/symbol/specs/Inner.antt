@@ -1,0 +1,39 @@
+-- Records that only the contracts of inner functions cite. Nobody has to believe them: they say where a loop or a call stands.
+use mathlib.Core.Path.{_≡_}
+use mathlib.Core.List.{List}
+use Prim.Native.Nat.{ℕ, _+_, _*_, _<_, _≤_}
+use lib.IntN.{ℤ}
+use lib.ListN.{length, getD}
+use Rattle.symbol.specs.Version.{sideOf}
+use Rattle.symbol.specs.Layout.{Plot, plotAll, kOf, rOf, mOf}
+use Rattle.symbol.specs.declared.Spacing.{Spacing}
+
+-- places from to below `to` were given what f says, and no other byte changed
+pub record Stored (f : ℕ → ℕ) (from to : ℕ) (g g' : List ℕ) : Type 0 where
+  pub size : length g' ≡ length g
+  pub here : (i : ℕ) → from ≤ i → i < to → getD g' i 0 ≡ f i
+  pub before : (i : ℕ) → i < from → getD g' i 0 ≡ getD g i 0
+  pub after : (i : ℕ) → to ≤ i → getD g' i 0 ≡ getD g i 0
+
+-- a square before and after the plots of a list
+pub record Plotted (s : ℕ) (ps : List Plot) (g g' : List ℕ) : Type 0 where
+  pub is : g' ≡ plotAll s ps g
+
+-- the numbers of a version that has alignment patterns
+pub record Spaced (p : Spacing) : Type 0 where
+  pub low : 4 ≤ p .version
+  pub high : p .version ≤ 84
+  pub side-is : p .side ≡ sideOf (p .version)
+  pub k-is : p .k ≡ kOf (p .version)
+  pub r-is : p .r ≡ rOf (p .version)
+  pub m-is : p .m ≡ mOf (p .version)
+
+-- such a version and a square for it
+pub record Roomy (p : Spacing) (g : List ℕ) : Type 0 where
+  pub spaced : Spaced p
+  pub room : sideOf (p .version) * sideOf (p .version) ≤ length g
+
+-- line n is inside, and its coordinate is z
+pub record OnLine (p : Spacing) (at : ℕ → ℕ → ℤ) (n : ℕ) (z : ℤ) : Type 0 where
+  pub inside : n < mOf (p .version) + 2
+  pub here : z ≡ at (p .version) n

@@ -1,0 +1,751 @@
+// Document 01, "Records" (version) and "Layout": finders, separators, information and alignment patterns of a version
+// (000: `size`, `version`, `layout`, `alignment`).
+ghost use mathlib.Core.Bool.{true, false};
+ghost use mathlib.Core.Path.{_≡_};
+ghost use mathlib.Core.List.{[], _∷_};
+ghost use Prim.Native.Nat.{_+_, _-_, _*_, _/_, _%_, _^_, _≤_, _<_};
+ghost use lib.ListN.{length, getD};
+ghost use lib.IntN.{pos, _+ℤ_, _-ℤ_};
+ghost use lib.Signed.{mag};
+ghost use Rattle.symbol.specs.Version.{sideOf, sideRefusal, sideVersion, versionOf};
+ghost use Rattle.symbol.specs.Version as version;
+ghost use Rattle.symbol.specs.Layout.{finders, edge, half, within, finderRow, cornerKind, placeAt, plot, each, when, stepOf, mOf, rowOf, columnOf, threeAt, assistant, rowEnds, columnEnds, lineModule, lineLeft, lineDown, crossing, crossings, alignment, layoutRefusal, layoutWritten, refusalOf};
+ghost use Rattle.symbol.specs.Inner.{Stored, Plotted, Spaced, Roomy, OnLine};
+
+pub struct Version {
+    pub number: usize,
+}
+
+// The version of a side, if it has one.
+pub enum FromSide {
+    Found(Version),
+    NoVersion,
+}
+
+impl Version {
+    pub const MIN: usize = 1;
+
+    pub const MAX: usize = 84;
+
+    pub const MIN_SIDE: usize = 23;
+
+    pub const MAX_SIDE: usize = 189;
+
+    pub fn from_side(side: usize) -> FromSide
+        ensures { λ r. ⌜ (version.refusalOf r ≡ sideRefusal side) × (versionOf r ≡ sideVersion side) ⌝ }
+    {
+        if side < Version::MIN_SIDE {
+            return FromSide::NoVersion;
+        }
+        if Version::MAX_SIDE < side {
+            return FromSide::NoVersion;
+        }
+        if side % 2 == 0 {
+            return FromSide::NoVersion;
+        }
+        FromSide::Found(Version {
+            number: (side - 21) / 2,
+        })
+    }
+
+    pub fn side(self) -> usize
+        requires { ⌜ self .number ≤ 84 ⌝ }
+        ensures { λ r. ⌜ r ≡ sideOf (self .number) ⌝ }
+    {
+        2 * self.number + 21
+    }
+}
+
+// k, r and m of each version (000: `MODULE_K`, `MODULE_R`, `MODULE_M`).
+const MODULE_K: [u8; 84] = [
+    0,
+    0,
+    0,
+    14,
+    16,
+    16,
+    17,
+    18,
+    19,
+    20,
+    14,
+    15,
+    16,
+    16,
+    17,
+    17,
+    18,
+    19,
+    20,
+    20,
+    21,
+    16,
+    17,
+    17,
+    18,
+    18,
+    19,
+    19,
+    20,
+    20,
+    21,
+    17,
+    17,
+    18,
+    18,
+    19,
+    19,
+    19,
+    20,
+    20,
+    17,
+    17,
+    18,
+    18,
+    18,
+    19,
+    19,
+    19,
+    17,
+    17,
+    18,
+    18,
+    18,
+    18,
+    19,
+    19,
+    19,
+    17,
+    17,
+    18,
+    18,
+    18,
+    18,
+    19,
+    19,
+    17,
+    17,
+    17,
+    18,
+    18,
+    18,
+    18,
+    19,
+    19,
+    17,
+    17,
+    17,
+    18,
+    18,
+    18,
+    18,
+    18,
+    17,
+    17,
+];
+
+const MODULE_R: [u8; 84] = [
+    0,
+    0,
+    0,
+    15,
+    15,
+    17,
+    18,
+    19,
+    20,
+    21,
+    15,
+    15,
+    15,
+    17,
+    17,
+    19,
+    19,
+    19,
+    19,
+    21,
+    21,
+    17,
+    16,
+    18,
+    17,
+    19,
+    18,
+    20,
+    19,
+    21,
+    20,
+    17,
+    19,
+    17,
+    19,
+    17,
+    19,
+    21,
+    19,
+    21,
+    18,
+    20,
+    17,
+    19,
+    21,
+    18,
+    20,
+    22,
+    17,
+    19,
+    15,
+    17,
+    19,
+    21,
+    17,
+    19,
+    21,
+    18,
+    20,
+    15,
+    17,
+    19,
+    21,
+    16,
+    18,
+    17,
+    19,
+    21,
+    15,
+    17,
+    19,
+    21,
+    15,
+    17,
+    18,
+    20,
+    22,
+    15,
+    17,
+    19,
+    21,
+    23,
+    17,
+    19,
+];
+
+const MODULE_M: [u8; 84] = [
+    0,
+    0,
+    0,
+    1,
+    1,
+    1,
+    1,
+    1,
+    1,
+    1,
+    2,
+    2,
+    2,
+    2,
+    2,
+    2,
+    2,
+    2,
+    2,
+    2,
+    2,
+    3,
+    3,
+    3,
+    3,
+    3,
+    3,
+    3,
+    3,
+    3,
+    3,
+    4,
+    4,
+    4,
+    4,
+    4,
+    4,
+    4,
+    4,
+    4,
+    5,
+    5,
+    5,
+    5,
+    5,
+    5,
+    5,
+    5,
+    6,
+    6,
+    6,
+    6,
+    6,
+    6,
+    6,
+    6,
+    6,
+    7,
+    7,
+    7,
+    7,
+    7,
+    7,
+    7,
+    7,
+    8,
+    8,
+    8,
+    8,
+    8,
+    8,
+    8,
+    8,
+    8,
+    9,
+    9,
+    9,
+    9,
+    9,
+    9,
+    9,
+    9,
+    10,
+    10,
+];
+// Rows of the finders top left, bottom left, top right and bottom right, bit 6 the leftmost module.
+const FINDERS: [[u8; 7]; 4] = [
+    [0x7F, 0x40, 0x5F, 0x50, 0x57, 0x57, 0x57],
+    [0x7F, 0x01, 0x7D, 0x05, 0x75, 0x75, 0x75],
+    [0x7F, 0x01, 0x7D, 0x05, 0x75, 0x75, 0x75],
+    [0x75, 0x75, 0x75, 0x05, 0x7D, 0x01, 0x7F],
+];
+
+fn wide(x: u8) -> usize
+    ensures { λ r. ⌜ r ≡ x ⌝ }
+{
+    x as usize
+}
+
+// How far row i lies from the nearer edge.
+fn edge(side: usize, i: usize) -> usize
+    requires { ⌜ i < side ⌝ }
+    ensures { λ r. ⌜ r ≡ edge side i ⌝ }
+{
+    let far = side - 1 - i;
+    if i < far {
+        return i;
+    }
+    far
+}
+
+fn finder_at(corner: usize, row: usize) -> u8
+    requires { ⌜ (corner < 4) × (row < 7) ⌝ }
+    ensures { λ r. ⌜ (r ≡ getD (getD finders corner []) row 0) × (r < 128) ⌝ }
+{
+    FINDERS[corner][row]
+}
+
+// The row of the left (0) or right (1) finder that lies in this row, or 0: beyond the finder its separator is light.
+fn finder_row(side: usize, right: usize, row: usize) -> u8
+    requires { ⌜ (23 ≤ side) × (right < 2) × (row < side) × (edge side row < 8) ⌝ }
+    ensures { λ r. ⌜ (r < 128) × ((edge side row < 7 → r ≡ finderRow side right row) × (edge side row ≡ 7 → r ≡ 0)) ⌝ }
+{
+    if row < 7 {
+        return finder_at(2 * right, row);
+    }
+    if side - 7 <= row {
+        return finder_at(1 + 2 * right, row - (side - 7));
+    }
+    0
+}
+
+// Gives the places from to below to one kind.
+fn run(out: &mut [u8], from: usize, to: usize, kind: u8)
+    requires { ⌜ (from ≤ to) × (to ≤ length (now out)) ⌝ }
+    ensures { λ _. ⌜ Stored (λ i. kind) from to (now (out .entry)) (now (out .exit)) ⌝ }
+{
+    let mut i = from;
+    while i < to {
+        out[i] = kind;
+        i += 1;
+    }
+}
+
+// Eight modules, light or dark by the bits of a byte, the high bit first.
+fn modules(out: &mut [u8], at: usize, bits: u8)
+    requires { ⌜ at + 8 ≤ length (now out) ⌝ }
+    ensures { λ _. ⌜ Stored (λ i. 2 + bits / 2 ^ (7 - (i - at)) % 2) at (at + 8) (now (out .entry)) (now (out .exit)) ⌝ }
+{
+    let mut i = at;
+    while i < at + 8 {
+        out[i] = 2 + (bits >> (7 - (i - at))) % 2;
+        i += 1;
+    }
+}
+
+// A row through two finders or their separators.
+fn finder_line(out: &mut [u8], side: usize, row: usize)
+    requires { ⌜ (23 ≤ side) × (side ≤ 189) × (side * side ≤ length (now out)) × (row < side) × (edge side row < 8) ⌝ }
+    ensures { λ _. ⌜ Stored (cornerKind side) (row * side) (row * side + side) (now (out .entry)) (now (out .exit)) ⌝ }
+{
+    let at = row * side;
+    let left = finder_row(side, 0, row);
+    let right = finder_row(side, 1, row);
+    modules(out, at, 2 * left);
+    run(out, at + 8, at + 9, 1);
+    run(out, at + 9, at + side - 9, 0);
+    run(out, at + side - 9, at + side - 8, 1);
+    modules(out, at + side - 8, right);
+}
+
+// A row with two arms of information modules.
+fn information_line(out: &mut [u8], side: usize, row: usize)
+    requires { ⌜ (23 ≤ side) × (side ≤ 189) × (side * side ≤ length (now out)) × (row < side) × (edge side row ≡ 8) ⌝ }
+    ensures { λ _. ⌜ Stored (cornerKind side) (row * side) (row * side + side) (now (out .entry)) (now (out .exit)) ⌝ }
+{
+    let at = row * side;
+    run(out, at, at + 9, 1);
+    run(out, at + 9, at + side - 9, 0);
+    run(out, at + side - 9, at + side, 1);
+}
+
+// A row before the alignment patterns are plotted.
+fn line(out: &mut [u8], side: usize, row: usize)
+    requires { ⌜ (23 ≤ side) × (side ≤ 189) × (side * side ≤ length (now out)) × (row < side) ⌝ }
+    ensures { λ _. ⌜ Stored (cornerKind side) (row * side) (row * side + side) (now (out .entry)) (now (out .exit)) ⌝ }
+{
+    let from_edge = edge(side, row);
+    if from_edge < 8 {
+        finder_line(out, side, row);
+        return;
+    }
+    if from_edge == 8 {
+        information_line(out, side, row);
+        return;
+    }
+    run(out, row * side, row * side + side, 0);
+}
+
+// Finders, separators and information modules; all else is data.
+fn corners(out: &mut [u8], side: usize)
+    requires { ⌜ (23 ≤ side) × (side ≤ 189) × (side * side ≤ length (now out)) ⌝ }
+    ensures { λ _. ⌜ Stored (cornerKind side) 0 (side * side) (now (out .entry)) (now (out .exit)) ⌝ }
+{
+    let mut row: usize = 0;
+    while row < side {
+        line(out, side, row);
+        row += 1;
+    }
+}
+
+// A coordinate moved back and forth.
+fn back(x: i64, by: usize) -> i64
+    requires { ⌜ (mag x < 1000) × (by < 1000) ⌝ }
+    ensures { λ r. ⌜ r ≡ x -ℤ pos by ⌝ }
+{
+    x - (by as i64)
+}
+
+fn forth(x: i64, by: usize) -> i64
+    requires { ⌜ (mag x < 1000) × (by < 1000) ⌝ }
+    ensures { λ r. ⌜ r ≡ x +ℤ pos by ⌝ }
+{
+    x + (by as i64)
+}
+
+// A number as a coordinate.
+fn signed(n: usize) -> i64
+    requires { ⌜ n < 1000 ⌝ }
+    ensures { λ r. ⌜ r ≡ pos n ⌝ }
+{
+    n as i64
+}
+
+// The place of column x and row y, or side * side where it lies outside.
+fn place(side: usize, x: i64, y: i64) -> usize
+    requires { ⌜ side ≤ 189 ⌝ }
+    ensures { λ r. ⌜ r ≡ placeAt side x y ⌝ }
+{
+    let outside = side * side;
+    if x < 0 {
+        return outside;
+    }
+    if y < 0 {
+        return outside;
+    }
+    let column = x as usize;
+    let row = y as usize;
+    if side <= column {
+        return outside;
+    }
+    if side <= row {
+        return outside;
+    }
+    row * side + column
+}
+
+// Gives a place its kind while it is data; outside the square nothing is plotted.
+fn plot(grid: &mut [u8], side: usize, x: i64, y: i64, kind: u8)
+    requires { ⌜ (side ≤ 189) × (side * side ≤ length (now grid)) ⌝ }
+    ensures { λ _. ⌜ Plotted side (plot x y kind ∷ []) (now (grid .entry)) (now (grid .exit)) ⌝ }
+{
+    let i = place(side, x, y);
+    if side * side <= i {
+        return;
+    }
+    if grid[i] != 0 {
+        return;
+    }
+    grid[i] = kind;
+}
+
+// Three modules side by side, the middle one of a kind.
+fn three(grid: &mut [u8], side: usize, x: i64, y: i64, kind: u8)
+    requires { ⌜ (side ≤ 189) × (side * side ≤ length (now grid)) × (mag x < 1000) ⌝ }
+    ensures { λ _. ⌜ Plotted side (threeAt x y kind) (now (grid .entry)) (now (grid .exit)) ⌝ }
+{
+    plot(grid, side, back(x, 1), y, 2);
+    plot(grid, side, x, y, kind);
+    plot(grid, side, forth(x, 1), y, 2);
+}
+
+// An assistant pattern: a dark module in a light square of three.
+fn assistant(grid: &mut [u8], side: usize, x: i64, y: i64)
+    requires { ⌜ (side ≤ 189) × (side * side ≤ length (now grid)) × (mag x < 1000) × (mag y < 1000) ⌝ }
+    ensures { λ _. ⌜ Plotted side (assistant x y) (now (grid .entry)) (now (grid .exit)) ⌝ }
+{
+    three(grid, side, x, back(y, 1), 2);
+    three(grid, side, x, y, 3);
+    three(grid, side, x, forth(y, 1), 2);
+}
+
+fn assistant_if(grid: &mut [u8], side: usize, on: bool, x: i64, y: i64)
+    requires { ⌜ (side ≤ 189) × (side * side ≤ length (now grid)) × (mag x < 1000) × (mag y < 1000) ⌝ }
+    ensures { λ _. ⌜ Plotted side (when on (assistant x y)) (now (grid .entry)) (now (grid .exit)) ⌝ }
+{
+    if on {
+        assistant(grid, side, x, y);
+    }
+}
+
+// A dark module of a line, and the light one at its lower left.
+fn line_module(grid: &mut [u8], side: usize, x: i64, y: i64)
+    requires { ⌜ (side ≤ 189) × (side * side ≤ length (now grid)) × (mag x < 1000) × (mag y < 1000) ⌝ }
+    ensures { λ _. ⌜ Plotted side (lineModule x y) (now (grid .entry)) (now (grid .exit)) ⌝ }
+{
+    plot(grid, side, x, y, 3);
+    plot(grid, side, back(x, 1), forth(y, 1), 2);
+}
+
+// A line of width + 1 modules to the left.
+fn line_left(grid: &mut [u8], side: usize, x: i64, y: i64, width: usize)
+    requires { ⌜ (side ≤ 189) × (side * side ≤ length (now grid)) × (mag x < 200) × (mag y < 200) × (width < 200) ⌝ }
+    ensures { λ _. ⌜ Plotted side (lineLeft x y width) (now (grid .entry)) (now (grid .exit)) ⌝ }
+{
+    let mut i: usize = 0;
+    while i < width + 1 {
+        line_module(grid, side, back(x, i), y);
+        i += 1;
+    }
+}
+
+// The rest of a line down of height modules.
+fn line_down(grid: &mut [u8], side: usize, x: i64, y: i64, height: usize)
+    requires { ⌜ (side ≤ 189) × (side * side ≤ length (now grid)) × (mag x < 200) × (mag y < 200) × (1 ≤ height) × (height < 200) ⌝ }
+    ensures { λ _. ⌜ Plotted side (lineDown x y height) (now (grid .entry)) (now (grid .exit)) ⌝ }
+{
+    let mut i: usize = 0;
+    while i < height - 1 {
+        line_module(grid, side, x, forth(y, i + 1));
+        i += 1;
+    }
+}
+
+// A version's side, and the k, r and m by which its alignment patterns are spaced.
+pub struct Spacing {
+    pub version: usize,
+    pub side: usize,
+    pub k: usize,
+    pub r: usize,
+    pub m: usize,
+}
+
+fn spacing_of(version: usize) -> Spacing
+    requires { ⌜ (4 ≤ version) × (version ≤ 84) ⌝ }
+    ensures { λ r. ⌜ Spaced r × (r .version ≡ version) ⌝ }
+{
+    let side = Version { number: version }.side();
+    Spacing {
+        version,
+        side,
+        k: wide(MODULE_K[version - 1]),
+        r: wide(MODULE_R[version - 1]),
+        m: wide(MODULE_M[version - 1]),
+    }
+}
+
+// From line n to the next.
+fn step(p: Spacing, n: usize) -> usize
+    requires { ⌜ Spaced p ⌝ }
+    ensures { λ r. ⌜ (r ≡ stepOf (p .version) n) × ((1 ≤ r) × (r ≤ 22)) ⌝ }
+{
+    if n < p.m {
+        return p.k;
+    }
+    p.r - 1
+}
+
+// Rows are counted from the top.
+fn next_row(p: Spacing, n: usize, y: i64) -> i64
+    requires { ⌜ Spaced p × OnLine p rowOf n y ⌝ }
+    ensures { λ r. ⌜ r ≡ rowOf (p .version) (n + 1) ⌝ }
+{
+    forth(y, step(p, n))
+}
+
+// Columns are counted from the right.
+fn next_column(p: Spacing, n: usize, x: i64) -> i64
+    requires { ⌜ Spaced p × OnLine p columnOf n x ⌝ }
+    ensures { λ r. ⌜ r ≡ columnOf (p .version) (n + 1) ⌝ }
+{
+    back(x, step(p, n))
+}
+
+// The assistants at the left and right end of row n.
+fn row_ends(grid: &mut [u8], p: Spacing, n: usize, y: i64)
+    requires { ⌜ Roomy p (now grid) × OnLine p rowOf n y ⌝ }
+    ensures { λ _. ⌜ Plotted (sideOf (p .version)) (rowEnds (p .version) n) (now (grid .entry)) (now (grid .exit)) ⌝ }
+{
+    let left = signed(0);
+    let right = signed(p.side - 1);
+    assistant_if(grid, p.side, (n + p.m) % 2 == 1, left, y);
+    assistant_if(grid, p.side, n % 2 == 1, right, y);
+}
+
+// The assistants at the lower and upper end of column n.
+fn column_ends(grid: &mut [u8], p: Spacing, n: usize, x: i64)
+    requires { ⌜ Roomy p (now grid) × OnLine p columnOf n x ⌝ }
+    ensures { λ _. ⌜ Plotted (sideOf (p .version)) (columnEnds (p .version) n) (now (grid .entry)) (now (grid .exit)) ⌝ }
+{
+    let low = signed(p.side - 1);
+    let high = signed(0);
+    assistant_if(grid, p.side, (n + p.m) % 2 == 1, x, low);
+    assistant_if(grid, p.side, n % 2 == 1, x, high);
+}
+
+// The two lines from row n and column j.
+fn crossing(grid: &mut [u8], p: Spacing, n: usize, j: usize, x: i64, y: i64)
+    requires { ⌜ Roomy p (now grid) × OnLine p rowOf n y × OnLine p columnOf j x ⌝ }
+    ensures { λ _. ⌜ Plotted (sideOf (p .version)) (crossing (p .version) n j) (now (grid .entry)) (now (grid .exit)) ⌝ }
+{
+    if (n + j) % 2 == 1 {
+        return;
+    }
+    if n + j == 0 {
+        return;
+    }
+    line_left(grid, p.side, x, y, step(p, j));
+    line_down(grid, p.side, x, y, step(p, n));
+}
+
+// The assistants of all rows.
+fn rows_ends(grid: &mut [u8], p: Spacing)
+    requires { ⌜ Roomy p (now grid) ⌝ }
+    ensures { λ _. ⌜ Plotted (sideOf (p .version)) (each (mOf (p .version) + 2) (rowEnds (p .version))) (now (grid .entry)) (now (grid .exit)) ⌝ }
+{
+    let end = signed(p.side);
+    let mut y: i64 = 0;
+    let mut n: usize = 0;
+    while y < end {
+        row_ends(grid, p, n, y);
+        y = next_row(p, n, y);
+        n += 1;
+    }
+}
+
+// The assistants of all columns.
+fn columns_ends(grid: &mut [u8], p: Spacing)
+    requires { ⌜ Roomy p (now grid) ⌝ }
+    ensures { λ _. ⌜ Plotted (sideOf (p .version)) (each (mOf (p .version) + 2) (columnEnds (p .version))) (now (grid .entry)) (now (grid .exit)) ⌝ }
+{
+    let mut x = signed(p.side - 1);
+    let mut n: usize = 0;
+    while x >= 0 {
+        column_ends(grid, p, n, x);
+        x = next_column(p, n, x);
+        n += 1;
+    }
+}
+
+// The lines of row n.
+fn row_crossings(grid: &mut [u8], p: Spacing, n: usize, y: i64)
+    requires { ⌜ Roomy p (now grid) × OnLine p rowOf n y ⌝ }
+    ensures { λ _. ⌜ Plotted (sideOf (p .version)) (each (mOf (p .version) + 2) (crossing (p .version) n)) (now (grid .entry)) (now (grid .exit)) ⌝ }
+{
+    let mut x = signed(p.side - 1);
+    let mut j: usize = 0;
+    while x >= 0 {
+        crossing(grid, p, n, j, x, y);
+        x = next_column(p, j, x);
+        j += 1;
+    }
+}
+
+// The lines of all rows.
+fn crossings(grid: &mut [u8], p: Spacing)
+    requires { ⌜ Roomy p (now grid) ⌝ }
+    ensures { λ _. ⌜ Plotted (sideOf (p .version)) (crossings (p .version)) (now (grid .entry)) (now (grid .exit)) ⌝ }
+{
+    let end = signed(p.side);
+    let mut y: i64 = 0;
+    let mut n: usize = 0;
+    while y < end {
+        row_crossings(grid, p, n, y);
+        y = next_row(p, n, y);
+        n += 1;
+    }
+}
+
+// Alignment and assistant alignment patterns. Modules that are no longer data keep their kind.
+fn alignment(grid: &mut [u8], p: Spacing)
+    requires { ⌜ Roomy p (now grid) ⌝ }
+    ensures { λ _. ⌜ Plotted (sideOf (p .version)) (alignment (p .version)) (now (grid .entry)) (now (grid .exit)) ⌝ }
+{
+    rows_ends(grid, p);
+    columns_ends(grid, p);
+    crossings(grid, p);
+}
+
+// What operation Layout answers.
+pub enum LayoutAnswer {
+    Filled,
+    NoVersion,
+    TooShort,
+}
+
+// The layout of a version, in the first side * side bytes.
+pub fn layout(version: usize, out: &mut [u8]) -> LayoutAnswer
+    ensures { λ r. ⌜ (refusalOf r ≡ layoutRefusal version (now (out .entry))) × (now (out .exit) ≡ layoutWritten version (now (out .entry))) ⌝ }
+{
+    if version < Version::MIN {
+        return LayoutAnswer::NoVersion;
+    }
+    if Version::MAX < version {
+        return LayoutAnswer::NoVersion;
+    }
+    let side = Version { number: version }.side();
+    if out.len() < side * side {
+        return LayoutAnswer::TooShort;
+    }
+    corners(out, side);
+    if version < 4 {
+        return LayoutAnswer::Filled;
+    }
+    alignment(out, spacing_of(version));
+    LayoutAnswer::Filled
+}
