@@ -17,7 +17,7 @@ use Rattle.segments.specs.declared.Count.the-variants.{Done, Cut, Lackin
 use Rattle.segments.specs.declared.Step.{Step}
 use Rattle.segments.specs.declared.Step.the-variants.{On, Cut as StepCut, Lacking as StepLacking}
 use Rattle.segments.specs.Script.{Segment, run, eci, bytesOf, runCommand, commandOf, payloadOf, scriptOf}
-use Rattle.segments.specs.Segments.{Result, cut, lacking, got, eciOf, bytesOfMode, runOf, segmentOf, following, parse}
+use Rattle.segments.specs.Segments.{Result, cut, lacking, got, eciOf, bytesOfMode, runOf, segmentOf, first, following, parse}
 use Rattle.segments.specs.Passes.{behind, Left, Inside, numericAt, textAt, bytesAt, regionAt, doubleByteAt, fourByteAt, runAt, stoppedLacking, EciLeft, Stepped, Passed}
 use Rattle.segments.proofs.Turns.{behind-bits}
 
@@ -219,7 +219,7 @@ module _ (s : List ℕ) (i n m : ℕ) (o c : List ℕ) where
       pass-on a k j e r x′ y′ q = go f p q
         where
           join : (b : Segment) (u : ℕ) (z : Result (List Segment)) → Passed (n + length (bytesOf b)) (m + length (commandOf b)) (sets o n (bytesOf b)) (sets c m (commandOf b)) z r x′ y′
-              → Passed n m o c (elim z [ cut ↦ cut | lacking ↦ lacking | got gs v ↦ got (b ∷ gs) (4 + u + v) ]) r x′ y′
+              → Passed n m o c (first b u z) r x′ y′
           join b u cut d = d
           join b u lacking d = d
           join b u (got gs v) d =

@@ -154,11 +154,17 @@ runOf mode (got bs u) = got (run mode bs) u
 unfoldable pub segmentOf : ℕ → List ℕ → Result Segment
 segmentOf mode bs = cond (eqb mode 8) (eciOf bs) (runOf mode (bytesOfMode mode bs))
 
+-- a segment of u bits before others
+abbrev pub first : Segment → ℕ → Result (List Segment) → Result (List Segment)
+first g u cut = cut
+first g u lacking = lacking
+first g u (got gs v) = got (g ∷ gs) (4 + u + v)
+
 -- a segment before those that the bits behind it say
 abbrev pub following : Result Segment → (ℕ → Result (List Segment)) → Result (List Segment)
 following cut rest = cut
 following lacking rest = lacking
-following (got g u) rest = elim (rest u) [ cut ↦ cut | lacking ↦ lacking | got gs v ↦ got (g ∷ gs) (4 + u + v) ]
+following (got g u) rest = first g u (rest u)
 
 -- Segments one after the other; fewer than 4 bits left, or mode 0, ends. k bounds their number: each takes more than 4 bits, so
 -- one more than the number of bits is never reached.

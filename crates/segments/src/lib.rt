@@ -201,7 +201,7 @@ fn bytes_mode(s: &[u8], from: usize, out: &mut [u8], to: usize) -> Count
 }
 
 // How many values a region has.
-fn region_size(one: bool) -> usize
+pub fn region_size(one: bool) -> usize
     ensures { λ r. ⌜ r ≡ regionSize one ⌝ }
 {
     if one { 4074 } else { 3008 }
