@@ -1,0 +1,2 @@
+-- Bits of bytes, and words of bits.
+pub mod Bits

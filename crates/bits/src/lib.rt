@@ -1,0 +1,66 @@
+// Bits of bytes, high bit first (000: `Bits`): functions on a slice and a position.
+ghost use mathlib.Core.Path.{_≡_};
+ghost use Prim.Native.Nat.{_+_, _*_, _<_, _≤_};
+ghost use lib.ListN.{length, getD, drop, set};
+ghost use lib.Seq.{sets};
+ghost use Rattle.bits.specs.Bits.{bitsOf, readOf, lowBits};
+
+// What reading some bits gives.
+pub enum Word {
+    Value(usize),
+    Cut,
+}
+
+fn wide(x: u8) -> usize
+    ensures { λ r. ⌜ r ≡ x ⌝ }
+{
+    x as usize
+}
+
+// The bit at a position.
+pub fn bit(s: &[u8], at: usize) -> usize
+    requires { ⌜ at < 8 * length (now s) ⌝ }
+    ensures { λ r. ⌜ r ≡ getD (bitsOf (now (s .entry))) at 0 ⌝ }
+{
+    wide((s[at / 8] >> (7 - at % 8)) & 1)
+}
+
+// The number that the n bits from a position on say.
+pub fn read_bits(s: &[u8], at: usize, n: usize) -> Word
+    requires { ⌜ (length (now s) ≤ 4096) × (at ≤ 8 * length (now s)) × (n ≤ 21) ⌝ }
+    ensures { λ r. ⌜ r ≡ readOf n (drop at (bitsOf (now (s .entry)))) ⌝ }
+{
+    if s.len() * 8 < at + n {
+        return Word::Cut;
+    }
+    let mut v: usize = 0;
+    let mut i: usize = 0;
+    while i < n {
+        v = v * 2 + bit(s, at + i);
+        i += 1;
+    }
+    Word::Value(v)
+}
+
+// Sets the bit at a position.
+pub fn write_bit(buf: &mut [u8], at: usize, b: usize)
+    requires { ⌜ (at < 8 * length (now buf)) × (b < 2) ⌝ }
+    ensures { λ _. ⌜ bitsOf (now (buf .exit)) ≡ set (bitsOf (now (buf .entry))) at b ⌝ }
+{
+    if bit(buf, at) != b {
+        let i = at / 8;
+        buf[i] = buf[i] ^ (1 << (7 - at % 8));
+    }
+}
+
+// Writes the n low bits of a number from a position on.
+pub fn write_bits(buf: &mut [u8], at: usize, n: usize, v: usize)
+    requires { ⌜ (length (now buf) ≤ 4096) × (at + n ≤ 8 * length (now buf)) × (n ≤ 24) ⌝ }
+    ensures { λ _. ⌜ bitsOf (now (buf .exit)) ≡ sets (bitsOf (now (buf .entry))) at (lowBits n v) ⌝ }
+{
+    let mut i: usize = 0;
+    while i < n {
+        write_bit(buf, at + i, (v >> (n - 1 - i)) % 2);
+        i += 1;
+    }
+}

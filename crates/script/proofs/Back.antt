@@ -1,0 +1,181 @@
+-- Segments that are written are read back, with zero bits behind them; and their number of bits is what the formulas say.
+use mathlib.Core.Path.{_≡_, refl, ap, _∙_}
+use mathlib.Core.Bool.{Bool, true, false, cond}
+use mathlib.Core.List.{List, [], _∷_, _++_, append-assoc}
+use Prim.Native.Nat.{ℕ, zero, suc, _+_, _*_, _^_, _<_, _≤_}
+use native.Mathlib.Nat.{le-of-suc-le-suc}
+use native.Mathlib.Omega.{arith}
+use borrow.Author.Tests.{ne-eqb, lt-ltb, le-ltb, ltb-true}
+use lib.Dec.{ltb}
+use lib.ListN.{length, getD, drop, replicate, length-append}
+use lib.Seq.{take-at, drop-at}
+use Rattle.bits.specs.Bits.{lowBits, value, words, wordBits}
+use Rattle.bits.proofs.Words.{length-low, low-back, length-words, words-back}
+use Rattle.segments.specs.Script.{Segment, run, eci}
+use Rattle.segments.specs.Segments.{Result, got, inBits, numericOf, textOf, bytesMode, regionOf, doubleByteOf, fourBytes, fourByteOf, eciValue, eciOf, bytesOfMode, segmentOf, first, following, parse}
+use Rattle.script.specs.Writer.{all, numericWords, textWords, regionWords, doubleWords, fourCode, same, inFour, eciBits, modeHas, modeBits, modeLength, eciLength, has, encodingOf, bitsOfSegment, allHave, encodings, bitsOfSegments}
+use Rattle.script.proofs.Tests.{both, same-is}
+use Rattle.script.proofs.Digits.{numeric-back, numeric-small, numeric-length}
+use Rattle.script.proofs.Characters.{text-back, text-small, text-length, region-back, region-small, region-length, double-back, double-small, double-length, bytes-back}
+
+-- ---- the modes in bits
+
+word-mode : (w : ℕ) (f : List ℕ → Result (List ℕ)) (ws bs rest : List ℕ) → 0 < w → ((i : ℕ) → getD ws i 0 < 2 ^ w) → f (ws ++ words w rest) ≡ got bs (length ws)
+    → inBits w (f (words w (wordBits w ws ++ rest))) ≡ got bs (length (wordBits w ws))
+word-mode w f ws bs rest p h e = rw (words-back w ws rest p h, e, length-words w ws)
+
+byte-small : (bs : List ℕ) → all (λ b. ltb b 256) bs ≡ true → (i : ℕ) → getD bs i 0 < 256
+byte-small [] h i = omega arith
+byte-small (b ∷ bs) h zero = ltb-true b 256 (both (ltb b 256) (all (λ b. ltb b 256) bs) h .0)
+byte-small (b ∷ bs) h (suc i) = byte-small bs (both (ltb b 256) (all (λ b. ltb b 256) bs) h .1) i
+
+bytes-mode-back : (bs rest : List ℕ) → length bs ≤ 8191 → all (λ b. ltb b 256) bs ≡ true
+    → bytesMode ((lowBits 13 (length bs) ++ wordBits 8 bs) ++ rest) ≡ got bs (length (lowBits 13 (length bs) ++ wordBits 8 bs))
+unfolding bytesMode
+bytes-mode-back bs rest l h =
+    let y : List ℕ = wordBits 8 bs ++ rest in
+    let k : 13 ≤ length (lowBits 13 (length bs) ++ y) = omega (arith, length-append (lowBits 13 (length bs)) y, length-low 13 (length bs)) in
+    let n : length (lowBits 13 (length bs) ++ wordBits 8 bs) ≡ 13 + 8 * length bs = rw (length-append (lowBits 13 (length bs)) (wordBits 8 bs), length-low, length-words) in
+    rw (append-assoc (lowBits 13 (length bs)) (wordBits 8 bs) rest, n, le-ltb (length (lowBits 13 (length bs) ++ y)) 13 k, take-at (lowBits 13 (length bs)) y 13 (length-low 13 (length bs)), drop-at (lowBits 13 (length bs)) y 13 (length-low 13 (length bs)), low-back 13 (length bs) (omega arith), words-back 8 bs rest (omega arith) (byte-small bs h), bytes-back bs (words 8 rest))
+
+four-back : (bs rest : List ℕ) → inFour bs ≡ true → fourByteOf (lowBits 21 (fourCode bs) ++ rest) ≡ got bs (length (lowBits 21 (fourCode bs)))
+unfolding inFour fourByteOf
+four-back bs rest h =
+    let t = both (ltb (fourCode bs) 1587600) (same (fourBytes (fourCode bs)) bs) h in
+    let v : fourCode bs < 1587600 = ltb-true (fourCode bs) 1587600 (t .0) in
+    let k : 21 ≤ length (lowBits 21 (fourCode bs) ++ rest) = omega (arith, length-append (lowBits 21 (fourCode bs)) rest, length-low 21 (fourCode bs)) in
+    rw (le-ltb (length (lowBits 21 (fourCode bs) ++ rest)) 21 k, take-at (lowBits 21 (fourCode bs)) rest 21 (length-low 21 (fourCode bs)), low-back 21 (fourCode bs) (omega arith), lt-ltb (fourCode bs) 1587600 v, same-is (fourBytes (fourCode bs)) bs (t .1), length-low)
+
+-- what the check has shown of a segment
+abbrev pub Legal : Segment → Type 0
+Legal (run mode bs) = (1 ≤ mode) × (mode ≤ 7) × (mode ≡ 1 → 0 < length bs) × (mode ≡ 3 → length bs ≤ 8191)
+Legal (eci v) = v ≤ 2097151
+
+abbrev pub AllLegal : List Segment → Type 0
+AllLegal [] = Unit {0}
+AllLegal (g ∷ gs) = Legal g × AllLegal gs
+
+module _ (bs rest : List ℕ) where
+  pub mode-back : (mode : ℕ) → Legal (run mode bs) → modeHas mode bs ≡ true → bytesOfMode mode (modeBits mode bs ++ rest) ≡ got bs (length (modeBits mode bs))
+  unfolding bytesOfMode modeHas modeBits
+  mode-back zero l h = absurd (omega arith)
+  mode-back (suc zero) l h = word-mode 10 numericOf (numericWords bs) bs rest (omega arith) (numeric-small bs h) (numeric-back bs (words 10 rest) (l .2 refl) h)
+  mode-back (suc (suc zero)) l h = word-mode 6 (textOf true) (textWords true bs) bs rest (omega arith) (text-small true bs h) (text-back true bs (words 6 rest) h)
+  mode-back (suc (suc (suc zero))) l h = bytes-mode-back bs rest (l .3 refl) h
+  mode-back (suc (suc (suc (suc zero)))) l h = word-mode 12 (regionOf true) (regionWords true bs) bs rest (omega arith) (region-small true bs h) (region-back true bs (words 12 rest) h)
+  mode-back (suc (suc (suc (suc (suc zero))))) l h = word-mode 12 (regionOf false) (regionWords false bs) bs rest (omega arith) (region-small false bs h) (region-back false bs (words 12 rest) h)
+  mode-back (suc (suc (suc (suc (suc (suc zero)))))) l h = word-mode 15 doubleByteOf (doubleWords bs) bs rest (omega arith) (double-small bs h) (double-back bs (words 15 rest) h)
+  mode-back (suc (suc (suc (suc (suc (suc (suc zero))))))) l h = four-back bs rest h
+  mode-back (suc (suc (suc (suc (suc (suc (suc (suc m)))))))) l h = absurd (omega arith)
+
+-- ---- ECI
+
+field-back : (k w v : ℕ) (rest : List ℕ) → v < 2 ^ w → eciValue k w (lowBits w v ++ rest) ≡ got (eci v) (k + w)
+unfolding eciValue
+field-back k w v rest h =
+    let l : w ≤ length (lowBits w v ++ rest) = omega (arith, length-append (lowBits w v) rest, length-low w v) in
+    rw (le-ltb (length (lowBits w v ++ rest)) w l, take-at (lowBits w v) rest w (length-low w v), low-back w v h)
+
+eci-back : (v : ℕ) (rest : List ℕ) → v ≤ 2097151 → eciOf (eciBits v ++ rest) ≡ got (eci v) (length (eciBits v))
+unfolding eciBits eciOf
+eci-back v rest h = go (ltb v 128) refl (ltb v 16384) refl
+  where
+    go : (a : Bool) → ltb v 128 ≡ a → (b : Bool) → ltb v 16384 ≡ b
+        → eciOf (cond a (0 ∷ lowBits 7 v) (cond b (1 ∷ 0 ∷ lowBits 14 v) (1 ∷ 1 ∷ 0 ∷ lowBits 21 v)) ++ rest)
+        ≡ got (eci v) (length (cond a (0 ∷ lowBits 7 v) (cond b (1 ∷ 0 ∷ lowBits 14 v) (1 ∷ 1 ∷ 0 ∷ lowBits 21 v))))
+    go true p b q = field-back 1 7 v rest (ltb-true v 128 p) ∙ rw length-low
+    go false p true q = field-back 2 14 v rest (ltb-true v 16384 q) ∙ rw length-low
+    go false p false q = field-back 3 21 v rest (omega arith) ∙ rw length-low
+
+-- ---- one segment and all of them
+
+abbrev bodyOf : Segment → List ℕ
+bodyOf (run mode bs) = modeBits mode bs
+bodyOf (eci v) = eciBits v
+
+abbrev modeOf : Segment → ℕ
+modeOf (run mode bs) = mode
+modeOf (eci v) = 8
+
+segment-back : (g : Segment) (rest : List ℕ) → Legal g → has g ≡ true → segmentOf (modeOf g) (bodyOf g ++ rest) ≡ got g (length (bodyOf g))
+unfolding segmentOf
+segment-back (run mode bs) rest l h = rw (ne-eqb mode 8 (λ e. omega arith), mode-back bs rest mode l h)
+segment-back (eci v) rest l h = eci-back v rest l
+
+mode-small : (g : Segment) → Legal g → (0 < modeOf g) × (modeOf g < 16)
+mode-small (run mode bs) l = (omega arith, omega arith)
+mode-small (eci v) l = (omega arith, omega arith)
+
+encoding-parts : (g : Segment) → encodingOf g ≡ lowBits 4 (modeOf g) ++ bodyOf g
+encoding-parts (run mode bs) = refl
+encoding-parts (eci v) = refl
+
+opened : (k m : ℕ) (y : List ℕ) → 0 < m → m < 16 → parse (suc k) (lowBits 4 m ++ y) ≡ following (segmentOf m y) (λ u. parse k (drop u y))
+unfolding parse
+opened k m y p h =
+    let l : 4 ≤ length (lowBits 4 m ++ y) = omega (arith, length-append (lowBits 4 m) y, length-low 4 m) in
+    simp (le-ltb (length (lowBits 4 m ++ y)) 4 l, take-at (lowBits 4 m) y 4 (length-low 4 m), drop-at (lowBits 4 m) y 4 (length-low 4 m), low-back 4 m h, ne-eqb m 0 (λ e. omega arith))
+
+zeros : (z k : ℕ) → 0 < k → (u : ℕ) × (parse k (replicate z 0) ≡ got [] u)
+unfolding parse value
+zeros z zero h = absurd (omega arith)
+zeros zero (suc k) h = (0, refl)
+zeros (suc zero) (suc k) h = (0, refl)
+zeros (suc (suc zero)) (suc k) h = (0, refl)
+zeros (suc (suc (suc zero))) (suc k) h = (0, refl)
+zeros (suc (suc (suc (suc z)))) (suc k) h =
+    let l : List ℕ = replicate z 0 in
+    (4, rw (le-ltb (suc (suc (suc (suc (length l))))) 4 (omega arith)))
+
+followed : (g : Segment) (u v : ℕ) (gs : List Segment) (rest : ℕ → Result (List Segment)) → rest u ≡ got gs v → following (got g u) rest ≡ got (g ∷ gs) (4 + u + v)
+followed g u v gs rest e = ap (first g u) e
+
+pub round : (k : ℕ) (gs : List Segment) (z : ℕ) → length gs < k → AllLegal gs → allHave gs ≡ true → (u : ℕ) × (parse k (encodings gs ++ replicate z 0) ≡ got gs u)
+unfolding encodings allHave
+round zero gs z h l t = absurd (omega arith)
+round (suc k) [] z h l t = zeros z (suc k) (omega arith)
+round (suc k) (g ∷ gs) z h l t =
+    let x : List ℕ = encodings gs ++ replicate z 0 in
+    let a = both (has g) (allHave gs) t in
+    let r = round k gs z (le-of-suc-le-suc h) (l .1) (a .1) in
+    let m = mode-small g (l .0) in
+    let e : (encodingOf g ++ encodings gs) ++ replicate z 0 ≡ lowBits 4 (modeOf g) ++ (bodyOf g ++ x) =
+    append-assoc (encodingOf g) (encodings gs) (replicate z 0) ∙ rw (encoding-parts g) (append-assoc (lowBits 4 (modeOf g)) (bodyOf g) x) in (
+      4 + length (bodyOf g) + r .0,
+      ap (parse (suc k)) e ∙ opened k (modeOf g) (bodyOf g ++ x) (m .0) (m .1) ∙ rw (segment-back g x (l .0) (a .0))
+          (followed g (length (bodyOf g)) (r .0) gs (λ u. parse k (drop u (bodyOf g ++ x))) (rw (drop-at (bodyOf g) x (length (bodyOf g)) refl) (r .1))),
+    )
+
+-- ---- the number of bits
+
+mode-length : (mode : ℕ) (bs : List ℕ) → Legal (run mode bs) → modeHas mode bs ≡ true → 4 + length (modeBits mode bs) ≡ modeLength mode bs
+unfolding modeHas modeBits modeLength
+mode-length zero bs l h = absurd (omega arith)
+mode-length (suc zero) bs l h = rw (length-words 10 (numericWords bs), numeric-length bs) (omega arith)
+mode-length (suc (suc zero)) bs l h = rw (length-words 6 (textWords true bs), text-length true bs) (omega arith)
+mode-length (suc (suc (suc zero))) bs l h = rw (length-append (lowBits 13 (length bs)) (wordBits 8 bs), length-low, length-words) (omega arith)
+mode-length (suc (suc (suc (suc zero)))) bs l h = rw (length-words 12 (regionWords true bs), region-length true bs h) (omega arith)
+mode-length (suc (suc (suc (suc (suc zero))))) bs l h = rw (length-words 12 (regionWords false bs), region-length false bs h) (omega arith)
+mode-length (suc (suc (suc (suc (suc (suc zero)))))) bs l h = rw (length-words 15 (doubleWords bs), double-length bs h) (omega arith)
+mode-length (suc (suc (suc (suc (suc (suc (suc zero))))))) bs l h = rw length-low
+mode-length (suc (suc (suc (suc (suc (suc (suc (suc m)))))))) bs l h = absurd (omega arith)
+
+eci-length : (v : ℕ) → 4 + length (eciBits v) ≡ eciLength v
+unfolding eciBits eciLength
+eci-length v = go (ltb v 128) (ltb v 16384)
+  where
+    go : (a b : Bool) → 4 + length (cond a (0 ∷ lowBits 7 v) (cond b (1 ∷ 0 ∷ lowBits 14 v) (1 ∷ 1 ∷ 0 ∷ lowBits 21 v))) ≡ cond a 12 (cond b 20 28)
+    go true b = rw length-low
+    go false true = rw length-low
+    go false false = rw length-low
+
+pub segment-length : (g : Segment) → Legal g → has g ≡ true → length (encodingOf g) ≡ bitsOfSegment g
+segment-length (run mode bs) l h = rw (length-append (lowBits 4 mode) (modeBits mode bs), length-low) (mode-length mode bs l h)
+segment-length (eci v) l h = rw (length-append (lowBits 4 8) (eciBits v), length-low) (eci-length v)
+
+pub encodings-length : (gs : List Segment) → AllLegal gs → allHave gs ≡ true → length (encodings gs) ≡ bitsOfSegments gs
+unfolding encodings allHave bitsOfSegments
+encodings-length [] l h = refl
+encodings-length (g ∷ gs) l h =
+    let a = both (has g) (allHave gs) h in
+    length-append (encodingOf g) (encodings gs) ∙ rw (segment-length g (l .0) (a .0), encodings-length gs (l .1) (a .1))

@@ -1,0 +1,257 @@
+-- The check's steps: a command at a place of a script, and what it leaves of the answer.
+use mathlib.Core.Path.{_≡_, refl, ap, _∙_, subst}
+use mathlib.Core.Bool.{Bool, true, false, cond, _&&_}
+use mathlib.Core.List.{List, []}
+use Prim.Native.Nat.{ℕ, zero, suc, _+_, _-_, _*_, _<_, _≤_}
+use native.Mathlib.Nat.{add-zero, zero-add, add-assoc}
+use native.Mathlib.Omega.{arith}
+use borrow.Author.Tests.{eq-eqb, ne-eqb, lt-ltb, le-ltb, lt-leb, le-leb, ltb-false, leb-true}
+use lib.Dec.{ltb, eqb, leb}
+use lib.ListN.{length, getD, take, drop, length-drop}
+use lib.Seq.{getD-drop, drop-drop}
+use Rattle.segments.specs.Script.{Segment, run, eci}
+use Rattle.script.specs.declared.Command.{Command}
+use Rattle.script.specs.declared.Command.the-variants.{Run, Eci, Wrong}
+use Rattle.script.specs.declared.Check.the-variants.{Bits, Malformed, Lacking, Empty}
+use Rattle.script.specs.declared.Cost.{Cost}
+use Rattle.script.specs.declared.Cost.the-variants.{Takes, Lacks}
+use Rattle.script.specs.Writer.{modeHas, modeLength, eciLength, has, bitsOfSegment, allHave, bitsOfSegments}
+use Rattle.script.specs.Check.{allowed, runAt, eciAt, commandAt, commandSize, Commands, none, these, with, taking, commands, most, capped, checkedOf}
+use Rattle.script.specs.Glyphs.{costOf, Limited, settled}
+use Rattle.script.proofs.Tests.{both}
+
+never : {A : Type 0} → _≡_ {A = ℕ} 0 1 → A
+never z = absurd (omega arith)
+
+-- ---- the command at a place
+
+module _ (s : List ℕ) (i : ℕ) where
+  first : getD (drop i s) 0 0 ≡ getD s i 0
+  first = getD-drop i s 0 0 ∙ rw add-zero
+
+  pub run-cut : length s - i < 3 → Wrong ≡ runAt (drop i s)
+  unfolding runAt
+  run-cut h = rw (length-drop, lt-ltb (length s - i) 3 h)
+
+  pub run-read : (m a b : ℕ) → 3 ≤ length s - i → m ≡ getD s i 0 → a ≡ getD s (i + 1) 0 → b ≡ getD s (i + 2) 0 → allowed m (a * 256 + b) ≡ true → Run m (a * 256 + b) ≡ runAt (drop i s)
+  unfolding runAt
+  run-read m a b h em ea eb t = rw (length-drop, le-ltb (length s - i) 3 h, first, getD-drop, getD-drop, ← em, ← ea, ← eb, t)
+
+  pub run-wrong : (m a b : ℕ) → 3 ≤ length s - i → m ≡ getD s i 0 → a ≡ getD s (i + 1) 0 → b ≡ getD s (i + 2) 0 → allowed m (a * 256 + b) ≡ false → Wrong ≡ runAt (drop i s)
+  unfolding runAt
+  run-wrong m a b h em ea eb t = rw (length-drop, le-ltb (length s - i) 3 h, first, getD-drop, getD-drop, ← em, ← ea, ← eb, t)
+
+  pub eci-cut : length s - i < 4 → Wrong ≡ eciAt (drop i s)
+  unfolding eciAt
+  eci-cut h = rw (length-drop, lt-ltb (length s - i) 4 h)
+
+  module _ (a b c : ℕ) (h : 4 ≤ length s - i) (ea : a ≡ getD s (i + 1) 0) (eb : b ≡ getD s (i + 2) 0) (ec : c ≡ getD s (i + 3) 0) where
+    pub eci-large : 2097151 < a * 65536 + b * 256 + c → Wrong ≡ eciAt (drop i s)
+    unfolding eciAt
+    eci-large l = rw (length-drop, le-ltb (length s - i) 4 h, getD-drop, getD-drop, getD-drop, ← ea, ← eb, ← ec, lt-ltb 2097151 (a * 65536 + b * 256 + c) l)
+
+    pub eci-read : a * 65536 + b * 256 + c ≤ 2097151 → Eci (a * 65536 + b * 256 + c) ≡ eciAt (drop i s)
+    unfolding eciAt
+    eci-read l = rw (length-drop, le-ltb (length s - i) 4 h, getD-drop, getD-drop, getD-drop, ← ea, ← eb, ← ec, le-ltb 2097151 (a * 65536 + b * 256 + c) l)
+
+  module _ (m : ℕ) (e : m ≡ getD s i 0) where
+    pub command-four : m ≡ 7 → Run 7 4 ≡ commandAt (drop i s)
+    unfolding commandAt
+    command-four f = rw (first, ← e, eq-eqb m 7 f)
+
+    pub command-eci : (m ≡ 7 → ⊥) → m ≡ 8 → commandAt (drop i s) ≡ eciAt (drop i s)
+    unfolding commandAt
+    command-eci n f = rw (first, ← e, ne-eqb m 7 n, eq-eqb m 8 f)
+
+    module _ (n : m ≡ 7 → ⊥) (k : m ≡ 8 → ⊥) where
+      pub command-zero : m < 1 → Wrong ≡ commandAt (drop i s)
+      unfolding commandAt
+      command-zero h = rw (first, ← e, ne-eqb m 7 n, ne-eqb m 8 k, lt-leb 1 m h)
+
+      pub command-large : 1 ≤ m → 6 < m → Wrong ≡ commandAt (drop i s)
+      unfolding commandAt
+      command-large l h = rw (first, ← e, ne-eqb m 7 n, ne-eqb m 8 k, le-leb 1 m l, lt-leb m 6 h)
+
+      pub command-run : 1 ≤ m → m ≤ 6 → commandAt (drop i s) ≡ runAt (drop i s)
+      unfolding commandAt
+      command-run l h = rw (first, ← e, ne-eqb m 7 n, ne-eqb m 8 k, le-leb 1 m l, le-leb m 6 h)
+
+-- ---- what a command has
+
+abbrev Bounded : List ℕ → Command → Type 0
+Bounded s Wrong = Unit {0}
+Bounded s (Eci v) = 4 ≤ length s
+Bounded s (Run mode n) = (1 ≤ mode) × (mode ≤ 7) × (n < 65536) × (commandSize mode ≤ length s)
+
+module _ (s : List ℕ) (b : (i : ℕ) → getD s i 0 < 256) (l : 0 < length s) where
+  run-bounded : (1 ≤ getD s 0 0) × (getD s 0 0 ≤ 6) → Bounded s (runAt s)
+  unfolding runAt commandSize
+  run-bounded m = go (ltb (length s) 3) refl (allowed (getD s 0 0) (getD s 1 0 * 256 + getD s 2 0))
+    where
+      go : (x : Bool) → ltb (length s) 3 ≡ x → (y : Bool) → Bounded s (cond x Wrong (cond y (Run (getD s 0 0) (getD s 1 0 * 256 + getD s 2 0)) Wrong))
+      go true p y = tt
+      go false p false = tt
+      go false p true =
+          let k = ltb-false (length s) 3 p in
+          let b1 = b 1 in
+          let b2 = b 2 in
+          (m .0, omega arith, omega arith, rw (ne-eqb (getD s 0 0) 7 (λ e. omega arith)) k)
+
+  eci-bounded : Bounded s (eciAt s)
+  unfolding eciAt
+  eci-bounded = go (ltb (length s) 4) refl (ltb 2097151 (getD s 1 0 * 65536 + getD s 2 0 * 256 + getD s 3 0))
+    where
+      go : (x : Bool) → ltb (length s) 4 ≡ x → (y : Bool) → Bounded s (cond x Wrong (cond y Wrong (Eci (getD s 1 0 * 65536 + getD s 2 0 * 256 + getD s 3 0))))
+      go true p y = tt
+      go false p true = tt
+      go false p false = ltb-false (length s) 4 p
+
+  bounded : Bounded s (commandAt s)
+  unfolding commandAt commandSize
+  bounded = go (eqb (getD s 0 0) 7) (eqb (getD s 0 0) 8) (leb 1 (getD s 0 0) && leb (getD s 0 0) 6) refl
+    where
+      go : (x y z : Bool) → (leb 1 (getD s 0 0) && leb (getD s 0 0) 6) ≡ z → Bounded s (cond x (Run 7 4) (cond y (eciAt s) (cond z (runAt s) Wrong)))
+      go true y z r = (omega arith, omega arith, omega arith, l)
+      go false true z r = eci-bounded
+      go false false false r = tt
+      go false false true r =
+          let k = both (leb 1 (getD s 0 0)) (leb (getD s 0 0) 6) r in
+          run-bounded (leb-true 1 (getD s 0 0) (k .0), leb-true (getD s 0 0) 6 (k .1))
+
+module _ (s : List ℕ) (i : ℕ) (b : (j : ℕ) → getD s j 0 < 256) (h : i < length s) (c : Command) (e : c ≡ commandAt (drop i s)) where
+  here : Bounded (drop i s) c
+  here = rw e (bounded (drop i s) (λ j. rw getD-drop (b (i + j))) (rw length-drop (omega arith)))
+
+  pub run-bounds : (mode n : ℕ) → c ≡ Run mode n → (1 ≤ mode) × (mode ≤ 7) × (n < 65536) × (i + commandSize mode ≤ length s)
+  run-bounds mode n q =
+      let g : Bounded (drop i s) (Run mode n) = subst (λ (z : Command). Bounded (drop i s) z) q here in
+      let k : commandSize mode ≤ length s - i = rw length-drop at (g .3) in
+      (g .0, g .1, g .2, omega arith)
+
+  pub eci-bounds : (v : ℕ) → c ≡ Eci v → i + 4 ≤ length s
+  eci-bounds v q =
+      let g : Bounded (drop i s) (Eci v) = subst (λ (z : Command). Bounded (drop i s) z) q here in
+      let k : 4 ≤ length s - i = rw length-drop at g in
+      omega arith
+
+-- ---- what a command leaves of the answer
+
+capped-add : (x y : ℕ) → capped (capped x + y) ≡ capped (x + y)
+capped-add x y = go (ltb x most) refl
+  where
+    go : (b : Bool) → ltb x most ≡ b → capped (cond b x most + y) ≡ capped (x + y)
+    go true e = refl
+    go false e =
+        let h = ltb-false x most e in
+        rw (le-ltb (most + y) most (omega arith), le-ltb (x + y) most (omega arith))
+
+pub settle-start : (c : Commands) (p : List ℕ) → checkedOf c p ≡ settled false 0 c p
+settle-start none p = refl
+settle-start (these gs) p = rw zero-add
+
+with-takes : (lacks : Bool) (t t′ b : ℕ) (g : Segment) (z : Commands) (p : List ℕ) → has g ≡ true → bitsOfSegment g ≡ b → t′ ≡ capped (t + b) → settled lacks t (with g z) p ≡ settled lacks t′ z p
+unfolding allHave bitsOfSegments
+with-takes lacks t t′ b g none p h e f = refl
+with-takes lacks t t′ b g (these gs) p h e f =
+    let k : capped (t′ + bitsOfSegments gs) ≡ capped (t + (b + bitsOfSegments gs)) = rw (f, capped-add (t + b) (bitsOfSegments gs), add-assoc t b (bitsOfSegments gs)) in
+    rw (h, e, k)
+
+with-lacks : (lacks : Bool) (t : ℕ) (g : Segment) (z : Commands) (p : List ℕ) → has g ≡ false → settled lacks t (with g z) p ≡ settled true t z p
+unfolding allHave
+with-lacks lacks t g none p h = refl
+with-lacks true t g (these gs) p h = refl
+with-lacks false t g (these gs) p h = rw h
+
+opened : (k : ℕ) (s p : List ℕ) → 0 < length s → commands (suc k) s p ≡ taking (commandAt s) p (λ i j. commands k (drop i s) (drop j p))
+unfolding commands
+opened k s p h = rw (ne-eqb (length s) 0 (λ e. omega arith))
+
+cost-takes : (mode b : ℕ) (bs : List ℕ) (r : Cost) → r ≡ costOf mode bs → r ≡ Takes b → (modeHas mode bs ≡ true) × (modeLength mode bs ≡ b)
+cost-takes mode b bs r e q = go (modeHas mode bs) refl e
+  where
+    go : (x : Bool) → modeHas mode bs ≡ x → r ≡ cond x (Takes (modeLength mode bs)) Lacks → (modeHas mode bs ≡ true) × (modeLength mode bs ≡ b)
+    go true h f = (h, cc)
+    go false h f = never cc
+
+cost-none : (mode : ℕ) (bs : List ℕ) (r : Cost) → r ≡ costOf mode bs → r ≡ Lacks → modeHas mode bs ≡ false
+cost-none mode bs r e q = go (modeHas mode bs) refl e
+  where
+    go : (x : Bool) → modeHas mode bs ≡ x → r ≡ cond x (Takes (modeLength mode bs)) Lacks → modeHas mode bs ≡ false
+    go true h f = never cc
+    go false h f = h
+
+module _ (s p : List ℕ) (i j : ℕ) (h : i < length s) (lacks : Bool) (t : ℕ) (c : Command) (e : c ≡ commandAt (drop i s)) where
+  some : 0 < length (drop i s)
+  some = rw length-drop (omega arith)
+
+  now-opened : (k : ℕ) → commands (suc k) (drop i s) (drop j p) ≡ taking c (drop j p) (λ a b. commands k (drop a (drop i s)) (drop b (drop j p)))
+  now-opened k = opened k (drop i s) (drop j p) some ∙ rw (← e)
+
+  pub settle-wrong : (f : ℕ) → 0 < f → c ≡ Wrong → settled lacks t (commands f (drop i s) (drop j p)) p ≡ Malformed
+  settle-wrong zero l q = absurd (omega arith)
+  settle-wrong (suc k) l q = rw (now-opened k, q)
+
+  pub settle-eci : (f : ℕ) → 0 < f → (v t′ : ℕ) → c ≡ Eci v → t′ ≡ capped (t + eciLength v) → settled lacks t (commands f (drop i s) (drop j p)) p ≡ settled lacks t′ (commands (f - 1) (drop (i + 4) s) (drop j p)) p
+  settle-eci zero l v t′ q m = absurd (omega arith)
+  settle-eci (suc k) l v t′ q m =
+      let z : suc k - 1 ≡ k = omega arith in
+      rw (now-opened k, q, z, drop-drop 4 i s) (with-takes lacks t t′ (eciLength v) (eci v) (commands k (drop (i + 4) s) (drop j p)) p refl refl m)
+
+  module _ (mode n : ℕ) (q : c ≡ Run mode n) where
+    pub settle-short : (f : ℕ) → 0 < f → length p - j < n → settled lacks t (commands f (drop i s) (drop j p)) p ≡ Malformed
+    settle-short zero l g = absurd (omega arith)
+    settle-short (suc k) l g = rw (now-opened k, q, length-drop, lt-ltb (length p - j) n g)
+
+    took : (k : ℕ) → n ≤ length p - j → commands (suc k) (drop i s) (drop j p) ≡ with (run mode (take n (drop j p))) (commands k (drop (i + commandSize mode) s) (drop (j + n) p))
+    took k g = now-opened k ∙ rw (q, length-drop, le-ltb (length p - j) n g, drop-drop (commandSize mode) i s, drop-drop n j p)
+
+    module _ (g : n ≤ length p - j) (r : Cost) (er : r ≡ costOf mode (take n (drop j p))) where
+      pub settle-takes : (f : ℕ) → 0 < f → (b t′ : ℕ) → r ≡ Takes b → t′ ≡ capped (t + b)
+          → settled lacks t (commands f (drop i s) (drop j p)) p ≡ settled lacks t′ (commands (f - 1) (drop (i + commandSize mode) s) (drop (j + n) p)) p
+      settle-takes zero l b t′ x m = absurd (omega arith)
+      settle-takes (suc k) l b t′ x m =
+          let z : suc k - 1 ≡ k = omega arith in
+          let y = cost-takes mode b (take n (drop j p)) r er x in
+          rw (took k g, z) (with-takes lacks t t′ b (run mode (take n (drop j p))) (commands k (drop (i + commandSize mode) s) (drop (j + n) p)) p (y .0) (y .1) m)
+
+      pub settle-lacks : (f : ℕ) → 0 < f → r ≡ Lacks
+          → settled lacks t (commands f (drop i s) (drop j p)) p ≡ settled true t (commands (f - 1) (drop (i + commandSize mode) s) (drop (j + n) p)) p
+      settle-lacks zero l x = absurd (omega arith)
+      settle-lacks (suc k) l x =
+          let z : suc k - 1 ≡ k = omega arith in
+          rw (took k g, z) (with-lacks lacks t (run mode (take n (drop j p))) (commands k (drop (i + commandSize mode) s) (drop (j + n) p)) p (cost-none mode (take n (drop j p)) r er x))
+
+-- ---- the end of the script
+
+module _ (s p : List ℕ) (i j : ℕ) (lacks : Bool) (t : ℕ) (h : length s ≤ i) where
+  ended : (f : ℕ) → 0 < f → commands f (drop i s) (drop j p) ≡ cond (eqb (length p - j) 0) (these []) none
+  unfolding commands
+  ended zero l = absurd (omega arith)
+  ended (suc k) l =
+      let z : length (drop i s) ≡ 0 = rw length-drop (omega arith) in
+      rw (eq-eqb (length (drop i s)) 0 z, length-drop)
+
+  pub end-left : (f : ℕ) → 0 < f → j < length p → settled lacks t (commands f (drop i s) (drop j p)) p ≡ Malformed
+  end-left f l g = rw (ended f l, ne-eqb (length p - j) 0 (λ e. omega arith))
+
+  module _ (f : ℕ) (l : 0 < f) (g : length p ≤ j) where
+    all-read : commands f (drop i s) (drop j p) ≡ these []
+    all-read = ended f l ∙ rw (eq-eqb (length p - j) 0 (omega arith))
+
+    pub end-lacks : lacks ≡ true → settled lacks t (commands f (drop i s) (drop j p)) p ≡ Lacking
+    end-lacks e = rw (all-read, e)
+
+    pub end-empty : lacks ≡ false → length p ≡ 0 → settled lacks t (commands f (drop i s) (drop j p)) p ≡ Empty
+    unfolding allHave
+    end-empty e z = rw (all-read, e, eq-eqb (length p) 0 z)
+
+    pub end-bits : lacks ≡ false → (length p ≡ 0 → ⊥) → t ≤ most → settled lacks t (commands f (drop i s) (drop j p)) p ≡ Bits t
+    unfolding allHave bitsOfSegments
+    end-bits e z m = rw (all-read, e, ne-eqb (length p) 0 z, add-zero) (ap Bits (go (ltb t most) refl))
+      where
+        go : (b : Bool) → ltb t most ≡ b → cond b t most ≡ t
+        go true q = refl
+        go false q = let k = ltb-false t most q in omega arith
+
+pub limited : (r : Cost) (b : ℕ) → Limited r → r ≡ Takes b → b < 100000000
+limited r b h e = subst (λ (z : Cost). Limited z) e h

@@ -1,0 +1,295 @@
+-- Runs of characters, word by word.
+use mathlib.Core.Path.{_≡_, refl, ap, _∙_, subst}
+use mathlib.Core.Bool.{Bool, true, false, cond, not, _&&_}
+use mathlib.Core.List.{List, [], _∷_}
+use Prim.Native.Nat.{ℕ, zero, suc, _+_, _-_, _*_, _/_, _%_, _<_, _≤_}
+use native.Mathlib.Nat.{mul-le-mul, le-of-lt}
+use native.Mathlib.Numerals.{add-one}
+use native.Mathlib.Omega.{arith}
+use borrow.Author.Tests.{eq-eqb, ne-eqb, lt-ltb}
+use lib.Dec.{eqb, ltb}
+use lib.ListN.{length, getD, drop, length-drop, drop-of-length-le}
+use lib.Seq.{drop-cons, drop-drop}
+use Rattle.segments.specs.Segments.{fourBytes}
+use Rattle.script.specs.declared.Glyph.{Glyph}
+use Rattle.script.specs.declared.Glyph.the-variants.{Same, Other, Lacking}
+use Rattle.script.specs.declared.Cost.the-variants.{Takes, Lacks}
+use Rattle.script.specs.Writer.{all, allPairs, isDigit, codeOf, inSubset, inText, pairCode, inRegion, inRegions, doubleCode, inDouble, textWords, textSwitches, regionWords, regionSwitches, doubleWords, fourCode, same, inFour, modeHas, modeLength}
+use Rattle.script.specs.Glyphs.{wordsOf, hasAll, stepOf, widthOf, switchOf, endOf, textGlyph, regionGlyph, doubleGlyph, Glyphed, beginsIn, charCost, costOf}
+use Rattle.script.proofs.Characters.{text-length, region-length, double-length}
+
+-- ---- the character at the front
+
+text-front : (f : Bool) (b : ℕ) (bs : List ℕ) → Glyphed 2 f (b ∷ bs) (textGlyph f b)
+unfolding wordsOf hasAll stepOf switchOf textGlyph textWords inText
+text-front f b bs = go f (inSubset f b) refl (inSubset (not f) b) refl
+  where
+    go : (f : Bool) (x : Bool) → inSubset f b ≡ x → (y : Bool) → inSubset (not f) b ≡ y
+        → Glyphed 2 f (b ∷ bs) (cond x (Same (codeOf f b)) (cond y (Other (codeOf (not f) b)) Lacking))
+    go true true p y q = (rw p, rw p, omega arith)
+    go true false p true q = (rw p, rw (p, q), omega arith)
+    go true false p false q = rw (p, q)
+    go false true p true q = (rw p, rw q, omega arith)
+    go false true p false q = (rw p, rw (q, p), omega arith)
+    go false false p true q = (rw p, rw q, omega arith)
+    go false false p false q = rw (q, p)
+
+region-front : (mode : ℕ) (f : Bool) (a b : ℕ) (bs : List ℕ) → (mode ≡ 2 → ⊥) → (mode ≡ 6 → ⊥) → Glyphed mode f (a ∷ b ∷ bs) (regionGlyph f a b)
+unfolding wordsOf hasAll stepOf switchOf regionGlyph regionWords inRegions
+region-front mode f a b bs n2 n6 = go f (inRegion f a b) refl (inRegion (not f) a b) refl
+  where
+    e2 : eqb mode 2 ≡ false
+    e2 = ne-eqb mode 2 n2
+
+    e6 : eqb mode 6 ≡ false
+    e6 = ne-eqb mode 6 n6
+
+    go : (f : Bool) (x : Bool) → inRegion f a b ≡ x → (y : Bool) → inRegion (not f) a b ≡ y
+        → Glyphed mode f (a ∷ b ∷ bs) (cond x (Same (pairCode f a b)) (cond y (Other (pairCode (not f) a b)) Lacking))
+    go true true p y q = (rw (e2, e6, p), rw (e2, e6, p), rw e2 (omega arith))
+    go true false p true q = (rw (e2, e6, p), rw (e2, e6, p, q), rw e2 (omega arith))
+    go true false p false q = rw (e2, e6, p, q)
+    go false true p true q = (rw (e2, e6, p), rw (e2, e6, q), rw e2 (omega arith))
+    go false true p false q = (rw (e2, e6, p), rw (e2, e6, q, p), rw e2 (omega arith))
+    go false false p true q = (rw (e2, e6, p), rw (e2, e6, q), rw e2 (omega arith))
+    go false false p false q = rw (e2, e6, q, p)
+
+double-front : (f : Bool) (a b : ℕ) (bs : List ℕ) → Glyphed 6 f (a ∷ b ∷ bs) (doubleGlyph a b)
+unfolding wordsOf hasAll stepOf switchOf doubleGlyph doubleWords
+double-front f a b bs = go (inDouble a b) refl
+  where
+    go : (x : Bool) → inDouble a b ≡ x → Glyphed 6 f (a ∷ b ∷ bs) (cond x (Same (doubleCode a b)) Lacking)
+    go true p = (refl, rw p, omega arith)
+    go false p = rw p
+
+alone : (mode : ℕ) (f : Bool) (bs : List ℕ) → (mode ≡ 2 → ⊥) → 0 < length bs → length bs < 2 → Glyphed mode f bs Lacking
+unfolding hasAll
+alone mode f [] n p h = absurd (omega arith)
+alone mode f (a ∷ []) n p h = rw (ne-eqb mode 2 n) (go (eqb mode 6))
+  where
+    go : (x : Bool) → cond x false false ≡ false
+    go true = refl
+    go false = refl
+alone mode f (a ∷ b ∷ bs) n p h = absurd (omega arith)
+
+-- the same at a place of a run
+module _ (run : List ℕ) (mode : ℕ) (f : Bool) (j : ℕ) (h : j < length run) (r : Glyph) where
+  pub text-glyph : mode ≡ 2 → r ≡ textGlyph f (getD run j 0) → Glyphed mode f (drop j run) r
+  text-glyph e q = rw (e, q, drop-cons run j 0 h) (text-front f (getD run j 0) (drop (suc j) run))
+
+  pub alone-glyph : (mode ≡ 2 → ⊥) → length run - j < 2 → Glyphed mode f (drop j run) Lacking
+  alone-glyph n l = alone mode f (drop j run) n (rw length-drop (omega arith)) (rw length-drop l)
+
+  module _ (l : j + 1 < length run) where
+    pair : drop j run ≡ getD run j 0 ∷ getD run (j + 1) 0 ∷ drop (suc (suc j)) run
+    pair = let e : j + 1 ≡ suc j = omega arith in drop-cons run j 0 h ∙ rw (e, drop-cons run (suc j) 0 (omega arith))
+
+    pub double-glyph : mode ≡ 6 → r ≡ doubleGlyph (getD run j 0) (getD run (j + 1) 0) → Glyphed mode f (drop j run) r
+    double-glyph e q = rw (e, q, pair) (double-front f (getD run j 0) (getD run (j + 1) 0) (drop (suc (suc j)) run))
+
+    pub region-glyph : (mode ≡ 2 → ⊥) → (mode ≡ 6 → ⊥) → r ≡ regionGlyph f (getD run j 0) (getD run (j + 1) 0) → Glyphed mode f (drop j run) r
+    region-glyph n m q = rw (q, pair) (region-front mode f (getD run j 0) (getD run (j + 1) 0) (drop (suc (suc j)) run) n m)
+
+-- ---- along a run
+
+module _ (run : List ℕ) (mode : ℕ) (f : Bool) (j w by : ℕ) (r : Glyph) (h : Glyphed mode f (drop j run) r) (b : by ≡ stepOf mode) (p : 0 < by) where
+  -- k words behind, in a subset or region g
+  abbrev Past : ℕ → Bool → Type 0
+  Past k g =
+      (j + by ≤ length run) × (hasAll mode (drop j run) ≡ hasAll mode (drop (j + by) run))
+      × (length (wordsOf mode f (drop j run)) ≡ k + length (wordsOf mode g (drop (j + by) run)))
+
+  room : stepOf mode ≤ length (drop j run) → j + by ≤ length run
+  room q = let k = rw length-drop at q in omega arith
+
+  pub run-same : r ≡ Same w → Past 1 f
+  run-same e =
+      let g : Glyphed mode f (drop j run) (Same w) = subst (λ (z : Glyph). Glyphed mode f (drop j run) z) e h in
+      (room (g .2), rw b (rw drop-drop at (g .1)), rw b (ap length (g .0) ∙ rw drop-drop (omega arith)))
+
+  pub run-other : r ≡ Other w → Past 2 (not f)
+  run-other e =
+      let g : Glyphed mode f (drop j run) (Other w) = subst (λ (z : Glyph). Glyphed mode f (drop j run) z) e h in
+      (room (g .2), rw b (rw drop-drop at (g .1)), rw b (ap length (g .0) ∙ rw drop-drop (omega arith)))
+
+  pub run-lacks : r ≡ Lacking → hasAll mode (drop j run) ≡ false
+  run-lacks e = subst (λ (z : Glyph). Glyphed mode f (drop j run) z) e h
+
+nothing : (mode : ℕ) → hasAll mode [] ≡ true
+unfolding hasAll
+nothing mode = go (eqb mode 2) (eqb mode 6)
+  where
+    go : (x y : Bool) → cond x true (cond y true true) ≡ true
+    go true y = refl
+    go false true = refl
+    go false false = refl
+
+pub just-end : (mode : ℕ) (f : Bool) → wordsOf mode f [] ≡ endOf mode ∷ []
+unfolding wordsOf endOf textWords regionWords doubleWords
+just-end mode f = go (eqb mode 2) (eqb mode 6)
+  where
+    go : (x y : Bool) → cond {A = List ℕ} x (63 ∷ []) (cond y (32767 ∷ []) (4095 ∷ [])) ≡ cond x 63 (cond y 32767 4095) ∷ []
+    go true y = refl
+    go false true = refl
+    go false false = refl
+
+-- the end of a run, and what its characters come to
+pub run-done : (run : List ℕ) (mode : ℕ) (f b : Bool) (j n : ℕ) → length run ≤ j → hasAll mode run ≡ hasAll mode (drop j run)
+    → n + length (wordsOf mode f (drop j run)) ≡ length (wordsOf mode b run) → b ≡ beginsIn mode → Takes (4 + widthOf mode * (n + 1)) ≡ charCost mode run
+run-done run mode f b j n l h e g =
+    let d : drop j run ≡ [] = drop-of-length-le run l in
+    let t : hasAll mode run ≡ true = h ∙ rw d (nothing mode) in
+    let k : n + 1 ≡ length (wordsOf mode (beginsIn mode) run) = rw (d, just-end mode f, g) at e in
+    rw (t, k)
+
+pub cost-lacks : (run : List ℕ) (mode : ℕ) → hasAll mode run ≡ false → Lacks ≡ charCost mode run
+cost-lacks run mode e = rw e
+
+-- ---- the bits of a run
+
+all-bytes : (bs : List ℕ) → ((i : ℕ) → getD bs i 0 < 256) → all (λ b. ltb b 256) bs ≡ true
+all-bytes [] h = refl
+all-bytes (b ∷ bs) h = rw (lt-ltb b 256 (h 0)) (all-bytes bs (λ i. h (suc i)))
+
+module _ (run : List ℕ) (mode : ℕ) where
+  pub numeric-takes : mode ≡ 1 → all isDigit run ≡ true → Takes (14 + 10 * ((length run + 2) / 3)) ≡ costOf mode run
+  unfolding modeHas modeLength
+  numeric-takes e t = rw (e, t)
+
+  pub numeric-lacks : mode ≡ 1 → all isDigit run ≡ false → Lacks ≡ costOf mode run
+  unfolding modeHas
+  numeric-lacks e t = rw (e, t)
+
+  pub bytes-takes : mode ≡ 3 → ((i : ℕ) → getD run i 0 < 256) → Takes (17 + 8 * length run) ≡ costOf mode run
+  unfolding modeHas modeLength
+  bytes-takes e h = rw (e, all-bytes run h)
+
+  pub four-takes : mode ≡ 7 → inFour run ≡ true → Takes 25 ≡ costOf mode run
+  unfolding modeHas modeLength
+  four-takes e t = rw (e, t)
+
+  pub four-lacks : mode ≡ 7 → inFour run ≡ false → Lacks ≡ costOf mode run
+  unfolding modeHas
+  four-lacks e t = rw (e, t)
+
+  pub text-cost : mode ≡ 2 → charCost mode run ≡ costOf mode run
+  unfolding modeHas modeLength hasAll wordsOf widthOf beginsIn
+  text-cost e = rw e (go (all inText run))
+    where
+      go : (x : Bool) → cond x (Takes (4 + 6 * length (textWords true run))) Lacks ≡ cond x (Takes (10 + 6 * (length run + textSwitches true run))) Lacks
+      go true = let h : 4 + 6 * length (textWords true run) ≡ 10 + 6 * (length run + textSwitches true run) = rw (text-length true run) (omega arith) in rw h
+      go false = refl
+
+  pub region-cost : (f : Bool) → mode ≡ cond f 4 5 → charCost mode run ≡ costOf mode run
+  unfolding modeHas modeLength hasAll wordsOf widthOf beginsIn
+  region-cost f e = rw e (which f)
+    where
+      go : (f x : Bool) → allPairs inRegions run ≡ x → cond x (Takes (4 + 12 * length (regionWords f run))) Lacks ≡ cond x (Takes (16 + 12 * (length run / 2 + regionSwitches f run))) Lacks
+      go f true t = let h : 4 + 12 * length (regionWords f run) ≡ 16 + 12 * (length run / 2 + regionSwitches f run) = rw (region-length f run t) (omega arith) in rw h
+      go f false t = refl
+
+      which : (f : Bool) → charCost (cond f 4 5) run ≡ costOf (cond f 4 5) run
+      which true = go true (allPairs inRegions run) refl
+      which false = go false (allPairs inRegions run) refl
+
+  pub double-cost : mode ≡ 6 → charCost mode run ≡ costOf mode run
+  unfolding modeHas modeLength hasAll wordsOf widthOf beginsIn
+  double-cost e = rw e (go (allPairs inDouble run) refl)
+    where
+      go : (x : Bool) → allPairs inDouble run ≡ x → cond x (Takes (4 + 15 * length (doubleWords run))) Lacks ≡ cond x (Takes (19 + 15 * (length run / 2))) Lacks
+      go true t = let h : 4 + 15 * length (doubleWords run) ≡ 19 + 15 * (length run / 2) = rw (double-length run t) (omega arith) in rw h
+      go false t = refl
+
+-- ---- four bytes, and digits
+
+pub four-same : (w : ℕ) (s : List ℕ) → length s ≡ 4
+    → same (fourBytes w) s ≡ (eqb (0x81 + w / 12600) (getD s 0 0) && (eqb (0x30 + w % 12600 / 1260) (getD s 1 0) && (eqb (0x81 + w % 1260 / 10) (getD s 2 0) && (eqb (0x30 + w % 10) (getD s 3 0) && true))))
+unfolding same fourBytes
+four-same w [] e = absurd (omega arith)
+four-same w (a ∷ []) e = absurd (omega arith)
+four-same w (a ∷ b ∷ []) e = absurd (omega arith)
+four-same w (a ∷ b ∷ c ∷ []) e = absurd (omega arith)
+four-same w (a ∷ b ∷ c ∷ d ∷ []) e = refl
+four-same w (a ∷ b ∷ c ∷ d ∷ x ∷ s) e = absurd (omega arith)
+
+pub four-other : (w : ℕ) (s : List ℕ) → (length s ≡ 4 → ⊥) → same (fourBytes w) s ≡ false
+unfolding same fourBytes
+four-other w [] e = refl
+four-other w (a ∷ []) e = go (eqb (0x81 + w / 12600) a)
+  where
+    go : (x : Bool) → (x && false) ≡ false
+    go true = refl
+    go false = refl
+four-other w (a ∷ b ∷ []) e = go (eqb (0x81 + w / 12600) a) (eqb (0x30 + w % 12600 / 1260) b)
+  where
+    go : (x y : Bool) → (x && (y && false)) ≡ false
+    go true true = refl
+    go true false = refl
+    go false y = refl
+four-other w (a ∷ b ∷ c ∷ []) e = go (eqb (0x81 + w / 12600) a) (eqb (0x30 + w % 12600 / 1260) b) (eqb (0x81 + w % 1260 / 10) c)
+  where
+    go : (x y z : Bool) → (x && (y && (z && false))) ≡ false
+    go true true true = refl
+    go true true false = refl
+    go true false z = refl
+    go false y z = refl
+four-other w (a ∷ b ∷ c ∷ d ∷ []) e = absurd (e refl)
+four-other w (a ∷ b ∷ c ∷ d ∷ x ∷ s) e = go (eqb (0x81 + w / 12600) a) (eqb (0x30 + w % 12600 / 1260) b) (eqb (0x81 + w % 1260 / 10) c) (eqb (0x30 + w % 10) d)
+  where
+    go : (x y z v : Bool) → (x && (y && (z && (v && false)))) ≡ false
+    go true true true true = refl
+    go true true true false = refl
+    go true true false v = refl
+    go true false z v = refl
+    go false y z v = refl
+
+pub last-and : (b : Bool) → b ≡ (b && true)
+last-and true = refl
+last-and false = refl
+
+module _ (s : List ℕ) (w a b c d : ℕ) (e : w ≡ fourCode s) (v : w < 1587600) (l : length s ≡ 4) (ea : a ≡ getD s 0 0) where
+  pub four-first : (0x81 + w / 12600 ≡ a → ⊥) → false ≡ inFour s
+  unfolding inFour
+  four-first f = rw (← e, lt-ltb w 1587600 v, four-same w s l, ← ea, ne-eqb (0x81 + w / 12600) a f)
+
+  module _ (fa : 0x81 + w / 12600 ≡ a) (eb : b ≡ getD s 1 0) where
+    pub four-second : (0x30 + w % 12600 / 1260 ≡ b → ⊥) → false ≡ inFour s
+    unfolding inFour
+    four-second f = rw (← e, lt-ltb w 1587600 v, four-same w s l, ← ea, eq-eqb (0x81 + w / 12600) a fa, ← eb, ne-eqb (0x30 + w % 12600 / 1260) b f)
+
+    module _ (fb : 0x30 + w % 12600 / 1260 ≡ b) (ec : c ≡ getD s 2 0) where
+      pub four-third : (0x81 + w % 1260 / 10 ≡ c → ⊥) → false ≡ inFour s
+      unfolding inFour
+      four-third f = rw (← e, lt-ltb w 1587600 v, four-same w s l, ← ea, eq-eqb (0x81 + w / 12600) a fa, ← eb, eq-eqb (0x30 + w % 12600 / 1260) b fb, ← ec, ne-eqb (0x81 + w % 1260 / 10) c f)
+
+      pub four-last : 0x81 + w % 1260 / 10 ≡ c → d ≡ getD s 3 0 → eqb (0x30 + w % 10) d ≡ inFour s
+      unfolding inFour
+      four-last fc ed =
+          rw (← e, lt-ltb w 1587600 v, four-same w s l, ← ea, eq-eqb (0x81 + w / 12600) a fa, ← eb, eq-eqb (0x30 + w % 12600 / 1260) b fb, ← ec, eq-eqb (0x81 + w % 1260 / 10) c fc, ← ed)
+          (last-and (eqb (0x30 + w % 10) d))
+
+-- a digit more, and the first byte that is none
+pub digit-more : (run : List ℕ) (j : ℕ) → j < length run → isDigit (getD run j 0) ≡ true → all isDigit (drop j run) ≡ all isDigit (drop (j + 1) run)
+digit-more run j h e = rw (drop-cons run j 0 h, e, add-one)
+
+pub digit-none : (run : List ℕ) (j : ℕ) → j < length run → isDigit (getD run j 0) ≡ false → all isDigit (drop j run) ≡ false
+digit-none run j h e = rw (drop-cons run j 0 h, e)
+
+pub digit-end : (run : List ℕ) (j : ℕ) → length run ≤ j → true ≡ all isDigit (drop j run)
+digit-end run j h = rw (drop-of-length-le run h)
+
+-- no product of a word's width and the number of words is large
+pub small : (w n : ℕ) → w ≤ 15 → n < 1000000 → w * n ≤ 15000000
+small w n h l = mul-le-mul h (le-of-lt l)
+
+-- the four modes of characters
+pub char-cost : (run : List ℕ) (mode : ℕ) → 1 ≤ mode → mode ≤ 7 → (mode ≡ 1 → ⊥) → (mode ≡ 3 → ⊥) → (mode ≡ 7 → ⊥) → charCost mode run ≡ costOf mode run
+char-cost run zero a b n1 n3 n7 = absurd (omega arith)
+char-cost run (suc zero) a b n1 n3 n7 = absurd (n1 refl)
+char-cost run (suc (suc zero)) a b n1 n3 n7 = text-cost run 2 refl
+char-cost run (suc (suc (suc zero))) a b n1 n3 n7 = absurd (n3 refl)
+char-cost run (suc (suc (suc (suc zero)))) a b n1 n3 n7 = region-cost run 4 true refl
+char-cost run (suc (suc (suc (suc (suc zero))))) a b n1 n3 n7 = region-cost run 5 false refl
+char-cost run (suc (suc (suc (suc (suc (suc zero)))))) a b n1 n3 n7 = double-cost run 6 refl
+char-cost run (suc (suc (suc (suc (suc (suc (suc zero))))))) a b n1 n3 n7 = absurd (n7 refl)
+char-cost run (suc (suc (suc (suc (suc (suc (suc (suc m)))))))) a b n1 n3 n7 = absurd (omega arith)

@@ -1,0 +1,73 @@
+-- What the writer's tests say.
+use mathlib.Core.Path.{_≡_, refl, sym, _∙_, subst}
+use mathlib.Core.Bool.{Bool, true, false, not, _&&_, _||_}
+use mathlib.Core.List.{List, [], _∷_}
+use Prim.Native.Nat.{ℕ, zero, suc, _<_}
+use borrow.Author.Tests.{ltb-true, eqb-true}
+use lib.Dec.{T, ltb, eqb}
+use lib.ListN.{getD}
+use Rattle.segments.specs.Segments.{charOf, highOf, lowOf, regionSize, firstOf, secondOf}
+use Rattle.script.specs.Writer.{all, codeOf, inSubset, inText, pairCode, inRegion, inRegions, doubleCode, inDouble, same}
+
+pub false-true : false ≡ true → ⊥
+false-true z = subst (λ (t : Bool). T (not t)) z tt
+
+pub both : (a b : Bool) → (a && b) ≡ true → (a ≡ true) × (b ≡ true)
+both true b e = (refl, e)
+both false b e = absurd (false-true e)
+
+-- what fails one of two passes the other
+pub other-one : (a b : Bool) → (a || b) ≡ true → a ≡ false → b ≡ true
+other-one true b e f = absurd (false-true (sym f))
+other-one false b e f = e
+
+pub other-two : (a b : Bool) → (a || b) ≡ true → b ≡ false → a ≡ true
+other-two true b e f = refl
+other-two false b e f = sym f ∙ e
+
+-- a subset that has a byte
+pub subset-has : (f : Bool) (b : ℕ) → inSubset f b ≡ true → (codeOf f b < 62) × (charOf f (codeOf f b) ≡ b)
+unfolding inSubset
+subset-has f b e =
+    let h = both (ltb (codeOf f b) 62) (eqb (charOf f (codeOf f b)) b) e in
+    (ltb-true (codeOf f b) 62 (h .0), eqb-true (charOf f (codeOf f b)) b (h .1))
+
+pub other-subset : (f : Bool) (b : ℕ) → inText b ≡ true → inSubset f b ≡ false → inSubset (not f) b ≡ true
+unfolding inText
+other-subset true b t e = other-one (inSubset true b) (inSubset false b) t e
+other-subset false b t e = other-two (inSubset true b) (inSubset false b) t e
+
+-- a region that has a pair
+pub region-has : (f : Bool) (a b : ℕ) → inRegion f a b ≡ true → (pairCode f a b < regionSize f) × (highOf f (pairCode f a b) ≡ a) × (lowOf f (pairCode f a b) ≡ b)
+unfolding inRegion
+region-has f a b e =
+    let h = both (ltb (pairCode f a b) (regionSize f)) (eqb (highOf f (pairCode f a b)) a && eqb (lowOf f (pairCode f a b)) b) e in
+    let g = both (eqb (highOf f (pairCode f a b)) a) (eqb (lowOf f (pairCode f a b)) b) (h .1) in
+    (ltb-true (pairCode f a b) (regionSize f) (h .0), eqb-true (highOf f (pairCode f a b)) a (g .0), eqb-true (lowOf f (pairCode f a b)) b (g .1))
+
+pub other-region : (f : Bool) (a b : ℕ) → inRegions a b ≡ true → inRegion f a b ≡ false → inRegion (not f) a b ≡ true
+unfolding inRegions
+other-region true a b t e = other-one (inRegion true a b) (inRegion false a b) t e
+other-region false a b t e = other-two (inRegion true a b) (inRegion false a b) t e
+
+-- the two-byte mode has a pair
+pub double-has : (a b : ℕ) → inDouble a b ≡ true → (doubleCode a b < 23940) × (firstOf (doubleCode a b) ≡ a) × (secondOf (doubleCode a b) ≡ b)
+unfolding inDouble
+double-has a b e =
+    let h = both (ltb (doubleCode a b) 23940) (eqb (firstOf (doubleCode a b)) a && eqb (secondOf (doubleCode a b)) b) e in
+    let g = both (eqb (firstOf (doubleCode a b)) a) (eqb (secondOf (doubleCode a b)) b) (h .1) in
+    (ltb-true (doubleCode a b) 23940 (h .0), eqb-true (firstOf (doubleCode a b)) a (g .0), eqb-true (secondOf (doubleCode a b)) b (g .1))
+
+pub same-is : (xs ys : List ℕ) → same xs ys ≡ true → xs ≡ ys
+unfolding same
+same-is [] [] e = refl
+same-is [] (y ∷ ys) e = absurd (false-true e)
+same-is (x ∷ xs) [] e = absurd (false-true e)
+same-is (x ∷ xs) (y ∷ ys) e =
+    let h = both (eqb x y) (same xs ys) e in
+    rw (eqb-true x y (h .0), same-is xs ys (h .1))
+
+-- numbers that are all small
+pub small-cons : (v n : ℕ) (vs : List ℕ) → v < n → ((i : ℕ) → getD vs i 0 < n) → (i : ℕ) → getD (v ∷ vs) i 0 < n
+small-cons v n vs h g zero = h
+small-cons v n vs h g (suc i) = g i

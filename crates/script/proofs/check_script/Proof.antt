@@ -1,0 +1,275 @@
+use lib.ListN.{length-drop}
+use lib.Seq.{length-take-le}
+use mathlib.Core.Path.{_≡_, sym, ap, _∙_}
+use mathlib.Core.Bool.{true}
+use Prim.Native.Nat.{ℕ, _+_, _-_, _≤_, _<_}
+use native.Mathlib.Omega.{arith}
+use borrow.Author.Needs.{needs}
+use lib.ListN.{length, take, drop}
+use Rattle.script.specs.Check.{commandSize, commands, commandsOf, checkOf}
+use Rattle.script.specs.Glyphs.{costOf, settled}
+use Rattle.script.proofs.Checks.{run-bounds, eci-bounds, settle-start, settle-wrong, settle-eci, settle-short, settle-takes, settle-lacks, end-left, end-lacks, end-empty, end-bits, limited}
+use Rattle.script.proofs.check_script.Statement.{statement}
+use Rattle.script.proofs.check_script.Tie as tie
+
+abbrev Inv-loop : tie.InvT-loop
+Inv-loop script payload i₀ j₀ total₀ lacks₀ i j total lacks =
+    (i ≤ length script) × (j ≤ length payload) × (total ≤ 31089)
+    × ((f : ℕ) × (length script - i < f) × (checkOf script payload ≡ settled lacks total (commands f (drop i script) (drop j payload)) payload))
+
+abbrev μ-loop : tie.MeasureT-loop
+μ-loop script payload i₀ j₀ total₀ lacks₀ i j total lacks = length script - i
+
+loop-holds : tie.Need-loop-holds Inv-loop μ-loop
+loop-holds c =
+    let a = c .before .before .args in
+    (omega arith, omega arith, omega arith, (length (a .script .now) + 1, omega arith, settle-start (commandsOf (a .script .now) (a .payload .now)) (a .payload .now)))
+
+command-at-requires : tie.Need-command-at-requires Inv-loop μ-loop
+command-at-requires c κs = omega arith
+
+enum-known-next : tie.Need-enum-known-next Inv-loop μ-loop
+enum-known-next c = c .match .keys1
+
+sub-if1 : tie.Need-sub-if1 Inv-loop μ-loop
+sub-if1 c = omega arith
+
+returns : tie.Need-returns Inv-loop μ-loop
+returns c =
+    let k = c .before in
+    let g = k .before .before .before in
+    let l = g .before .before .loop in
+    let a = g .before .before .before .before .before .args in
+    let v = k .before .next .given in
+    sym (l .inv .3 .2 ∙ settle-short (a .script .now) (a .payload .now) (l .i) (l .j) (omega arith) (l .lacks) (l .total) (g .command-at .result) (g .command-at .ensures) (v .0 .0) (v .0 .1 .0) (v .1) (l .inv .3 .0) (omega arith) (c .if1 .taken))
+
+add-end : tie.Need-add-end Inv-loop μ-loop
+add-end c = omega arith
+
+sub-run-bits : tie.Need-sub-run-bits Inv-loop μ-loop
+sub-run-bits c = omega arith
+
+part-run-bits-start : tie.Need-part-run-bits-start Inv-loop μ-loop
+part-run-bits-start c = omega arith
+
+part-run-bits-end : tie.Need-part-run-bits-end Inv-loop μ-loop
+part-run-bits-end c = omega arith
+
+-- what the command has
+bounds : (c : tie.After-known-told Inv-loop μ-loop)
+    → (1 ≤ c .before .next .given .0 .0) × (c .before .next .given .0 .0 ≤ 7) × (c .before .next .given .0 .1 .0 < 65536)
+    × (c .before .before .before .before .before .loop .i + commandSize (c .before .next .given .0 .0) ≤ length (c .before .before .before .before .before .before .before .before .args .script .now))
+bounds c =
+    let g = c .before .before .before in
+    let l = g .before .before .loop in
+    let b = g .before .before .before .before in
+    let a = b .before .args in
+    let v = c .before .next .given in
+    run-bounds (a .script .now) (l .i) (λ i. omega (arith, b .shared-slice-known .given i)) (omega arith) (g .command-at .result) (g .command-at .ensures) (v .0 .0) (v .0 .1 .0) (v .1)
+
+run-bits-requires : tie.Need-run-bits-requires Inv-loop μ-loop
+run-bits-requires c κs =
+    let b = bounds (c .before .before) in
+    let l = c .before .before .before .before .before .before .before .loop in
+    let a = c .before .before .before .before .before .before .before .before .before .before .args in
+    let n = c .before .before .before .next .given .0 .1 .0 in
+    let z : l .j + n - l .j ≡ n = omega arith in
+    let k : n ≤ length (drop (l .j) (a .payload .now)) = rw length-drop (omega arith) in
+    rw (z, length-take-le n (drop (l .j) (a .payload .now)) k) (b .0, b .1, b .2)
+
+enum-known-cost : tie.Need-enum-known-cost Inv-loop μ-loop
+enum-known-cost c = c .match2 .keys1
+
+plus-requires : tie.Need-plus-requires Inv-loop μ-loop
+plus-requires c κs =
+    let q = c .before .before .before in
+    let t = limited (q .run-bits .result) (c .before .cost .given .0 .0) (q .run-bits .ensures .1) (c .before .cost .given .1) in
+    (omega arith, omega arith)
+
+command-size-requires : tie.Need-command-size-requires Inv-loop μ-loop
+command-size-requires c κs = search needs
+
+add-i : tie.Need-add-i Inv-loop μ-loop
+add-i c = omega arith
+
+loop-less : tie.Need-loop-less Inv-loop μ-loop
+loop-less c = omega arith
+
+loop-again : tie.Need-loop-again Inv-loop μ-loop
+loop-again c =
+    let q = c .before .before .before .before .before in
+    let e = q .before .before in
+    let k = e .before in
+    let g = k .before .before .before in
+    let l = g .before .before .loop in
+    let a = g .before .before .before .before .before .args in
+    let v = k .before .next .given in
+    let u = c .before .before .before .cost .given in
+    let w = c .command-size .ensures .0 in
+    let p = c .before .plus in
+    let z : l .j + v .0 .1 .0 - l .j ≡ v .0 .1 .0 = omega arith in
+    let s : q .run-bits .result ≡ costOf (v .0 .0) (take (v .0 .1 .0) (drop (l .j) (a .payload .now))) = rw z at (q .run-bits .ensures .0) in
+    let b = bounds k in (
+      omega arith,
+      omega arith,
+      p .ensures .1,
+      (
+        l .inv .3 .0 - 1,
+        omega arith,
+        l .inv .3 .2 ∙ settle-takes (a .script .now) (a .payload .now) (l .i) (l .j) (omega arith) (l .lacks) (l .total) (g .command-at .result) (g .command-at .ensures) (v .0 .0) (v .0 .1 .0) (v .1) (e .if1 .left) (q .run-bits .result) s (l .inv .3 .0) (omega arith) (u .0 .0) (p .result) (u .1) (p .ensures .0)
+            ∙ ap (λ (x : ℕ). settled (l .lacks) (p .result) (commands (l .inv .3 .0 - 1) (drop (l .i + x) (a .script .now)) (drop (l .j + v .0 .1 .0) (a .payload .now))) (a .payload .now)) (sym w),
+      ),
+    )
+
+enum-told : tie.Need-enum-told Inv-loop μ-loop
+enum-told c = c .match2 .keys2
+
+command-size-requires-2 : tie.Need-command-size-requires-2 Inv-loop μ-loop
+command-size-requires-2 c κs = search needs
+
+add-i-2 : tie.Need-add-i-2 Inv-loop μ-loop
+add-i-2 c = omega arith
+
+loop-less-2 : tie.Need-loop-less-2 Inv-loop μ-loop
+loop-less-2 c = omega arith
+
+loop-again-2 : tie.Need-loop-again-2 Inv-loop μ-loop
+loop-again-2 c =
+    let q = c .before .before .before in
+    let e = q .before .before in
+    let k = e .before in
+    let g = k .before .before .before in
+    let l = g .before .before .loop in
+    let a = g .before .before .before .before .before .args in
+    let v = k .before .next .given in
+    let w = c .command-size2 .ensures .0 in
+    let z : l .j + v .0 .1 .0 - l .j ≡ v .0 .1 .0 = omega arith in
+    let s : q .run-bits .result ≡ costOf (v .0 .0) (take (v .0 .1 .0) (drop (l .j) (a .payload .now))) = rw z at (q .run-bits .ensures .0) in
+    let b = bounds k in (
+      omega arith,
+      omega arith,
+      l .inv .2,
+      (
+        l .inv .3 .0 - 1,
+        omega arith,
+        l .inv .3 .2 ∙ settle-lacks (a .script .now) (a .payload .now) (l .i) (l .j) (omega arith) (l .lacks) (l .total) (g .command-at .result) (g .command-at .ensures) (v .0 .0) (v .0 .1 .0) (v .1) (e .if1 .left) (q .run-bits .result) s (l .inv .3 .0) (omega arith) (c .before .enum-told .given .1)
+            ∙ ap (λ (x : ℕ). settled true (l .total) (commands (l .inv .3 .0 - 1) (drop (l .i + x) (a .script .now)) (drop (l .j + v .0 .1 .0) (a .payload .now))) (a .payload .now)) (sym w),
+      ),
+    )
+
+enum-known-next-2 : tie.Need-enum-known-next-2 Inv-loop μ-loop
+enum-known-next-2 c = c .match .keys2
+
+eci-bits-requires : tie.Need-eci-bits-requires Inv-loop μ-loop
+eci-bits-requires c κs = search needs
+
+plus-requires-2 : tie.Need-plus-requires-2 Inv-loop μ-loop
+plus-requires-2 c κs = omega arith
+
+add-i-3 : tie.Need-add-i-3 Inv-loop μ-loop
+add-i-3 c = omega arith
+
+eci-room : (c : tie.After-known-told3 Inv-loop μ-loop) → c .before .before .before .before .before .loop .i + 4 ≤ length (c .before .before .before .before .before .before .before .before .args .script .now)
+eci-room c =
+    let g = c .before .before .before in
+    let l = g .before .before .loop in
+    let b = g .before .before .before .before in
+    let a = b .before .args in
+    let v = c .before .next2 .given in
+    eci-bounds (a .script .now) (l .i) (λ i. omega (arith, b .shared-slice-known .given i)) (omega arith) (g .command-at .result) (g .command-at .ensures) (v .0 .0) (v .1)
+
+loop-less-3 : tie.Need-loop-less-3 Inv-loop μ-loop
+loop-less-3 c = omega arith
+
+loop-again-3 : tie.Need-loop-again-3 Inv-loop μ-loop
+loop-again-3 c =
+    let k = c .before .before in
+    let g = k .before .before .before in
+    let l = g .before .before .loop in
+    let a = g .before .before .before .before .before .args in
+    let v = k .before .next2 .given in
+    let p = c .plus2 in
+    let r = eci-room k in (
+      omega arith,
+      omega arith,
+      p .ensures .1,
+      (
+        l .inv .3 .0 - 1,
+        omega arith,
+        l .inv .3 .2 ∙ settle-eci (a .script .now) (a .payload .now) (l .i) (l .j) (omega arith) (l .lacks) (l .total) (g .command-at .result) (g .command-at .ensures) (l .inv .3 .0) (omega arith) (v .0 .0) (p .result) (v .1) (p .ensures .0 ∙ rw (c .before .eci-bits .ensures .0)),
+      ),
+    )
+
+enum-told-2 : tie.Need-enum-told-2 Inv-loop μ-loop
+enum-told-2 c = c .match .keys3
+
+returns-2 : tie.Need-returns-2 Inv-loop μ-loop
+returns-2 c =
+    let g = c .before .before in
+    let l = g .before .before .loop in
+    let a = g .before .before .before .before .before .args in
+    sym (l .inv .3 .2 ∙ settle-wrong (a .script .now) (a .payload .now) (l .i) (l .j) (omega arith) (l .lacks) (l .total) (g .command-at .result) (g .command-at .ensures) (l .inv .3 .0) (omega arith) (c .enum-told2 .given .1))
+
+returns-3 : tie.Need-returns-3 Inv-loop μ-loop
+returns-3 c =
+    let l = c .before .before .loop in
+    let a = c .before .before .before .before .before .args in
+    sym (l .inv .3 .2 ∙ end-left (a .script .now) (a .payload .now) (l .i) (l .j) (l .lacks) (l .total) (omega arith) (l .inv .3 .0) (omega arith) (c .if2 .taken))
+
+returns-4 : tie.Need-returns-4 Inv-loop μ-loop
+returns-4 c =
+    let l = c .before .before .before .loop in
+    let a = c .before .before .before .before .before .before .args in
+    sym (l .inv .3 .2 ∙ end-lacks (a .script .now) (a .payload .now) (l .i) (l .j) (l .lacks) (l .total) (omega arith) (l .inv .3 .0) (omega arith) (omega arith) (c .if3 .taken))
+
+returns-5 : tie.Need-returns-5 Inv-loop μ-loop
+returns-5 c =
+    let l = c .before .before .before .before .loop in
+    let a = c .before .before .before .before .before .before .before .args in
+    sym (l .inv .3 .2 ∙ end-empty (a .script .now) (a .payload .now) (l .i) (l .j) (l .lacks) (l .total) (omega arith) (l .inv .3 .0) (omega arith) (omega arith) (c .before .if3 .left) (c .if4 .taken))
+
+returns-6 : tie.Need-returns-6 Inv-loop μ-loop
+returns-6 c =
+    let l = c .before .before .before .before .loop in
+    let a = c .before .before .before .before .before .before .before .args in
+    sym (l .inv .3 .2 ∙ end-bits (a .script .now) (a .payload .now) (l .i) (l .j) (l .lacks) (l .total) (omega arith) (l .inv .3 .0) (omega arith) (omega arith) (c .before .if3 .left) (c .if4 .left) (l .inv .2))
+
+pub check-script-spec : {M : Type 1} → statement M
+check-script-spec =
+    tie.close
+    (tie.spec
+    Inv-loop
+    μ-loop
+    loop-holds
+    command-at-requires
+    enum-known-next
+    sub-if1
+    returns
+    add-end
+    sub-run-bits
+    part-run-bits-start
+    part-run-bits-end
+    run-bits-requires
+    enum-known-cost
+    plus-requires
+    command-size-requires
+    add-i
+    loop-less
+    loop-again
+    enum-told
+    command-size-requires-2
+    add-i-2
+    loop-less-2
+    loop-again-2
+    enum-known-next-2
+    eci-bits-requires
+    plus-requires-2
+    add-i-3
+    loop-less-3
+    loop-again-3
+    enum-told-2
+    returns-2
+    returns-3
+    returns-4
+    returns-5
+    returns-6)

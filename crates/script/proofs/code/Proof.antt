@@ -1,0 +1,85 @@
+use mathlib.Core.Path.{_≡_}
+use Prim.Native.Nat.{_-_}
+use native.Mathlib.Omega.{arith}
+use borrow.Author.Tests.{lt-ltb, le-ltb}
+use Rattle.script.specs.Writer.{codeOf}
+use borrow.Author.Needs.{needs}
+use Rattle.script.proofs.code.Statement.{statement}
+use Rattle.script.proofs.code.Tie as tie
+
+returns : tie.Need-returns
+unfolding codeOf
+returns c =
+    let a = c .before .before .args in
+    let z : a .b - 48 ≡ 0 = omega arith in
+    rw (c .before .if1 .taken, lt-ltb (a .b) 58 (omega arith), z)
+
+returns-2 : tie.Need-returns-2
+unfolding codeOf
+returns-2 c = simp (lt-ltb _ _ (c .if3 .taken), c .before .before .if1 .taken)
+
+sub-result : tie.Need-sub-result
+sub-result c = search needs
+
+returns-3 : tie.Need-returns-3
+unfolding codeOf
+returns-3 c = simp (lt-ltb _ _ (c .if4 .taken), le-ltb _ _ (c .before .if3 .left), c .before .before .before .if1 .taken)
+
+sub-result-2 : tie.Need-sub-result-2
+sub-result-2 c = search needs
+
+returns-4 : tie.Need-returns-4
+unfolding codeOf
+returns-4 c = simp (le-ltb _ _ (c .if4 .left), le-ltb _ _ (c .before .if3 .left), c .before .before .before .if1 .taken)
+
+returns-5 : tie.Need-returns-5
+unfolding codeOf
+returns-5 c = simp (lt-ltb _ _ (c .if5 .taken), c .before .if1 .left)
+
+sub-result-3 : tie.Need-sub-result-3
+sub-result-3 c = search needs
+
+returns-6 : tie.Need-returns-6
+unfolding codeOf
+returns-6 c = simp (lt-ltb _ _ (c .if6 .taken), le-ltb _ _ (c .before .if5 .left), c .before .before .if1 .left)
+
+sub-result-4 : tie.Need-sub-result-4
+sub-result-4 c = search needs
+
+returns-7 : tie.Need-returns-7
+unfolding codeOf
+returns-7 c = simp (lt-ltb _ _ (c .if7 .taken), le-ltb _ _ (c .before .if6 .left), le-ltb _ _ (c .before .before .if5 .left), c .before .before .before .if1 .left)
+
+sub-result-5 : tie.Need-sub-result-5
+sub-result-5 c = search needs
+
+returns-8 : tie.Need-returns-8
+unfolding codeOf
+returns-8 c = simp (lt-ltb _ _ (c .if8 .taken), le-ltb _ _ (c .before .if7 .left), le-ltb _ _ (c .before .before .if6 .left), le-ltb _ _ (c .before .before .before .if5 .left), c .before .before .before .before .if1 .left)
+
+sub-result-6 : tie.Need-sub-result-6
+sub-result-6 c = search needs
+
+returns-9 : tie.Need-returns-9
+unfolding codeOf
+returns-9 c = simp (le-ltb _ _ (c .if8 .left), le-ltb _ _ (c .before .if7 .left), le-ltb _ _ (c .before .before .if6 .left), le-ltb _ _ (c .before .before .before .if5 .left), c .before .before .before .before .if1 .left)
+
+pub code-spec : {M : Type 1} → statement M
+code-spec =
+    tie.close
+    (tie.spec
+    returns
+    returns-2
+    sub-result
+    returns-3
+    sub-result-2
+    returns-4
+    returns-5
+    sub-result-3
+    returns-6
+    sub-result-4
+    returns-7
+    sub-result-5
+    returns-8
+    sub-result-6
+    returns-9)

@@ -1,0 +1,61 @@
+use mathlib.Core.Path.{sym, _∙_}
+use Rattle.script.proofs.Checks.{command-four, command-eci, command-zero, command-large, command-run}
+use borrow.Author.Needs.{needs}
+use Rattle.script.proofs.command_at.Statement.{statement}
+use Rattle.script.proofs.command_at.Tie as tie
+
+shared-slice-read-wide : tie.Need-shared-slice-read-wide
+shared-slice-read-wide c = search needs
+
+wide-requires : tie.Need-wide-requires
+wide-requires c κs = search needs
+
+returns : tie.Need-returns
+returns c =
+    let w = c .before in
+    let a = w .before .before .before .args in
+    command-four (a .script .now) (a .i) (w .wide .result) (w .wide .ensures .0) (c .if1 .taken)
+
+eci-at-requires : tie.Need-eci-at-requires
+eci-at-requires c κs = search needs
+
+returns-2 : tie.Need-returns-2
+returns-2 c =
+    let w = c .before .before .before in
+    let a = w .before .before .before .args in
+    c .eci-at .ensures ∙ sym (command-eci (a .script .now) (a .i) (w .wide .result) (w .wide .ensures .0) (c .before .before .if1 .left) (c .before .if2 .taken))
+
+returns-3 : tie.Need-returns-3
+returns-3 c =
+    let w = c .before .before .before in
+    let a = w .before .before .before .args in
+    command-zero (a .script .now) (a .i) (w .wide .result) (w .wide .ensures .0) (c .before .before .if1 .left) (c .before .if2 .left) (c .if3 .taken)
+
+returns-4 : tie.Need-returns-4
+returns-4 c =
+    let w = c .before .before .before .before in
+    let a = w .before .before .before .args in
+    command-large (a .script .now) (a .i) (w .wide .result) (w .wide .ensures .0) (c .before .before .before .if1 .left) (c .before .before .if2 .left) (c .before .if3 .left) (c .if4 .taken)
+
+run-at-requires : tie.Need-run-at-requires
+run-at-requires c κs = search needs
+
+returns-5 : tie.Need-returns-5
+returns-5 c =
+    let w = c .before .before .before .before .before in
+    let a = w .before .before .before .args in
+    c .run-at .ensures ∙ sym (command-run (a .script .now) (a .i) (w .wide .result) (w .wide .ensures .0) (c .before .before .before .before .if1 .left) (c .before .before .before .if2 .left) (c .before .before .if3 .left) (c .before .if4 .left))
+
+pub command-at-spec : {M : Type 1} → statement M
+command-at-spec =
+    tie.close
+    (tie.spec
+    shared-slice-read-wide
+    wide-requires
+    returns
+    eci-at-requires
+    returns-2
+    returns-3
+    returns-4
+    run-at-requires
+    returns-5)

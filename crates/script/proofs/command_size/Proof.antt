@@ -1,0 +1,16 @@
+use native.Mathlib.Omega.{arith}
+use borrow.Author.Tests.{eq-eqb, ne-eqb}
+use Rattle.script.specs.Check.{commandSize}
+use Rattle.script.proofs.command_size.Statement.{statement}
+use Rattle.script.proofs.command_size.Tie as tie
+
+returns : tie.Need-returns
+unfolding commandSize
+returns c = (rw (eq-eqb (c .before .args .mode) 7 (c .if1 .taken)), omega arith, omega arith)
+
+returns-2 : tie.Need-returns-2
+unfolding commandSize
+returns-2 c = (rw (ne-eqb (c .before .args .mode) 7 (c .if1 .left)), omega arith, omega arith)
+
+pub command-size-spec : {M : Type 1} → statement M
+command-size-spec = tie.close (tie.spec returns returns-2)

@@ -1,0 +1,56 @@
+use mathlib.Core.Path.{_∙_, ap}
+use borrow.Author.Tests.{lt-ltb, le-ltb, eq-eqb, ne-eqb}
+use Rattle.segments.specs.Segments.{firstOf}
+use Rattle.script.specs.Writer.{doubleCode, inDouble}
+use borrow.Author.Needs.{needs}
+use Rattle.script.proofs.in_double.Statement.{statement}
+use Rattle.script.proofs.in_double.Tie as tie
+
+double-code-requires : tie.Need-double-code-requires
+double-code-requires c κs = search needs
+
+first-byte-requires : tie.Need-first-byte-requires
+first-byte-requires c κs = search needs
+
+second-byte-requires : tie.Need-second-byte-requires
+second-byte-requires c κs = search needs
+
+returns : tie.Need-returns
+unfolding inDouble
+returns c =
+    let d = c .before .before in
+    let p = d .before .before in
+    let a = p .before .args in
+    let e = p .double-code .ensures in
+    let h = rw (d .first-byte .ensures .1, e) at (c .before .if2 .taken) in
+    let l = rw e at (d .before .if1 .taken) in
+    rw (c .second-byte .ensures .1, e, lt-ltb (doubleCode (a .a) (a .b)) 23940 l, eq-eqb (firstOf (doubleCode (a .a) (a .b))) (a .a) h)
+
+returns-2 : tie.Need-returns-2
+unfolding inDouble
+returns-2 c =
+    let d = c .before in
+    let p = d .before .before in
+    let a = p .before .args in
+    let e = p .double-code .ensures in
+    let l = rw e at (d .before .if1 .taken) in
+    rw (lt-ltb (doubleCode (a .a) (a .b)) 23940 l, ne-eqb (firstOf (doubleCode (a .a) (a .b))) (a .a) (λ q. c .if2 .left (d .first-byte .ensures .1 ∙ ap firstOf e ∙ q)))
+
+returns-3 : tie.Need-returns-3
+unfolding inDouble
+returns-3 c =
+    let p = c .before in
+    let a = p .before .args in
+    let l = rw (p .double-code .ensures) at (c .if1 .left) in
+    rw (le-ltb (doubleCode (a .a) (a .b)) 23940 l)
+
+pub in-double-spec : {M : Type 1} → statement M
+in-double-spec =
+    tie.close
+    (tie.spec
+    double-code-requires
+    first-byte-requires
+    second-byte-requires
+    returns
+    returns-2
+    returns-3)

@@ -1,0 +1,118 @@
+use Rattle.script.proofs.Runs.{four-first, four-second, four-third, four-last}
+use borrow.Author.Tests.{lt-ltb, le-ltb}
+use Rattle.script.specs.Writer.{fourCode, inFour}
+use Rattle.script.proofs.Runs.{four-other}
+use borrow.Author.Needs.{needs}
+use Rattle.script.proofs.in_four.Statement.{statement}
+use Rattle.script.proofs.in_four.Tie as tie
+
+four-code-requires : tie.Need-four-code-requires
+four-code-requires c κs = search needs
+
+returns : tie.Need-returns
+unfolding inFour
+returns c =
+    let a = c .before .before .before .args in
+    let e = c .before .four-code .ensures in
+    rw (le-ltb (fourCode (a .run .now)) 1587600 (rw e at (c .if1 .taken)))
+
+returns-2 : tie.Need-returns-2
+unfolding inFour
+returns-2 c =
+    let a = c .before .before .before .before .args in
+    let e = c .before .before .four-code .ensures in
+    rw (lt-ltb (fourCode (a .run .now)) 1587600 (rw e at (c .before .if1 .left)), four-other (fourCode (a .run .now)) (a .run .now) (c .if2 .taken))
+
+add-if3 : tie.Need-add-if3
+add-if3 c = search needs
+
+shared-slice-read-wide : tie.Need-shared-slice-read-wide
+shared-slice-read-wide c = search needs
+
+wide-requires : tie.Need-wide-requires
+wide-requires c κs = search needs
+
+returns-3 : tie.Need-returns-3
+returns-3 c =
+    let i = c .before .before .before in
+    let k = i .before .before in
+    let s = k .before .before .args .run .now in
+    four-first s (k .four-code .result) (c .before .wide .result) 0 0 0 (k .four-code .ensures) (i .before .if1 .left) (i .if2 .left) (c .before .wide .ensures .0) (c .if3 .taken)
+
+add-if4 : tie.Need-add-if4
+add-if4 c = search needs
+
+shared-slice-read-wide-2 : tie.Need-shared-slice-read-wide-2
+shared-slice-read-wide-2 c = search needs
+
+wide-requires-2 : tie.Need-wide-requires-2
+wide-requires-2 c κs = search needs
+
+returns-4 : tie.Need-returns-4
+returns-4 c =
+    let d = c .before .before .before in
+    let i = d .before .before .before in
+    let k = i .before .before in
+    let s = k .before .before .args .run .now in
+    four-second s (k .four-code .result) (d .before .wide .result) (c .before .wide2 .result) 0 0 (k .four-code .ensures) (i .before .if1 .left) (i .if2 .left) (d .before .wide .ensures .0) (d .if3 .left) (c .before .wide2 .ensures .0) (c .if4 .taken)
+
+add-if5 : tie.Need-add-if5
+add-if5 c = search needs
+
+shared-slice-read-wide-3 : tie.Need-shared-slice-read-wide-3
+shared-slice-read-wide-3 c = search needs
+
+wide-requires-3 : tie.Need-wide-requires-3
+wide-requires-3 c κs = search needs
+
+returns-5 : tie.Need-returns-5
+returns-5 c =
+    let f = c .before .before .before in
+    let d = f .before .before .before in
+    let i = d .before .before .before in
+    let k = i .before .before in
+    let s = k .before .before .args .run .now in
+    four-third s (k .four-code .result) (d .before .wide .result) (f .before .wide2 .result) (c .before .wide3 .result) 0 (k .four-code .ensures) (i .before .if1 .left) (i .if2 .left) (d .before .wide .ensures .0) (d .if3 .left) (f .before .wide2 .ensures .0) (f .if4 .left) (c .before .wide3 .ensures .0) (c .if5 .taken)
+
+add-result : tie.Need-add-result
+add-result c = search needs
+
+shared-slice-read-wide-4 : tie.Need-shared-slice-read-wide-4
+shared-slice-read-wide-4 c = search needs
+
+wide-requires-4 : tie.Need-wide-requires-4
+wide-requires-4 c κs = search needs
+
+returns-6 : tie.Need-returns-6
+returns-6 c =
+    let g = c .before .before in
+    let f = g .before .before .before in
+    let d = f .before .before .before in
+    let i = d .before .before .before in
+    let k = i .before .before in
+    let s = k .before .before .args .run .now in
+    four-last s (k .four-code .result) (d .before .wide .result) (f .before .wide2 .result) (g .before .wide3 .result) (c .wide4 .result) (k .four-code .ensures) (i .before .if1 .left) (i .if2 .left) (d .before .wide .ensures .0) (d .if3 .left) (f .before .wide2 .ensures .0) (f .if4 .left) (g .before .wide3 .ensures .0) (g .if5 .left) (c .wide4 .ensures .0)
+
+pub in-four-spec : {M : Type 1} → statement M
+in-four-spec =
+    tie.close
+    (tie.spec
+    four-code-requires
+    returns
+    returns-2
+    add-if3
+    shared-slice-read-wide
+    wide-requires
+    returns-3
+    add-if4
+    shared-slice-read-wide-2
+    wide-requires-2
+    returns-4
+    add-if5
+    shared-slice-read-wide-3
+    wide-requires-3
+    returns-5
+    add-result
+    shared-slice-read-wide-4
+    wide-requires-4
+    returns-6)

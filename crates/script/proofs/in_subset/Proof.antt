@@ -1,0 +1,30 @@
+use borrow.Author.Tests.{lt-ltb, le-ltb}
+use Rattle.script.specs.Writer.{codeOf, inSubset}
+use borrow.Author.Needs.{needs}
+use Rattle.script.proofs.in_subset.Statement.{statement}
+use Rattle.script.proofs.in_subset.Tie as tie
+
+code-requires : tie.Need-code-requires
+code-requires c κs = search needs
+
+text-char-requires : tie.Need-text-char-requires
+text-char-requires c κs = search needs
+
+returns : tie.Need-returns
+unfolding inSubset
+returns c =
+    let p = c .before .before in
+    let a = p .before .args in
+    let e = p .code .ensures in
+    rw (c .text-char .ensures .1, e, lt-ltb (codeOf (a .first) (a .b)) 62 (rw e at (c .before .if1 .taken)))
+
+returns-2 : tie.Need-returns-2
+unfolding inSubset
+returns-2 c =
+    let p = c .before in
+    let a = p .before .args in
+    let e = p .code .ensures in
+    rw (le-ltb (codeOf (a .first) (a .b)) 62 (rw e at (c .if1 .left)))
+
+pub in-subset-spec : {M : Type 1} → statement M
+in-subset-spec = tie.close (tie.spec code-requires text-char-requires returns returns-2)

@@ -1,0 +1,25 @@
+use Prim.Native.Nat.{_+_}
+use native.Mathlib.Omega.{arith}
+use borrow.Author.Tests.{lt-ltb, le-ltb}
+use borrow.Author.Needs.{needs}
+use Rattle.script.proofs.plus.Statement.{statement}
+use Rattle.script.proofs.plus.Tie as tie
+
+add-if1 : tie.Need-add-if1
+add-if1 c = search needs
+
+add-result : tie.Need-add-result
+add-result c = search needs
+
+returns : tie.Need-returns
+returns c =
+    let a = c .before .args in
+    (rw (lt-ltb (a .x + a .y) 31089 (c .if1 .taken)), omega arith)
+
+returns-2 : tie.Need-returns-2
+returns-2 c =
+    let a = c .before .args in
+    (rw (le-ltb (a .x + a .y) 31089 (c .if1 .left)), omega arith)
+
+pub plus-spec : {M : Type 1} → statement M
+plus-spec = tie.close (tie.spec add-if1 add-result returns returns-2)

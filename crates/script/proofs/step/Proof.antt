@@ -1,0 +1,16 @@
+use native.Mathlib.Omega.{arith}
+use borrow.Author.Tests.{eq-eqb, ne-eqb}
+use Rattle.script.specs.Glyphs.{stepOf}
+use Rattle.script.proofs.step.Statement.{statement}
+use Rattle.script.proofs.step.Tie as tie
+
+returns : tie.Need-returns
+unfolding stepOf
+returns c = (rw (eq-eqb (c .before .args .mode) 2 (c .if1 .taken)), omega arith, omega arith)
+
+returns-2 : tie.Need-returns-2
+unfolding stepOf
+returns-2 c = (rw (ne-eqb (c .before .args .mode) 2 (c .if1 .left)), omega arith, omega arith)
+
+pub step-spec : {M : Type 1} → statement M
+step-spec = tie.close (tie.spec returns returns-2)

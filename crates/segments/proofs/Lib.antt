@@ -1,0 +1,6 @@
+pub mod Turns
+pub mod Stores
+pub mod Regions
+pub mod Designators
+pub mod Steps
+pub mod Outcomes

@@ -1,0 +1,85 @@
+-- What each answer of `from_data` comes to.
+use mathlib.Core.Path.{_≡_, refl, sym, subst, _∙_}
+use mathlib.Core.List.{List, _++_}
+use Prim.Native.Nat.{ℕ, _+_, _≤_, _<_}
+use native.Mathlib.Nat.{zero-add}
+use native.Mathlib.Omega.{arith}
+use borrow.Author.Tests.{eq-eqb, ne-eqb, lt-ltb, le-ltb}
+use lib.ListN.{length, drop}
+use lib.Seq.{sets-eq}
+use Rattle.segments.specs.declared.Answer.the-variants.{Read, TooLong, Broken, Empty, PayloadFull, ScriptFull}
+use Rattle.segments.specs.declared.Count.{Count}
+use Rattle.segments.specs.declared.Count.the-variants.{Done, Cut, Lacking}
+use Rattle.segments.specs.Script.{Segment, payloadOf, scriptOf}
+use Rattle.segments.specs.Segments.{Result, cut, lacking, got, segmentsOf}
+use Rattle.segments.specs.Passes.{Passed}
+use Rattle.segments.specs.FromData.{Outcome, fromData, givenOr7, told}
+
+same : {n n′ m m′ : ℕ} {u u′ v v′ : List ℕ} → n ≡ n′ → m ≡ m′ → u ≡ u′ → v ≡ v′
+    → _≡_ {A = Outcome} (record { refusal = 0; payloadLength = n; scriptLength = m; payload = u; script = v }) (record { refusal = 0; payloadLength = n′; scriptLength = m′; payload = u′; script = v′ })
+same p q r t = λ i. record { refusal = 0; payloadLength = p i; scriptLength = q i; payload = r i; script = t i }
+
+never : {A : Type 0} → _≡_ {A = ℕ} 0 1 → A
+never z = absurd (omega arith)
+
+module _ (s p c : List ℕ) where
+  pub too-long : 3886 < length s → told TooLong p c ≡ fromData s p c
+  too-long h = rw (lt-ltb 3886 (length s) h)
+
+  module _ (h : length s ≤ 3886) (o q : List ℕ) (r : Count) (x y : List ℕ) (d : Passed 0 0 o q (segmentsOf s) r x y) where
+    pub is-cut : r ≡ Cut → told Broken p c ≡ fromData s p c
+    is-cut e = rw (le-ltb 3886 (length s) h) (go (segmentsOf s) d)
+      where
+        go : (z : Result (List Segment)) → Passed 0 0 o q z r x y → told Broken p c ≡ givenOr7 z p c
+        go cut g = refl
+        go lacking g = refl
+        go (got gs u) g = let k = g .0 in never cc
+
+    pub is-lacking : r ≡ Lacking → told Broken p c ≡ fromData s p c
+    is-lacking e = rw (le-ltb 3886 (length s) h) (go (segmentsOf s) d)
+      where
+        go : (z : Result (List Segment)) → Passed 0 0 o q z r x y → told Broken p c ≡ givenOr7 z p c
+        go cut g = refl
+        go lacking g = refl
+        go (got gs u) g = let k = g .0 in never cc
+
+    module _ (n m : ℕ) (e : r ≡ Done n m) where
+      -- the segments are there, with these lengths
+      some : (gs : List Segment) × (u : ℕ) × (segmentsOf s ≡ got gs u) × (n ≡ length (payloadOf gs)) × (m ≡ length (scriptOf gs))
+      some = go (segmentsOf s) refl d
+        where
+          go : (z : Result (List Segment)) → segmentsOf s ≡ z → Passed 0 0 o q z r x y → (gs : List Segment) × (u : ℕ) × (segmentsOf s ≡ got gs u) × (n ≡ length (payloadOf gs)) × (m ≡ length (scriptOf gs))
+          go cut k g = never cc
+          go lacking k g = never cc
+          go (got gs u) k g =
+              let f = g .0 in
+              let n′ : n ≡ 0 + length (payloadOf gs) = cc in
+              let m′ : m ≡ 0 + length (scriptOf gs) = cc in
+              (gs, u, k, n′ ∙ zero-add (length (payloadOf gs)), m′ ∙ zero-add (length (scriptOf gs)))
+
+      pub is-empty : n ≡ 0 → told Empty p c ≡ fromData s p c
+      is-empty z = rw (le-ltb 3886 (length s) h, some .2, eq-eqb (length (payloadOf (some .0))) 0 (sym (some .3) ∙ z))
+
+      module _ (z : n ≡ 0 → ⊥) where
+        pub is-payload-full : length p < n → told PayloadFull p c ≡ fromData s p c
+        is-payload-full l =
+            let k = some .3 in
+            rw (le-ltb 3886 (length s) h, some .2, ne-eqb (length (payloadOf (some .0))) 0 (λ g. z (k ∙ g)), lt-ltb (length p) (length (payloadOf (some .0))) (omega arith))
+
+        module _ (l : n ≤ length p) where
+          pub is-script-full : length c < m → told ScriptFull p c ≡ fromData s p c
+          is-script-full g =
+              let k = some .3 in
+              let j = some .4 in
+              rw (le-ltb 3886 (length s) h, some .2, ne-eqb (length (payloadOf (some .0))) 0 (λ f. z (k ∙ f)), le-ltb (length p) (length (payloadOf (some .0))) (omega arith), lt-ltb (length c) (length (scriptOf (some .0))) (omega arith))
+
+          -- the second pass, over the buffers themselves
+          pub is-read : m ≤ length c → (t : Count) (u v : List ℕ) → Passed 0 0 p c (segmentsOf s) t u v → told (Read n m) u v ≡ fromData s p c
+          is-read g t u v i =
+              let k = some .3 in
+              let j = some .4 in
+              let f : Passed 0 0 p c (got (some .0) (some .1)) t u v = subst (λ (w : Result (List Segment)). Passed 0 0 p c w t u v) (some .2) i in
+              let eu : u ≡ payloadOf (some .0) ++ drop (length (payloadOf (some .0))) p = f .1 ∙ sets-eq (payloadOf (some .0)) p 0 (omega arith) ∙ rw zero-add in
+              let ev : v ≡ scriptOf (some .0) ++ drop (length (scriptOf (some .0))) c = f .2 ∙ sets-eq (scriptOf (some .0)) c 0 (omega arith) ∙ rw zero-add in
+              rw (le-ltb 3886 (length s) h, some .2, ne-eqb (length (payloadOf (some .0))) 0 (λ w. z (k ∙ w)), le-ltb (length p) (length (payloadOf (some .0))) (omega arith), le-ltb (length c) (length (scriptOf (some .0))) (omega arith))
+              (same k j eu ev)

@@ -1,0 +1,245 @@
+-- One segment and all of them: what a step of the pass leaves of the definitions.
+use mathlib.Core.Path.{_≡_, refl, ap, _∙_, sym, subst}
+use mathlib.Core.Bool.{Bool, true, false, cond}
+use mathlib.Core.List.{List, [], _∷_, _++_}
+use Prim.Native.Nat.{ℕ, zero, suc, _+_, _-_, _*_, _/_, _%_, _<_, _≤_}
+use native.Mathlib.Nat.{one-mul, add-zero}
+use native.Mathlib.Omega.{arith}
+use borrow.Author.Tests.{eq-eqb, ne-eqb, lt-ltb, le-ltb}
+use lib.Dec.{eqb}
+use lib.ListN.{length, drop, length-append}
+use lib.Seq.{sets, drop-drop}
+use Rattle.bits.specs.Bits.{bitsOf}
+use Rattle.bits.proofs.Reading.{length-left}
+use Rattle.bits.proofs.Words.{WordAt, sets-append}
+use Rattle.segments.specs.declared.Count.{Count}
+use Rattle.segments.specs.declared.Count.the-variants.{Done, Cut, Lacking}
+use Rattle.segments.specs.declared.Step.{Step}
+use Rattle.segments.specs.declared.Step.the-variants.{On, Cut as StepCut, Lacking as StepLacking}
+use Rattle.segments.specs.Script.{Segment, run, eci, bytesOf, runCommand, commandOf, payloadOf, scriptOf}
+use Rattle.segments.specs.Segments.{Result, cut, lacking, got, eciOf, bytesOfMode, runOf, segmentOf, first, following, parse}
+use Rattle.segments.specs.Passes.{behind, Left, Inside, numericAt, textAt, bytesAt, regionAt, doubleByteAt, fourByteAt, runAt, stoppedLacking, EciLeft, Stepped, Passed}
+use Rattle.segments.proofs.Turns.{behind-bits}
+
+-- ---- the modes by their numbers
+
+module _ (s : List ℕ) (i n : ℕ) (o : List ℕ) (mode : ℕ) where
+  pub run-numeric : mode ≡ 1 → runAt s i n o mode ≡ numericAt s i n o
+  unfolding bytesOfMode
+  run-numeric e = rw (e, behind-bits)
+
+  pub run-text : mode ≡ 2 → runAt s i n o mode ≡ textAt s i n o true
+  unfolding bytesOfMode
+  run-text e = rw (e, behind-bits)
+
+  pub run-bytes : mode ≡ 3 → runAt s i n o mode ≡ bytesAt s i n o
+  unfolding bytesOfMode
+  run-bytes e = rw e
+
+  pub run-one : mode ≡ 4 → runAt s i n o mode ≡ regionAt s i n o true
+  unfolding bytesOfMode
+  run-one e = rw (e, behind-bits)
+
+  pub run-two : mode ≡ 5 → runAt s i n o mode ≡ regionAt s i n o false
+  unfolding bytesOfMode
+  run-two e = rw (e, behind-bits)
+
+  pub run-double : mode ≡ 6 → runAt s i n o mode ≡ doubleByteAt s i n o
+  unfolding bytesOfMode
+  run-double e = rw (e, behind-bits)
+
+  pub run-four : mode ≡ 7 → runAt s i n o mode ≡ fourByteAt s i n o
+  unfolding bytesOfMode
+  run-four e = rw e
+
+  pub run-none : (mode ≡ 1 → ⊥) → (mode ≡ 2 → ⊥) → (mode ≡ 3 → ⊥) → (mode ≡ 4 → ⊥) → (mode ≡ 5 → ⊥) → (mode ≡ 6 → ⊥) → (mode ≡ 7 → ⊥) → runAt s i n o mode ≡ stoppedLacking
+  unfolding bytesOfMode
+  run-none a b c d e f g = rw (ne-eqb mode 1 a, ne-eqb mode 2 b, ne-eqb mode 3 c, ne-eqb mode 4 d, ne-eqb mode 5 e, ne-eqb mode 6 f, ne-eqb mode 7 g)
+
+-- ---- one segment
+
+never : {A : Type 0} → _≡_ {A = ℕ} 0 1 → A
+never z = absurd (omega arith)
+
+pub command-length : (mode n : ℕ) → length (runCommand mode n) ≤ 3
+unfolding runCommand
+command-length mode n = go (eqb mode 7)
+  where
+    go : (b : Bool) → length (cond {A = List ℕ} b (7 ∷ []) (mode ∷ n / 256 ∷ n % 256 ∷ [])) ≤ 3
+    go true = omega arith
+    go false = omega arith
+
+module _ (s : List ℕ) (i n m : ℕ) (o c : List ℕ) (mode : ℕ) (h : m + 4 ≤ i) (l : n ≤ i) where
+  pub eci-on : mode ≡ 8 → (a v : ℕ) (r : Count) (y : List ℕ) → EciLeft s i (eciOf (drop i (bitsOf s))) r → r ≡ Done a v → y ≡ sets c m (commandOf (eci v))
+      → Stepped s i n m o c (segmentOf mode (drop i (bitsOf s))) (On a n (m + 4)) o y
+  unfolding segmentOf
+  eci-on e a v r y p q w = rw (eq-eqb mode 8 e) (go (eciOf (drop i (bitsOf s))) p)
+    where
+      go : (z : Result Segment) → EciLeft s i z r → Stepped s i n m o c z (On a n (m + 4)) o y
+      go cut k = never cc
+      go lacking k = never cc
+      go (got (run x bs) u) k = absurd k
+      go (got (eci v′) u) k =
+          let k0 = k .0 in
+          let ea : a ≡ i + u = cc in
+          let ev : v ≡ v′ = cc in
+          (rw (ea, add-zero), refl, rw ev at w, k .1, omega arith, omega arith)
+
+  pub eci-bound : (r : Count) (a v : ℕ) → EciLeft s i (eciOf (drop i (bitsOf s))) r → r ≡ Done a v → v < 2097152
+  eci-bound r a v p q = go (eciOf (drop i (bitsOf s))) p
+    where
+      go : (z : Result Segment) → EciLeft s i z r → v < 2097152
+      go cut k = never cc
+      go lacking k = never cc
+      go (got (run x bs) u) k = absurd k
+      go (got (eci v′) u) k = let k0 = k .0 in let ev : v ≡ v′ = cc in rw ev (k .2)
+
+  pub eci-stop-cut : mode ≡ 8 → (r : Count) (x y : List ℕ) → EciLeft s i (eciOf (drop i (bitsOf s))) r → r ≡ Cut → Stepped s i n m o c (segmentOf mode (drop i (bitsOf s))) StepCut x y
+  unfolding segmentOf
+  eci-stop-cut e r x y p q = rw (eq-eqb mode 8 e) (go (eciOf (drop i (bitsOf s))) p)
+    where
+      go : (z : Result Segment) → EciLeft s i z r → Stepped s i n m o c z StepCut x y
+      go cut k = refl
+      go lacking k = never cc
+      go (got (run x bs) u) k = absurd k
+      go (got (eci v′) u) k = let k0 = k .0 in never cc
+
+  pub eci-stop-lacks : mode ≡ 8 → (r : Count) (x y : List ℕ) → EciLeft s i (eciOf (drop i (bitsOf s))) r → r ≡ Lacking → Stepped s i n m o c (segmentOf mode (drop i (bitsOf s))) StepLacking x y
+  unfolding segmentOf
+  eci-stop-lacks e r x y p q = rw (eq-eqb mode 8 e) (go (eciOf (drop i (bitsOf s))) p)
+    where
+      go : (z : Result Segment) → EciLeft s i z r → Stepped s i n m o c z StepLacking x y
+      go cut k = never cc
+      go lacking k = refl
+      go (got (run x bs) u) k = absurd k
+      go (got (eci v′) u) k = let k0 = k .0 in never cc
+
+  module _ (f : mode ≡ 8 → ⊥) (r : Count) (x : List ℕ) (p : Left (runAt s i n o mode) r x) where
+    pub run-on : (a k used : ℕ) (y : List ℕ) → r ≡ Done a k → a ≤ 8 * length s → k ≤ a → used ≡ length (runCommand mode (k - n)) → y ≡ sets c m (runCommand mode (k - n))
+        → Stepped s i n m o c (segmentOf mode (drop i (bitsOf s))) (On a k (m + used)) x y
+    unfolding segmentOf
+    run-on a k used y q la lk eu ey = rw (ne-eqb mode 8 f) (go (bytesOfMode mode (drop i (bitsOf s))) p)
+      where
+        go : (z : Result (List ℕ)) → Left (behind 1 i n o z) r x → Stepped s i n m o c (runOf mode z) (On a k (m + used)) x y
+        go cut g = never cc
+        go lacking g = never cc
+        go (got bs u) g =
+            let g0 = g .0 in
+            let ea : a ≡ i + 1 * u = cc in
+            let ea′ : a ≡ i + u = ea ∙ ap (λ (z : ℕ). i + z) (one-mul u) in
+            let ek : k ≡ n + length bs = cc in
+            let d : k - n ≡ length bs = omega arith in
+            let eu′ : used ≡ length (runCommand mode (length bs)) = rw d at eu in
+            let three = command-length mode (length bs) in
+            (rw (ea′, ek, eu′), g .1, rw d at ey, omega arith, omega arith, omega arith)
+
+    pub run-stop-cut : (x′ y : List ℕ) → r ≡ Cut → Stepped s i n m o c (segmentOf mode (drop i (bitsOf s))) StepCut x′ y
+    unfolding segmentOf
+    run-stop-cut x′ y q = rw (ne-eqb mode 8 f) (go (bytesOfMode mode (drop i (bitsOf s))) p)
+      where
+        go : (z : Result (List ℕ)) → Left (behind 1 i n o z) r x → Stepped s i n m o c (runOf mode z) StepCut x′ y
+        go cut g = refl
+        go lacking g = never cc
+        go (got bs u) g = let g0 = g .0 in never cc
+
+    pub run-stop-lacks : (x′ y : List ℕ) → r ≡ Lacking → Stepped s i n m o c (segmentOf mode (drop i (bitsOf s))) StepLacking x′ y
+    unfolding segmentOf
+    run-stop-lacks x′ y q = rw (ne-eqb mode 8 f) (go (bytesOfMode mode (drop i (bitsOf s))) p)
+      where
+        go : (z : Result (List ℕ)) → Left (behind 1 i n o z) r x → Stepped s i n m o c (runOf mode z) StepLacking x′ y
+        go cut g = never cc
+        go lacking g = refl
+        go (got bs u) g = let g0 = g .0 in never cc
+
+-- an answer of a mode that is at a place lies inside
+pub inside : (s : List ℕ) (from to : ℕ) (r : Count) (a k : ℕ) → Inside s from to r → r ≡ Done a k → (from ≤ a) × (a ≤ 8 * length s) × (to ≤ k) × (k ≤ a)
+inside s from to r a k h e = subst (λ (z : Count). Inside s from to z) e h
+
+-- ---- all of them
+
+pub step-room : (s : List ℕ) (i n m : ℕ) (o c : List ℕ) (z : Result Segment) (r : Step) (a k j : ℕ) (x y : List ℕ)
+    → Stepped s i n m o c z r x y → r ≡ On a k j → (i ≤ a) × (a ≤ 8 * length s) × (k ≤ a) × (j ≤ a)
+step-room s i n m o c cut r a k j x y p e = never cc
+step-room s i n m o c lacking r a k j x y p e = never cc
+step-room s i n m o c (got g u) r a k j x y p e =
+    let p0 = p .0 in
+    let ea : a ≡ i + u = cc in
+    let ek : k ≡ n + length (bytesOf g) = cc in
+    let ej : j ≡ m + length (commandOf g) = cc in
+    (omega arith, rw ea (p .3), rw (ea, ek) (p .4), rw (ea, ej) (p .5))
+
+module _ (s : List ℕ) (i n m : ℕ) (o c : List ℕ) where
+  pub pass-few : (f : ℕ) → 0 < f → length (drop i (bitsOf s)) < 4 → Passed n m o c (parse f (drop i (bitsOf s))) (Done n m) o c
+  unfolding parse payloadOf scriptOf
+  pass-few zero p h = absurd (omega arith)
+  pass-few (suc f) p h = rw (lt-ltb (length (drop i (bitsOf s))) 4 h) (rw (add-zero, add-zero), refl, refl)
+
+  module _ (mode : ℕ) (w : WordAt 4 i mode s) where
+    enough : 4 ≤ length (drop i (bitsOf s))
+    enough = let m = w .room in omega (arith, length-left s i)
+
+    pub pass-end : (f : ℕ) → 0 < f → mode ≡ 0 → Passed n m o c (parse f (drop i (bitsOf s))) (Done n m) o c
+    unfolding parse payloadOf scriptOf
+    pass-end zero p e = absurd (omega arith)
+    pass-end (suc f) p e =
+        rw (le-ltb (length (drop i (bitsOf s))) 4 enough, ← (w .is), eq-eqb mode 0 e) (rw (add-zero, add-zero), refl, refl)
+
+    opened : (f : ℕ) → (mode ≡ 0 → ⊥) → parse (suc f) (drop i (bitsOf s))
+        ≡ following (segmentOf mode (drop (i + 4) (bitsOf s))) (λ u. parse f (drop u (drop (i + 4) (bitsOf s))))
+    unfolding parse
+    opened f h = simp (le-ltb (length (drop i (bitsOf s))) 4 enough, sym (w .is), ne-eqb mode 0 h, drop-drop 4 i (bitsOf s))
+
+    module _ (f : ℕ) (p : 0 < f) (h : mode ≡ 0 → ⊥) (t : Step) (x y : List ℕ) (g : Stepped s (i + 4) n m o c (segmentOf mode (drop (i + 4) (bitsOf s))) t x y) where
+      pub pass-cut : t ≡ StepCut → Passed n m o c (parse f (drop i (bitsOf s))) Cut x y
+      pass-cut e = go f p
+        where
+          here : (z : Result Segment) (k : ℕ → Result (List Segment)) → Stepped s (i + 4) n m o c z t x y → Passed n m o c (following z k) Cut x y
+          here cut k q = refl
+          here lacking k q = never cc
+          here (got b u) k q = let q0 = q .0 in never cc
+
+          go : (f : ℕ) → 0 < f → Passed n m o c (parse f (drop i (bitsOf s))) Cut x y
+          go zero p = absurd (omega arith)
+          go (suc f) p = rw (opened f h) (here (segmentOf mode (drop (i + 4) (bitsOf s))) (λ u. parse f (drop u (drop (i + 4) (bitsOf s)))) g)
+
+      pub pass-lacks : t ≡ StepLacking → Passed n m o c (parse f (drop i (bitsOf s))) Lacking x y
+      pass-lacks e = go f p
+        where
+          here : (z : Result Segment) (k : ℕ → Result (List Segment)) → Stepped s (i + 4) n m o c z t x y → Passed n m o c (following z k) Lacking x y
+          here cut k q = never cc
+          here lacking k q = refl
+          here (got b u) k q = let q0 = q .0 in never cc
+
+          go : (f : ℕ) → 0 < f → Passed n m o c (parse f (drop i (bitsOf s))) Lacking x y
+          go zero p = absurd (omega arith)
+          go (suc f) p = rw (opened f h) (here (segmentOf mode (drop (i + 4) (bitsOf s))) (λ u. parse f (drop u (drop (i + 4) (bitsOf s)))) g)
+
+      pub pass-on : (a k j : ℕ) → t ≡ On a k j → (r : Count) (x′ y′ : List ℕ) → Passed k j x y (parse (f - 1) (drop a (bitsOf s))) r x′ y′ → Passed n m o c (parse f (drop i (bitsOf s))) r x′ y′
+      unfolding payloadOf scriptOf
+      pass-on a k j e r x′ y′ q = go f p q
+        where
+          join : (b : Segment) (u : ℕ) (z : Result (List Segment)) → Passed (n + length (bytesOf b)) (m + length (commandOf b)) (sets o n (bytesOf b)) (sets c m (commandOf b)) z r x′ y′
+              → Passed n m o c (first b u z) r x′ y′
+          join b u cut d = d
+          join b u lacking d = d
+          join b u (got gs v) d =
+              let e1 : n + length (bytesOf b ++ payloadOf gs) ≡ n + length (bytesOf b) + length (payloadOf gs) = rw length-append (omega arith) in
+              let e2 : m + length (commandOf b ++ scriptOf gs) ≡ m + length (commandOf b) + length (scriptOf gs) = rw length-append (omega arith) in
+              (rw (e1, e2) (d .0), rw sets-append (d .1), rw sets-append (d .2))
+
+          here : (f′ : ℕ) (z : Result Segment) → Stepped s (i + 4) n m o c z t x y → Passed k j x y (parse f′ (drop a (bitsOf s))) r x′ y′
+              → Passed n m o c (following z (λ u. parse f′ (drop u (drop (i + 4) (bitsOf s))))) r x′ y′
+          here f′ cut d q = never cc
+          here f′ lacking d q = never cc
+          here f′ (got b u) d q =
+              let d0 = d .0 in
+              let ea : a ≡ i + 4 + u = cc in
+              let ek : k ≡ n + length (bytesOf b) = cc in
+              let ej : j ≡ m + length (commandOf b) = cc in
+              join b u (parse f′ (drop u (drop (i + 4) (bitsOf s)))) (rw (drop-drop u (i + 4) (bitsOf s), ← ea, ← ek, ← ej, ← (d .1), ← (d .2)) q)
+
+          go : (f : ℕ) → 0 < f → Passed k j x y (parse (f - 1) (drop a (bitsOf s))) r x′ y′ → Passed n m o c (parse f (drop i (bitsOf s))) r x′ y′
+          go zero p q = absurd (omega arith)
+          go (suc f) p q =
+              let z : suc f - 1 ≡ f = omega arith in
+              rw (opened f h) (here f (segmentOf mode (drop (i + 4) (bitsOf s))) g (rw z at q))

@@ -1,0 +1,58 @@
+use mathlib.Core.Path.{refl}
+use native.Mathlib.Omega.{arith}
+use Rattle.bits.proofs.Words.{WordAt, word-read, word-few}
+use Rattle.segments.proofs.Turns.{bytes-cut, bytes-length, longer-inside}
+use borrow.Author.Needs.{needs}
+use Rattle.segments.proofs.bytes_mode.Statement.{statement}
+use Rattle.segments.proofs.bytes_mode.Tie as tie
+
+read-bits-requires : tie.Need-read-bits-requires
+read-bits-requires c κs = search needs
+
+enum-known-got : tie.Need-enum-known-got
+enum-known-got c = search needs
+
+enum-told : tie.Need-enum-told
+enum-told c = search needs
+
+returns : tie.Need-returns
+returns c =
+    let b = c .before .before in
+    let a = b .before .before .before .args in
+    (rw (bytes-cut (a .s .now) (a .from) (a .to) (a .out .now) (word-few 13 (a .from) (a .s .now) (b .read-bits .result) (b .read-bits .ensures) (c .enum-told .given .1))) refl, tt)
+
+-- what was read, where a word was read
+word : (c : tie.After-known-told) → WordAt 13 (c .before .before .before .before .before .before .args .from) (c .before .got .given .0 .0) (c .before .before .before .before .before .before .args .s .now)
+word c =
+    let b = c .before .before .before in
+    let a = b .before .before .before .args in
+    word-read 13 (a .from) (a .s .now) (b .read-bits .result) (b .read-bits .ensures) (c .before .got .given .0 .0) (omega arith) (omega arith) (c .before .got .given .1)
+
+add-bytes-run : tie.Need-add-bytes-run
+add-bytes-run c = search needs
+
+bytes-run-requires : tie.Need-bytes-run-requires
+bytes-run-requires c κs = let m = word (c .before) .room in (omega arith, omega arith, omega arith)
+
+same-length : tie.Need-same-length
+same-length c = search needs
+
+returns-2 : tie.Need-returns-2
+returns-2 c =
+    let k = c .before .before .before .before in
+    let a = k .before .before .before .before .before .before .args in
+    let q = c .before .before .bytes-run in
+    (rw (bytes-length (a .s .now) (a .from) (a .to) (a .out .now) (k .before .got .given .0 .0) (word k)) (q .ensures .0), longer-inside (a .s .now) (a .from) (a .to) 13 (q .result) (q .ensures .1))
+
+pub bytes-mode-spec : {M : Type 1} → statement M
+bytes-mode-spec =
+    tie.close
+    (tie.spec
+    read-bits-requires
+    enum-known-got
+    enum-told
+    returns
+    add-bytes-run
+    bytes-run-requires
+    same-length
+    returns-2)

@@ -1,0 +1,134 @@
+use borrow.Author.Needs.{needs}
+use mathlib.Core.Path.{_≡_, _∙_, refl, sym, ap, ap₂}
+use mathlib.Core.List.{List, [], _∷_}
+use native.Mathlib.Omega.{arith}
+use Prim.Native.Nat.{ℕ, _≤_, _*_, _-_, _+_}
+use lib.ListN.{length}
+use lib.Seq.{sets}
+use Rattle.bits.proofs.Words.{WordAt, word-read, word-cut}
+use Rattle.segments.specs.Segments.{firstOf, secondOf}
+use Rattle.segments.specs.Passes.{doubleByteAt}
+use Rattle.segments.proofs.Turns.{double-cut, double-end, double-lacks, double-pair}
+use Rattle.segments.proofs.double_byte.Statement.{statement}
+use Rattle.segments.proofs.double_byte.Tie as tie
+
+abbrev Inv-loop : tie.InvT-loop
+Inv-loop s from out₀ to at₀ n₀ out at n = (length out ≡ length out₀) × (at ≤ 8 * length s) × (n ≤ at) × (from ≤ at) × (to ≤ n) × (doubleByteAt s from to out₀ ≡ doubleByteAt s at n out)
+
+abbrev μ-loop : tie.MeasureT-loop
+μ-loop s from out₀ to at₀ n₀ out at n = 8 * length s - at
+
+loop-holds : tie.Need-loop-holds Inv-loop μ-loop
+loop-holds c = (refl, omega arith, omega arith, omega arith, omega arith, refl)
+
+read-bits-requires : tie.Need-read-bits-requires Inv-loop μ-loop
+read-bits-requires c κs = search needs
+
+enum-known-got : tie.Need-enum-known-got Inv-loop μ-loop
+enum-known-got c = c .match .keys1
+
+enum-told : tie.Need-enum-told Inv-loop μ-loop
+enum-told c = c .match .keys2
+
+same-length : tie.Need-same-length Inv-loop μ-loop
+same-length c = c .before .before .before .loop .inv .0
+
+returns : tie.Need-returns Inv-loop μ-loop
+returns c =
+    let b = c .before .before in
+    let l = b .before .loop in
+    let a = b .before .before .before .before .args in
+    (rw (l .inv .5 ∙ double-cut (a .s .now) (l .at) (l .n) (l .out) (word-cut 15 (l .at) (a .s .now) (b .read-bits .result) (b .read-bits .ensures) (c .enum-told .given .1))) refl, tt)
+
+-- what was read, where a word was read
+word : (c : tie.After-known-told Inv-loop μ-loop)
+    → WordAt 15 (c .before .before .before .before .loop .at) (c .before .got .given .0 .0) (c .before .before .before .before .before .before .before .args .s .now)
+word c =
+    let b = c .before .before .before in
+    let l = b .before .loop in
+    let a = b .before .before .before .before .args in
+    word-read 15 (l .at) (a .s .now) (b .read-bits .result) (b .read-bits .ensures) (c .before .got .given .0 .0) (omega arith) (omega arith) (c .before .got .given .1)
+
+add-at : tie.Need-add-at Inv-loop μ-loop
+add-at c = omega arith
+
+same-length-2 : tie.Need-same-length-2 Inv-loop μ-loop
+same-length-2 c = c .before .before .before .before .before .loop .inv .0
+
+returns-2 : tie.Need-returns-2 Inv-loop μ-loop
+returns-2 c =
+    let k = c .before in
+    let l = k .before .before .before .before .loop in
+    let a = k .before .before .before .before .before .before .before .args in
+    let r = word k in
+    let m = r .room in
+    (rw (l .inv .5 ∙ double-end (a .s .now) (l .at) (l .n) (l .out) (k .before .got .given .0 .0) r (c .if1 .taken)) (refl, refl), (omega arith, omega arith, omega arith, omega arith))
+
+same-length-3 : tie.Need-same-length-3 Inv-loop μ-loop
+same-length-3 c = c .before .before .before .before .before .before .loop .inv .0
+
+returns-3 : tie.Need-returns-3 Inv-loop μ-loop
+returns-3 c =
+    let k = c .before .before in
+    let l = k .before .before .before .before .loop in
+    let a = k .before .before .before .before .before .before .before .args in
+    (rw (l .inv .5 ∙ double-lacks (a .s .now) (l .at) (l .n) (l .out) (k .before .got .given .0 .0) (word k) (c .before .if1 .left) (c .if2 .taken)) refl, tt)
+
+first-byte-requires : tie.Need-first-byte-requires Inv-loop μ-loop
+first-byte-requires c κs = search needs
+
+second-byte-requires : tie.Need-second-byte-requires Inv-loop μ-loop
+second-byte-requires c κs = search needs
+
+put-pair-requires : tie.Need-put-pair-requires Inv-loop μ-loop
+put-pair-requires c κs = (omega arith, c .before .first-byte .ensures .0, c .second-byte .ensures .0)
+
+add-n : tie.Need-add-n Inv-loop μ-loop
+add-n c = omega arith
+
+loop-less : tie.Need-loop-less Inv-loop μ-loop
+loop-less c = let m = word (c .before .before .before .before .before .before .before .before) .room in omega arith
+
+loop-again : tie.Need-loop-again Inv-loop μ-loop
+loop-again c =
+    let k = c .before .before .before .before .before .before .before .before in
+    let w = k .before .got .given .0 .0 in
+    let l = k .before .before .before .before .loop in
+    let a = k .before .before .before .before .before .before .before .args in
+    let r = word k in
+    let m = r .room in
+    let p = c .before .before .put-pair in
+    let e : p .last .0 ≡ sets (l .out) (l .n) (firstOf w ∷ secondOf w ∷ []) =
+    p .ensures ∙ ap₂ (λ (x y : ℕ). sets (l .out) (l .n) (x ∷ y ∷ [])) (c .before .before .before .before .first-byte .ensures .1) (c .before .before .before .second-byte .ensures .1) in (
+      p .kept .0 ∙ l .inv .0,
+      omega arith,
+      omega arith,
+      omega arith,
+      omega arith,
+      l .inv .5 ∙ double-pair (a .s .now) (l .at) (l .n) (l .out) w r (c .before .before .before .before .before .before .before .if1 .left) (c .before .before .before .before .before .before .if2 .left)
+          ∙ ap (λ (x : List ℕ). doubleByteAt (a .s .now) (l .at + 15) (l .n + 2) x) (sym e),
+    )
+
+pub double-byte-spec : {M : Type 1} → statement M
+double-byte-spec =
+    tie.close
+    (tie.spec
+    Inv-loop
+    μ-loop
+    loop-holds
+    read-bits-requires
+    enum-known-got
+    enum-told
+    same-length
+    returns
+    add-at
+    same-length-2
+    returns-2
+    same-length-3
+    returns-3
+    first-byte-requires
+    second-byte-requires
+    put-pair-requires
+    add-n
+    loop-less
+    loop-again)

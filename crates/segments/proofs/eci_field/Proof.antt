@@ -1,0 +1,50 @@
+use Prim.Native.Nat.{_+_}
+use native.Mathlib.Omega.{arith}
+use Rattle.bits.proofs.Words.{word-read, word-few}
+use Rattle.segments.proofs.Designators.{field-cut, field-read}
+use borrow.Author.Needs.{needs}
+use Rattle.segments.proofs.eci_field.Statement.{statement}
+use Rattle.segments.proofs.eci_field.Tie as tie
+
+add-read-bits : tie.Need-add-read-bits
+add-read-bits c = search needs
+
+read-bits-requires : tie.Need-read-bits-requires
+read-bits-requires c κs = search needs
+
+enum-known-got : tie.Need-enum-known-got
+enum-known-got c = search needs
+
+enum-told : tie.Need-enum-told
+enum-told c = search needs
+
+returns : tie.Need-returns
+returns c =
+    let b = c .before .before in
+    let a = b .before .before .args in
+    field-cut (a .s .now) (a .from) (a .k) (a .w) (word-few (a .w) (a .from + a .k) (a .s .now) (b .read-bits .result) (b .read-bits .ensures) (c .enum-told .given .1))
+
+add-t7 : tie.Need-add-t7
+add-t7 c = search needs
+
+add-t8 : tie.Need-add-t8
+add-t8 c = search needs
+
+returns-2 : tie.Need-returns-2
+returns-2 c =
+    let b = c .before .before .before in
+    let a = b .before .before .args in
+    field-read (a .s .now) (a .from) (a .k) (a .w) (c .before .got .given .0 .0) (omega arith) (word-read (a .w) (a .from + a .k) (a .s .now) (b .read-bits .result) (b .read-bits .ensures) (c .before .got .given .0 .0) (omega arith) (omega arith) (c .before .got .given .1))
+
+pub eci-field-spec : {M : Type 1} → statement M
+eci-field-spec =
+    tie.close
+    (tie.spec
+    add-read-bits
+    read-bits-requires
+    enum-known-got
+    enum-told
+    returns
+    add-t7
+    add-t8
+    returns-2)

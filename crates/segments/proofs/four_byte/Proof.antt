@@ -1,0 +1,69 @@
+use mathlib.Core.Path.{refl}
+use native.Mathlib.Omega.{arith}
+use Rattle.bits.proofs.Words.{WordAt, word-read, word-few}
+use Rattle.segments.proofs.Turns.{four-cut, four-lacks, four-end}
+use borrow.Author.Needs.{needs}
+use Rattle.segments.proofs.four_byte.Statement.{statement}
+use Rattle.segments.proofs.four_byte.Tie as tie
+
+read-bits-requires : tie.Need-read-bits-requires
+read-bits-requires c κs = search needs
+
+enum-known-got : tie.Need-enum-known-got
+enum-known-got c = search needs
+
+enum-told : tie.Need-enum-told
+enum-told c = search needs
+
+returns : tie.Need-returns
+returns c =
+    let b = c .before .before in
+    let a = b .before .before .before .args in
+    (rw (four-cut (a .s .now) (a .from) (a .to) (a .out .now) (word-few 21 (a .from) (a .s .now) (b .read-bits .result) (b .read-bits .ensures) (c .enum-told .given .1))) refl, tt)
+
+-- what was read, where a word was read
+word : (c : tie.After-known-told) → WordAt 21 (c .before .before .before .before .before .before .args .from) (c .before .got .given .0 .0) (c .before .before .before .before .before .before .args .s .now)
+word c =
+    let b = c .before .before .before in
+    let a = b .before .before .before .args in
+    word-read 21 (a .from) (a .s .now) (b .read-bits .result) (b .read-bits .ensures) (c .before .got .given .0 .0) (omega arith) (omega arith) (c .before .got .given .1)
+
+returns-2 : tie.Need-returns-2
+returns-2 c =
+    let k = c .before in
+    let a = k .before .before .before .before .before .before .args in
+    (rw (four-lacks (a .s .now) (a .from) (a .to) (a .out .now) (k .before .got .given .0 .0) (word k) (c .if1 .taken)) refl, tt)
+
+put-four-requires : tie.Need-put-four-requires
+put-four-requires c κs = search needs
+
+add-t11 : tie.Need-add-t11
+add-t11 c = search needs
+
+add-t12 : tie.Need-add-t12
+add-t12 c = search needs
+
+same-length : tie.Need-same-length
+same-length c = search needs
+
+returns-3 : tie.Need-returns-3
+returns-3 c =
+    let k = c .before .before .before .before .before in
+    let a = k .before .before .before .before .before .before .args in
+    let m = word k .room in
+    (rw (four-end (a .s .now) (a .from) (a .to) (a .out .now) (k .before .got .given .0 .0) (word k) (c .before .before .before .before .if1 .left)) (refl, c .before .before .put-four .ensures), (omega arith, omega arith, omega arith, omega arith))
+
+pub four-byte-spec : {M : Type 1} → statement M
+four-byte-spec =
+    tie.close
+    (tie.spec
+    read-bits-requires
+    enum-known-got
+    enum-told
+    returns
+    returns-2
+    put-four-requires
+    add-t11
+    add-t12
+    same-length
+    returns-3)

@@ -1,0 +1,86 @@
+use mathlib.Core.Path.{_≡_, _∙_, refl, sym, ap}
+use mathlib.Core.List.{List}
+use native.Mathlib.Omega.{arith}
+use native.Mathlib.Nat.{sub-zero, add-zero}
+use Prim.Native.Nat.{ℕ, _≤_, _-_, _+_, _^_, _/_, _%_}
+use lib.ListN.{length, set}
+use lib.Seq.{sets}
+use Rattle.segments.specs.Segments.{digits}
+use Rattle.segments.proofs.Turns.{digits-more, digits-all}
+use Rattle.segments.proofs.push_digits.Statement.{statement}
+use Rattle.segments.proofs.push_digits.Tie as tie
+
+abbrev Inv-loop : tie.InvT-loop
+Inv-loop out₀ n v k i₀ out i =
+    (length out ≡ length out₀) × (i ≤ k) × (sets out₀ n (digits k v) ≡ sets out (n + i) (digits (k - i) v))
+
+abbrev μ-loop : tie.MeasureT-loop
+μ-loop out₀ n v k i₀ out i = k - i
+
+loop-holds : tie.Need-loop-holds Inv-loop μ-loop
+loop-holds c = (refl, omega arith, simp (sub-zero, add-zero))
+
+sub-power-of-ten : tie.Need-sub-power-of-ten Inv-loop μ-loop
+sub-power-of-ten c = omega arith
+
+sub-power-of-ten-2 : tie.Need-sub-power-of-ten-2 Inv-loop μ-loop
+sub-power-of-ten-2 c = omega arith
+
+power-of-ten-requires : tie.Need-power-of-ten-requires Inv-loop μ-loop
+power-of-ten-requires c κs = omega arith
+
+div-d : tie.Need-div-d Inv-loop μ-loop
+div-d c = omega arith
+
+add-put : tie.Need-add-put Inv-loop μ-loop
+add-put c = omega arith
+
+add-put-2 : tie.Need-add-put-2 Inv-loop μ-loop
+add-put-2 c = omega arith
+
+put-requires : tie.Need-put-requires Inv-loop μ-loop
+put-requires c κs = omega arith
+
+add-i : tie.Need-add-i Inv-loop μ-loop
+add-i c = omega arith
+
+loop-less : tie.Need-loop-less Inv-loop μ-loop
+loop-less c = omega arith
+
+loop-again : tie.Need-loop-again Inv-loop μ-loop
+loop-again c =
+    let l = c .before .before .before .before .before .before .loop in
+    let a = c .before .before .before .before .before .before .before .before .args in
+    let q = c .before .before .put in
+    let t = c .before .before .before .before .power-of-ten .ensures .0 in
+    let e : q .last .0 ≡ set (l .out) (a .n + l .i) (48 + a .v / 10 ^ (a .k - 1 - l .i) % 10) = q .ensures ∙ ap (λ (z : ℕ). set (l .out) (a .n + l .i) (48 + a .v / z % 10)) t in
+    (q .kept .0 ∙ l .inv .0, omega arith, l .inv .2 ∙ digits-more (l .out) (a .n) (a .k) (l .i) (a .v) (omega arith) ∙ ap (λ (z : List ℕ). sets z (a .n + (l .i + 1)) (digits (a .k - (l .i + 1)) (a .v))) (sym e))
+
+same-length : tie.Need-same-length Inv-loop μ-loop
+same-length c = omega arith
+
+returns : tie.Need-returns Inv-loop μ-loop
+returns c =
+    let l = c .before .loop in
+    let a = c .before .before .before .args in
+    sym (l .inv .2 ∙ digits-all (l .out) (a .n + l .i) (a .k) (l .i) (a .v) (omega arith))
+
+pub push-digits-spec : {M : Type 1} → statement M
+push-digits-spec =
+    tie.close
+    (tie.spec
+    Inv-loop
+    μ-loop
+    loop-holds
+    sub-power-of-ten
+    sub-power-of-ten-2
+    power-of-ten-requires
+    div-d
+    add-put
+    add-put-2
+    put-requires
+    add-i
+    loop-less
+    loop-again
+    same-length
+    returns)

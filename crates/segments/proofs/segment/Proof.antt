@@ -1,0 +1,149 @@
+use Prim.Native.Nat.{_-_}
+use native.Mathlib.Omega.{arith}
+use Rattle.segments.proofs.Steps.{command-length, eci-on, eci-bound, eci-stop-cut, eci-stop-lacks, run-on, run-stop-cut, run-stop-lacks, inside}
+use borrow.Author.Needs.{needs}
+use Rattle.segments.proofs.segment.Statement.{statement}
+use Rattle.segments.proofs.segment.Tie as tie
+
+eci-value-requires : tie.Need-eci-value-requires
+eci-value-requires c κs = search needs
+
+enum-known-designator : tie.Need-enum-known-designator
+enum-known-designator c = search needs
+
+put-eci-requires : tie.Need-put-eci-requires
+put-eci-requires c κs =
+    let b = c .before .before .before .before in
+    let a = b .before .before .before .before .before .args in
+    let v = c .before .before .designator .given in
+    let l = eci-bound (a .s .now) (a .from) (a .n) (a .m) (a .out .now) (a .script .now) (a .mode) (omega arith) (omega arith) (b .eci-value .result) (v .0 .0) (v .0 .1 .0) (b .eci-value .ensures) (v .1) in
+    (omega arith, omega arith)
+
+add-t20 : tie.Need-add-t20
+add-t20 c = search needs
+
+enum-told : tie.Need-enum-told
+enum-told c = search needs
+
+enum-told-2 : tie.Need-enum-told-2
+enum-told-2 c = search needs
+
+same-length : tie.Need-same-length
+same-length c = search needs
+
+returns : tie.Need-returns
+returns c =
+    let b = c .before .before .before .before .before .before .before in
+    let a = b .before .before .before .before .before .args in
+    let v = c .before .before .before .before .before .designator .given in
+    eci-on (a .s .now) (a .from) (a .n) (a .m) (a .out .now) (a .script .now) (a .mode) (omega arith) (omega arith) (b .before .if1 .taken) (v .0 .0) (v .0 .1 .0) (b .eci-value .result) (c .before .before .put-eci .last .0) (b .eci-value .ensures) (v .1) (c .before .before .put-eci .ensures)
+
+returns-2 : tie.Need-returns-2
+returns-2 c =
+    let b = c .before .before in
+    let a = b .before .before .before .before .before .args in
+    eci-stop-cut (a .s .now) (a .from) (a .n) (a .m) (a .out .now) (a .script .now) (a .mode) (omega arith) (omega arith) (b .before .if1 .taken) (b .eci-value .result) (a .out .now) (a .script .now) (b .eci-value .ensures) (c .enum-told .given .1)
+
+returns-3 : tie.Need-returns-3
+returns-3 c =
+    let b = c .before .before in
+    let a = b .before .before .before .before .before .args in
+    eci-stop-lacks (a .s .now) (a .from) (a .n) (a .m) (a .out .now) (a .script .now) (a .mode) (omega arith) (omega arith) (b .before .if1 .taken) (b .eci-value .result) (a .out .now) (a .script .now) (b .eci-value .ensures) (c .enum-told2 .given .1)
+
+run-of-mode-requires : tie.Need-run-of-mode-requires
+run-of-mode-requires c κs = search needs
+
+enum-known-read : tie.Need-enum-known-read
+enum-known-read c = search needs
+
+sub-put-command : tie.Need-sub-put-command
+sub-put-command c =
+    let b = c .before .before .before .before .before .before in
+    let a = b .before .before .before .before .before .before .args in
+    let v = c .before .before .read .given in
+    let i = inside (a .s .now) (a .from) (a .n) (b .run-of-mode .result) (v .0 .0) (v .0 .1 .0) (b .run-of-mode .ensures .1) (v .1) in
+    omega arith
+
+put-command-requires : tie.Need-put-command-requires
+put-command-requires c κs =
+    let b = c .before .before .before .before .before .before in
+    let a = b .before .before .before .before .before .before .args in
+    let v = c .before .before .read .given in
+    let i = inside (a .s .now) (a .from) (a .n) (b .run-of-mode .result) (v .0 .0) (v .0 .1 .0) (b .run-of-mode .ensures .1) (v .1) in
+    (omega arith, omega arith, omega arith)
+
+add-t26 : tie.Need-add-t26
+add-t26 c =
+    let a = c .before .before .before .before .before .before .before .before .before .before .before .before .before .before .before .args in
+    omega (arith, command-length (a .mode) (c .before .before .before .before .before .read .given .0 .1 .0 - a .n), c .before .before .put-command .ensures .0)
+
+enum-told-3 : tie.Need-enum-told-3
+enum-told-3 c = search needs
+
+enum-told-4 : tie.Need-enum-told-4
+enum-told-4 c = search needs
+
+same-length-2 : tie.Need-same-length-2
+same-length-2 c = search needs
+
+same-length-3 : tie.Need-same-length-3
+same-length-3 c = search needs
+
+returns-4 : tie.Need-returns-4
+returns-4 c =
+    let b = c .before .before .before .before .before .before .before .before .before in
+    let a = b .before .before .before .before .before .before .args in
+    let v = c .before .before .before .before .before .read .given in
+    let q = b .run-of-mode in
+    let p = c .before .before .put-command in
+    let i = inside (a .s .now) (a .from) (a .n) (q .result) (v .0 .0) (v .0 .1 .0) (q .ensures .1) (v .1) in
+    run-on (a .s .now) (a .from) (a .n) (a .m) (a .out .now) (a .script .now) (a .mode) (omega arith) (omega arith) (b .before .before .if1 .left) (q .result) (q .last .1 .1 .0) (q .ensures .0) (v .0 .0) (v .0 .1 .0) (p .result) (p .last .0) (v .1) (i .1) (i .3) (p .ensures .0) (p .ensures .1)
+
+same-length-4 : tie.Need-same-length-4
+same-length-4 c = search needs
+
+returns-5 : tie.Need-returns-5
+returns-5 c =
+    let b = c .before .before .before .before in
+    let a = b .before .before .before .before .before .before .args in
+    let q = b .run-of-mode in
+    run-stop-cut (a .s .now) (a .from) (a .n) (a .m) (a .out .now) (a .script .now) (a .mode) (omega arith) (omega arith) (b .before .before .if1 .left) (q .result) (q .last .1 .1 .0) (q .ensures .0) (q .last .1 .1 .0) (a .script .now) (c .enum-told3 .given .1)
+
+same-length-5 : tie.Need-same-length-5
+same-length-5 c = search needs
+
+returns-6 : tie.Need-returns-6
+returns-6 c =
+    let b = c .before .before .before .before in
+    let a = b .before .before .before .before .before .before .args in
+    let q = b .run-of-mode in
+    run-stop-lacks (a .s .now) (a .from) (a .n) (a .m) (a .out .now) (a .script .now) (a .mode) (omega arith) (omega arith) (b .before .before .if1 .left) (q .result) (q .last .1 .1 .0) (q .ensures .0) (q .last .1 .1 .0) (a .script .now) (c .enum-told4 .given .1)
+
+pub segment-spec : {M : Type 1} → statement M
+segment-spec =
+    tie.close
+    (tie.spec
+    eci-value-requires
+    enum-known-designator
+    put-eci-requires
+    add-t20
+    enum-told
+    enum-told-2
+    same-length
+    returns
+    returns-2
+    returns-3
+    run-of-mode-requires
+    enum-known-read
+    sub-put-command
+    put-command-requires
+    add-t26
+    enum-told-3
+    enum-told-4
+    same-length-2
+    same-length-3
+    returns-4
+    same-length-4
+    returns-5
+    same-length-5
+    returns-6)

@@ -1,0 +1,124 @@
+use mathlib.Core.Path.{_≡_, _∙_, refl, sym, ap}
+use mathlib.Core.Bool.{true}
+use mathlib.Core.List.{List}
+use native.Mathlib.Omega.{arith}
+use borrow.Author.Needs.{needs}
+use Prim.Native.Nat.{ℕ, _≤_, _*_, _-_, _+_}
+use lib.ListN.{length, set}
+use Rattle.segments.specs.Segments.{charOf}
+use Rattle.bits.proofs.Words.{WordAt, word-read, word-cut}
+use Rattle.segments.proofs.Turns.{text-cut, text-end, text-switch, text-byte}
+use Rattle.segments.specs.Passes.{textAt}
+use Rattle.segments.proofs.text_mode.Statement.{statement}
+use Rattle.segments.proofs.text_mode.Tie as tie
+
+abbrev Inv-loop : tie.InvT-loop
+Inv-loop s from out₀ to first₀ at₀ n₀ out first at n =
+    (length out ≡ length out₀) × (at ≤ 8 * length s) × (n ≤ at) × (textAt s from to out₀ true ≡ textAt s at n out first) × (from ≤ at) × (to ≤ n)
+
+abbrev μ-loop : tie.MeasureT-loop
+μ-loop s from out₀ to first₀ at₀ n₀ out first at n = 8 * length s - at
+
+loop-holds : tie.Need-loop-holds Inv-loop μ-loop
+loop-holds c = (refl, omega arith, omega arith, refl, omega arith, omega arith)
+
+read-bits-requires : tie.Need-read-bits-requires Inv-loop μ-loop
+read-bits-requires c κs = search needs
+
+enum-known-got : tie.Need-enum-known-got Inv-loop μ-loop
+enum-known-got c = c .match .keys1
+
+enum-told : tie.Need-enum-told Inv-loop μ-loop
+enum-told c = c .match .keys2
+
+same-length : tie.Need-same-length Inv-loop μ-loop
+same-length c = c .before .before .before .loop .inv .0
+
+returns : tie.Need-returns Inv-loop μ-loop
+returns c =
+    let b = c .before .before in
+    let a = b .before .before .before .before .args in
+    let l = b .before .loop in
+    (rw (l .inv .3 ∙ text-cut (a .s .now) (l .at) (l .n) (l .out) (l .first) (word-cut 6 (l .at) (a .s .now) (b .read-bits .result) (b .read-bits .ensures) (c .enum-told .given .1))) refl, tt)
+
+-- what was read, where a word was read
+word : (c : tie.After-known-told Inv-loop μ-loop) → WordAt 6 (c .before .before .before .before .loop .at) (c .before .got .given .0 .0) (c .before .before .before .before .before .before .before .args .s .now)
+word c =
+    let b = c .before .before .before in
+    word-read 6 (b .before .loop .at) (b .before .before .before .before .args .s .now) (b .read-bits .result) (b .read-bits .ensures) (c .before .got .given .0 .0) (omega arith) (omega arith) (c .before .got .given .1)
+
+add-at : tie.Need-add-at Inv-loop μ-loop
+add-at c = omega arith
+
+same-length-2 : tie.Need-same-length-2 Inv-loop μ-loop
+same-length-2 c = c .before .before .before .before .before .loop .inv .0
+
+returns-2 : tie.Need-returns-2 Inv-loop μ-loop
+returns-2 c =
+    let l = c .before .before .before .before .before .loop in
+    let a = c .before .before .before .before .before .before .before .before .args in
+    let m = word (c .before) .room in
+    (rw (l .inv .3 ∙ text-end (a .s .now) (l .at) (l .n) (l .out) (c .before .before .got .given .0 .0) (l .first) (word (c .before)) (c .if1 .taken)) (refl, refl), (omega arith, omega arith, omega arith, omega arith))
+
+loop-less : tie.Need-loop-less Inv-loop μ-loop
+loop-less c = let r = word (c .before .before) .room in omega arith
+
+loop-again : tie.Need-loop-again Inv-loop μ-loop
+loop-again c =
+    let l = c .before .before .before .before .before .before .loop in
+    let a = c .before .before .before .before .before .before .before .before .before .args in
+    let r = word (c .before .before) in
+    let m = r .room in
+    (l .inv .0, omega arith, omega arith, l .inv .3 ∙ text-switch (a .s .now) (l .at) (l .n) (l .out) (c .before .before .before .got .given .0 .0) (l .first) r (c .before .if1 .left) (c .if2 .taken), omega arith, omega arith)
+
+text-char-requires : tie.Need-text-char-requires Inv-loop μ-loop
+text-char-requires c κs = let r = word (c .before .before .before) .small in omega arith
+
+put-requires : tie.Need-put-requires Inv-loop μ-loop
+put-requires c κs = c .text-char .ensures .0
+
+add-n : tie.Need-add-n Inv-loop μ-loop
+add-n c = omega arith
+
+loop-less-2 : tie.Need-loop-less-2 Inv-loop μ-loop
+loop-less-2 c = let r = word (c .before .before .before .before .before .before .before) .room in omega arith
+
+loop-again-2 : tie.Need-loop-again-2 Inv-loop μ-loop
+loop-again-2 c =
+    let k = c .before .before .before .before .before .before in
+    let l = k .before .before .before .before .before .loop in
+    let a = k .before .before .before .before .before .before .before .before .args in
+    let r = word (k .before) in
+    let m = r .room in
+    let p = c .before .before .put in
+    let e : p .last .0 ≡ set (l .out) (l .n) (charOf (l .first) (k .before .before .got .given .0 .0)) = p .ensures ∙ ap (λ (x : ℕ). set (l .out) (l .n) x) (c .before .before .before .text-char .ensures .1) in (
+      p .kept .0 ∙ l .inv .0,
+      omega arith,
+      omega arith,
+      l .inv .3 ∙ text-byte (a .s .now) (l .at) (l .n) (l .out) (k .before .before .got .given .0 .0) (l .first) r (k .if1 .left) (c .before .before .before .before .before .if2 .left) ∙ ap (λ (x : List ℕ). textAt (a .s .now) (l .at + 6) (l .n + 1) x (l .first)) (sym e),
+      omega arith,
+      omega arith,
+    )
+
+pub text-mode-spec : {M : Type 1} → statement M
+text-mode-spec =
+    tie.close
+    (tie.spec
+    Inv-loop
+    μ-loop
+    loop-holds
+    read-bits-requires
+    enum-known-got
+    enum-told
+    same-length
+    returns
+    add-at
+    same-length-2
+    returns-2
+    loop-less
+    loop-again
+    text-char-requires
+    put-requires
+    add-n
+    loop-less-2
+    loop-again-2)

@@ -1,0 +1,97 @@
+-- What the contracts of inner functions say: positions and buffers of one pass over the data. Nobody has to believe anything here.
+use mathlib.Core.Path.{_≡_}
+use mathlib.Core.Bool.{Bool, not}
+use mathlib.Core.List.{List}
+use Prim.Native.Nat.{ℕ, _+_, _*_, _≤_, _<_}
+use lib.ListN.{length, drop}
+use lib.Seq.{sets}
+use Rattle.bits.specs.Bits.{bitsOf, words}
+use Rattle.segments.specs.declared.Count.{Count}
+use Rattle.segments.specs.declared.Count.the-variants.{Done, Cut, Lacking}
+use Rattle.segments.specs.declared.Region.{Region}
+use Rattle.segments.specs.declared.Region.the-variants.{End, Switch, Cut as RegionCut, Lacking as RegionLacking}
+use Rattle.segments.specs.declared.Step.{Step}
+use Rattle.segments.specs.declared.Step.the-variants.{On, Cut as StepCut, Lacking as StepLacking}
+use Rattle.segments.specs.Script.{Segment, run, eci, bytesOf, commandOf, payloadOf, scriptOf}
+use Rattle.segments.specs.Segments.{Result, cut, lacking, got, groupsOf, numericOf, textOf, bytesRun, bytesMode, regionOf, doubleByteOf, fourByteOf, bytesOfMode}
+
+-- where a mode's function stops: cut, lacking, or at a position with n bytes stored in a buffer
+pub data State : Type 0 where
+  stoppedCut : State
+  stoppedLacking : State
+  at : ℕ → ℕ → List ℕ → State
+
+-- the state behind words of w bits, from the position i, with n bytes in the buffer o before
+abbrev pub behind : ℕ → ℕ → ℕ → List ℕ → Result (List ℕ) → State
+behind w i n o cut = stoppedCut
+behind w i n o lacking = stoppedLacking
+behind w i n o (got bs u) = at (i + w * u) (n + length bs) (sets o n bs)
+
+-- the states of the modes, from a position on
+abbrev pub groupsAt : List ℕ → ℕ → ℕ → List ℕ → ℕ → State
+groupsAt s i n o p = behind 10 i n o (groupsOf p (words 10 (drop i (bitsOf s))))
+
+abbrev pub numericAt : List ℕ → ℕ → ℕ → List ℕ → State
+numericAt s i n o = behind 10 i n o (numericOf (words 10 (drop i (bitsOf s))))
+
+abbrev pub textAt : List ℕ → ℕ → ℕ → List ℕ → Bool → State
+textAt s i n o subset = behind 6 i n o (textOf subset (words 6 (drop i (bitsOf s))))
+
+abbrev pub bytesRunAt : List ℕ → ℕ → ℕ → List ℕ → ℕ → State
+bytesRunAt s i n o k = behind 8 i n o (bytesRun k (words 8 (drop i (bitsOf s))))
+
+abbrev pub bytesAt : List ℕ → ℕ → ℕ → List ℕ → State
+bytesAt s i n o = behind 1 i n o (bytesMode (drop i (bitsOf s)))
+
+abbrev pub regionAt : List ℕ → ℕ → ℕ → List ℕ → Bool → State
+regionAt s i n o region = behind 12 i n o (regionOf region (words 12 (drop i (bitsOf s))))
+
+abbrev pub doubleByteAt : List ℕ → ℕ → ℕ → List ℕ → State
+doubleByteAt s i n o = behind 15 i n o (doubleByteOf (words 15 (drop i (bitsOf s))))
+
+abbrev pub fourByteAt : List ℕ → ℕ → ℕ → List ℕ → State
+fourByteAt s i n o = behind 1 i n o (fourByteOf (drop i (bitsOf s)))
+
+abbrev pub runAt : List ℕ → ℕ → ℕ → List ℕ → ℕ → State
+runAt s i n o mode = behind 1 i n o (bytesOfMode mode (drop i (bitsOf s)))
+
+-- the answer r and the buffer x that a function leaves at a state; after a stop the buffer is not told
+abbrev pub Left : State → Count → List ℕ → Type 0
+Left stoppedCut r x = r ≡ Cut
+Left stoppedLacking r x = r ≡ Lacking
+Left (at i n o) r x = (r ≡ Done i n) × (x ≡ o)
+
+-- an answer within the bits, behind where the function began, with no more bytes than bits
+abbrev pub Inside : List ℕ → ℕ → ℕ → Count → Type 0
+Inside s from to (Done i n) = (from ≤ i) × (i ≤ 8 * length s) × (to ≤ n) × (n ≤ i)
+Inside s from to Cut = Unit {0}
+Inside s from to Lacking = Unit {0}
+
+-- what a run of characters in one region leaves of the segment
+abbrev pub RegionLeft : List ℕ → ℕ → ℕ → List ℕ → Bool → Region → List ℕ → Type 0
+RegionLeft s from to o region (End i n) x = (regionAt s from to o region ≡ at i n x) × (from ≤ i) × (i ≤ 8 * length s) × (to ≤ n) × (n ≤ i)
+RegionLeft s from to o region (Switch i n) x =
+    (from + 12 ≤ i) × (i ≤ 8 * length s) × (n ≤ i) × (regionAt s from to o region ≡ regionAt s i n x (not region)) × (to ≤ n)
+RegionLeft s from to o region RegionCut x = regionAt s from to o region ≡ stoppedCut
+RegionLeft s from to o region RegionLacking x = regionAt s from to o region ≡ stoppedLacking
+
+-- the position and the value behind an ECI at the position i
+abbrev pub EciLeft : List ℕ → ℕ → Result Segment → Count → Type 0
+EciLeft s i cut r = r ≡ Cut
+EciLeft s i lacking r = r ≡ Lacking
+EciLeft s i (got (eci v) u) r = (r ≡ Done (i + u) v) × (i + u ≤ 8 * length s) × (v < 2097152)
+EciLeft s i (got (run mode bs) u) r = ⊥
+
+-- one segment from the position i, with n payload bytes in o and m script bytes in c before it
+abbrev pub Stepped : List ℕ → ℕ → ℕ → ℕ → List ℕ → List ℕ → Result Segment → Step → List ℕ → List ℕ → Type 0
+Stepped s i n m o c cut r x y = r ≡ StepCut
+Stepped s i n m o c lacking r x y = r ≡ StepLacking
+Stepped s i n m o c (got g u) r x y =
+    (r ≡ On (i + u) (n + length (bytesOf g)) (m + length (commandOf g))) × (x ≡ sets o n (bytesOf g)) × (y ≡ sets c m (commandOf g))
+    × (i + u ≤ 8 * length s) × (n + length (bytesOf g) ≤ i + u) × (m + length (commandOf g) ≤ i + u)
+
+-- a pass that has stored n payload bytes in o and m script bytes in c, with these segments to come
+abbrev pub Passed : ℕ → ℕ → List ℕ → List ℕ → Result (List Segment) → Count → List ℕ → List ℕ → Type 0
+Passed n m o c cut r x y = r ≡ Cut
+Passed n m o c lacking r x y = r ≡ Lacking
+Passed n m o c (got gs u) r x y = (r ≡ Done (n + length (payloadOf gs)) (m + length (scriptOf gs))) × (x ≡ sets o n (payloadOf gs)) × (y ≡ sets c m (scriptOf gs))

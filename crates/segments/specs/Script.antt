@@ -1,0 +1,35 @@
+-- Document 01, "Records", Script: commands of one byte with operands of fixed width, big-endian, and the payload beside them.
+use mathlib.Core.Bool.{cond}
+use mathlib.Core.List.{List, [], _∷_, _++_}
+use Prim.Native.Nat.{ℕ, _/_, _%_}
+use lib.Dec.{eqb}
+use lib.ListN.{length}
+
+-- A segment of modes 1 to 7 has payload bytes; mode 8, ECI, has a value instead.
+pub data Segment : Type 0 where
+  run : ℕ → List ℕ → Segment
+  eci : ℕ → Segment
+
+-- its payload bytes
+abbrev pub bytesOf : Segment → List ℕ
+bytesOf (run mode bs) = bs
+bytesOf (eci v) = []
+
+-- the command of n payload bytes in a mode: 7 stands alone, 1 to 6 have a 2-byte length in payload bytes
+unfoldable pub runCommand : ℕ → ℕ → List ℕ
+runCommand mode n = cond (eqb mode 7) (7 ∷ []) (mode ∷ n / 256 ∷ n % 256 ∷ [])
+
+-- the command of a segment; 8 has a 3-byte value
+abbrev pub commandOf : Segment → List ℕ
+commandOf (run mode bs) = runCommand mode (length bs)
+commandOf (eci v) = 8 ∷ v / 65536 ∷ v / 256 % 256 ∷ v % 256 ∷ []
+
+-- the payload of segments
+unfoldable pub payloadOf : List Segment → List ℕ
+payloadOf [] = []
+payloadOf (g ∷ gs) = bytesOf g ++ payloadOf gs
+
+-- the script of segments
+unfoldable pub scriptOf : List Segment → List ℕ
+scriptOf [] = []
+scriptOf (g ∷ gs) = commandOf g ++ scriptOf gs

@@ -1,0 +1,180 @@
+-- Document 01, "Segments": what the bits of the data codewords say, mode by mode and as a whole.
+use mathlib.Core.Bool.{Bool, true, false, cond, not}
+use mathlib.Core.List.{List, [], _∷_, _++_}
+use Prim.Native.Nat.{ℕ, zero, suc, _+_, _-_, _*_, _/_, _%_, _^_}
+use lib.Dec.{ltb, eqb}
+use lib.ListN.{length, take, drop}
+use Rattle.bits.specs.Bits.{bitsOf, value, words}
+use Rattle.segments.specs.Script.{Segment, run, eci}
+
+-- What words or bits come to: they are cut by the end of the data; or they have a value or mode that the rule lacks; or they say
+-- something, and take so many words or bits.
+pub data Result (A : Type 0) : Type 0 where
+  cut : Result A
+  lacking : Result A
+  got : A → ℕ → Result A
+
+-- bytes of one word before those of the next words
+abbrev pub before : List ℕ → Result (List ℕ) → Result (List ℕ)
+before cs cut = cut
+before cs lacking = lacking
+before cs (got bs u) = got (cs ++ bs) (suc u)
+
+-- words of w bits counted in bits
+abbrev pub inBits : ℕ → Result (List ℕ) → Result (List ℕ)
+inBits w cut = cut
+inBits w lacking = lacking
+inBits w (got bs u) = got bs (w * u)
+
+-- ---- numeric: groups of 10 bits, ended by 1020 + the digits of the last group
+
+-- the k low digits of v, as characters
+unfoldable pub digits : ℕ → ℕ → List ℕ
+digits zero v = []
+digits (suc k) v = (48 + v / 10 ^ k % 10) ∷ digits k v
+
+-- the words after a group p, which waits until it is known whether it is the last
+unfoldable pub groupsOf : ℕ → List ℕ → Result (List ℕ)
+groupsOf p [] = cut
+groupsOf p (w ∷ ws) =
+    cond (ltb w 1000) (before (digits 3 p) (groupsOf w ws))
+    (cond (ltb 1020 w) (cond (ltb p (10 ^ (w - 1020))) (got (digits (w - 1020) p) 1) lacking) lacking)
+
+unfoldable pub numericOf : List ℕ → Result (List ℕ)
+numericOf [] = cut
+numericOf (w ∷ ws) = cond (ltb w 1000) (before [] (groupsOf w ws)) lacking
+
+-- ---- text: words of 6 bits in two subsets (`true` is the first), switched by 62 and ended by 63
+
+unfoldable pub charOf : Bool → ℕ → ℕ
+charOf true w = cond (ltb w 10) (48 + w) (cond (ltb w 36) (55 + w) (61 + w))
+charOf false w = cond (ltb w 28) w (cond (ltb w 44) (4 + w) (cond (ltb w 51) (14 + w) (cond (ltb w 57) (40 + w) (66 + w))))
+
+unfoldable pub textOf : Bool → List ℕ → Result (List ℕ)
+textOf subset [] = cut
+textOf subset (w ∷ ws) =
+    let same = before (charOf subset w ∷ []) (textOf subset ws) in
+    let other = before [] (textOf (not subset) ws) in
+    cond (eqb w 63) (got [] 1) (cond (eqb w 62) other same)
+
+-- ---- bytes: a length of 13 bits, then so many words of 8 bits
+
+unfoldable pub bytesRun : ℕ → List ℕ → Result (List ℕ)
+bytesRun zero ws = got [] 0
+bytesRun (suc n) [] = cut
+bytesRun (suc n) (w ∷ ws) = before (w ∷ []) (bytesRun n ws)
+
+-- so many bits before a result
+abbrev pub longer : ℕ → Result (List ℕ) → Result (List ℕ)
+longer k cut = cut
+longer k lacking = lacking
+longer k (got bs u) = got bs (k + u)
+
+unfoldable pub bytesMode : List ℕ → Result (List ℕ)
+bytesMode bs = cond (ltb (length bs) 13) cut (longer 13 (inBits 8 (bytesRun (value 0 (take 13 bs)) (words 8 (drop 13 bs)))))
+
+-- ---- regions (`true` is region one): words of 12 bits, 4094 hands over to the other region, 4095 ends
+
+unfoldable pub highOf : Bool → ℕ → ℕ
+highOf true w = cond (ltb w 3760) (0xB0 + w / 94) (cond (ltb w 4042) (0xA1 + (w - 3760) / 94) 0xA8)
+highOf false w = 0xD8 + w / 94
+
+unfoldable pub lowOf : Bool → ℕ → ℕ
+lowOf true w = cond (ltb w 3760) (0xA1 + w % 94) (cond (ltb w 4042) (0xA1 + (w - 3760) % 94) (0xA1 + (w - 4042)))
+lowOf false w = 0xA1 + w % 94
+
+-- how many values a region has
+unfoldable pub regionSize : Bool → ℕ
+regionSize true = 4074
+regionSize false = 3008
+
+unfoldable pub regionOf : Bool → List ℕ → Result (List ℕ)
+regionOf region [] = cut
+regionOf region (w ∷ ws) =
+    let other = before [] (regionOf (not region) ws) in
+    let same = before (highOf region w ∷ lowOf region w ∷ []) (regionOf region ws) in
+    cond (eqb w 4095) (got [] 1) (cond (eqb w 4094) other (cond (ltb w (regionSize region)) same lacking))
+
+-- ---- two-byte: words of 15 bits, ended by 32767
+
+unfoldable pub firstOf : ℕ → ℕ
+firstOf w = 0x81 + w / 190
+
+unfoldable pub secondOf : ℕ → ℕ
+secondOf w = cond (ltb (w % 190) 63) (0x40 + w % 190) (0x41 + w % 190)
+
+unfoldable pub doubleByteOf : List ℕ → Result (List ℕ)
+doubleByteOf [] = cut
+doubleByteOf (w ∷ ws) = cond (eqb w 32767) (got [] 1) (cond (ltb w 23940) (before (firstOf w ∷ secondOf w ∷ []) (doubleByteOf ws)) lacking)
+
+-- ---- four-byte: one character in 21 bits
+
+unfoldable pub fourBytes : ℕ → List ℕ
+fourBytes w = (0x81 + w / 12600) ∷ (0x30 + w % 12600 / 1260) ∷ (0x81 + w % 1260 / 10) ∷ (0x30 + w % 10) ∷ []
+
+unfoldable pub fourByteOf : List ℕ → Result (List ℕ)
+fourByteOf bs =
+    cond (ltb (length bs) 21) cut (cond (ltb (value 0 (take 21 bs)) 1587600) (got (fourBytes (value 0 (take 21 bs))) 21) lacking)
+
+-- ---- ECI: prefix 0, 10 or 110 and 7, 14 or 21 bits
+
+-- the value in the w bits behind a prefix of k bits
+unfoldable pub eciValue : ℕ → ℕ → List ℕ → Result Segment
+eciValue k w bs = cond (ltb (length bs) w) cut (got (eci (value 0 (take w bs))) (k + w))
+
+unfoldable pub eciOf : List ℕ → Result Segment
+eciOf [] = cut
+eciOf (zero ∷ bs) = eciValue 1 7 bs
+eciOf (suc _ ∷ []) = cut
+eciOf (suc _ ∷ zero ∷ bs) = eciValue 2 14 bs
+eciOf (suc _ ∷ suc _ ∷ []) = cut
+eciOf (suc _ ∷ suc _ ∷ zero ∷ bs) = eciValue 3 21 bs
+eciOf (suc _ ∷ suc _ ∷ suc _ ∷ bs) = lacking
+
+-- ---- one segment, and all of them
+
+-- the bytes of a segment of modes 1 to 7, from the bits behind the mode, and the number of its bits; any other mode is lacking
+unfoldable pub bytesOfMode : ℕ → List ℕ → Result (List ℕ)
+bytesOfMode mode bs =
+    cond (eqb mode 1) (inBits 10 (numericOf (words 10 bs)))
+    (cond (eqb mode 2) (inBits 6 (textOf true (words 6 bs)))
+    (cond (eqb mode 3) (bytesMode bs)
+    (cond (eqb mode 4) (inBits 12 (regionOf true (words 12 bs)))
+    (cond (eqb mode 5) (inBits 12 (regionOf false (words 12 bs)))
+    (cond (eqb mode 6) (inBits 15 (doubleByteOf (words 15 bs)))
+    (cond (eqb mode 7) (fourByteOf bs) lacking))))))
+
+-- bytes as those of a segment of a mode
+abbrev pub runOf : ℕ → Result (List ℕ) → Result Segment
+runOf mode cut = cut
+runOf mode lacking = lacking
+runOf mode (got bs u) = got (run mode bs) u
+
+-- the segment of a mode
+unfoldable pub segmentOf : ℕ → List ℕ → Result Segment
+segmentOf mode bs = cond (eqb mode 8) (eciOf bs) (runOf mode (bytesOfMode mode bs))
+
+-- a segment of u bits before others
+abbrev pub first : Segment → ℕ → Result (List Segment) → Result (List Segment)
+first g u cut = cut
+first g u lacking = lacking
+first g u (got gs v) = got (g ∷ gs) (4 + u + v)
+
+-- a segment before those that the bits behind it say
+abbrev pub following : Result Segment → (ℕ → Result (List Segment)) → Result (List Segment)
+following cut rest = cut
+following lacking rest = lacking
+following (got g u) rest = first g u (rest u)
+
+-- Segments one after the other; fewer than 4 bits left, or mode 0, ends. k bounds their number: each takes more than 4 bits, so
+-- one more than the number of bits is never reached.
+unfoldable pub parse : ℕ → List ℕ → Result (List Segment)
+parse zero bs = cut
+parse (suc k) bs =
+    cond (ltb (length bs) 4) (got [] 0)
+    (cond (eqb (value 0 (take 4 bs)) 0) (got [] 4)
+    (following (segmentOf (value 0 (take 4 bs)) (drop 4 bs)) (λ u. parse k (drop u (drop 4 bs)))))
+
+-- the segments of the data codewords
+abbrev pub segmentsOf : List ℕ → Result (List Segment)
+segmentsOf s = parse (8 * length s + 1) (bitsOf s)
