@@ -1,0 +1,50 @@
+-- Document 01, "Blocks" and "Words of demand 3": each block of a stream corrected by itself, first to last, and each block of data given
+-- its parity. The field is that of 163 hex, the first root α^1.
+use mathlib.Core.Bool.{cond}
+use mathlib.Core.List.{List, [], _∷_, _++_, map}
+use Prim.Native.Nat.{ℕ, zero, suc, _+_}
+use lib.Dec.{eqb}
+use lib.ListN.{take, drop}
+use Rattle.reed_solomon.specs.Block.{parityOf}
+use Rattle.corrector.specs.Correct.{Outcome, correctOf}
+use Rattle.parity.specs.Encode.{withParity}
+use Rattle.blocks.specs.Blocks.{Shape, cut, joined, dataParts, cutData}
+
+-- what Correct a block gives for each block, in order
+unfoldable pub outcomes : List Shape → List (List ℕ) → List Outcome
+outcomes [] ws = []
+outcomes (b ∷ bs) [] = []
+outcomes (b ∷ bs) (w ∷ ws) = correctOf 0x163 1 (b .parity) w ∷ outcomes bs ws
+
+-- the refusal of the first block that is refused, or 0
+unfoldable pub refusalOf : List Outcome → ℕ
+refusalOf [] = 0
+refusalOf (o ∷ os) = cond (eqb (o .number) 0) (refusalOf os) (o .number)
+
+-- the corrections of all blocks
+unfoldable pub countOf : List Outcome → ℕ
+countOf [] = 0
+countOf (o ∷ os) = o .count + countOf os
+
+-- the blocks as they are left
+unfoldable pub blocksOf : List Outcome → List (List ℕ)
+blocksOf [] = []
+blocksOf (o ∷ os) = o .block ∷ blocksOf os
+
+-- the blocks of a stream, corrected
+abbrev pub corrected : List Shape → List ℕ → List Outcome
+corrected bs stream = outcomes bs (cut bs stream)
+
+-- the data parts of the corrected blocks, joined in block order
+abbrev pub dataOf : List Shape → List ℕ → List ℕ
+dataOf bs stream = dataParts bs (blocksOf (corrected bs stream))
+
+-- each data part followed by its parity
+unfoldable pub encoded : List Shape → List (List ℕ) → List (List ℕ)
+encoded [] ds = []
+encoded (b ∷ bs) [] = []
+encoded (b ∷ bs) (d ∷ ds) = withParity d (parityOf 0x163 1 (b .parity) d) ∷ encoded bs ds
+
+-- the stream of data codewords: cut into data parts, each followed by its parity, and joined
+abbrev pub streamOf : List Shape → List ℕ → List ℕ
+streamOf bs ds = joined (encoded bs (cutData bs ds))

@@ -1,0 +1,1 @@
+// Blocks corrected and made, one after the other.
