@@ -1,0 +1,4 @@
+-- Laws of the readings and of writing.
+pub mod Refusals
+pub mod Modules
+pub mod Mark
