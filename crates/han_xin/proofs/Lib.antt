@@ -1,4 +1,5 @@
 -- Laws of the readings and of writing.
 pub mod Refusals
 pub mod Modules
-pub mod Mark
+pub mod Bytes
+pub mod Marks

@@ -1,7 +1,7 @@
 -- Modules are bits and codewords are bytes: of a mark, and of the stream of a square. Assumes nothing.
 use mathlib.Core.Path.{_≡_, refl, sym, ap, _∙_}
 use mathlib.Core.Bool.{Bool, true, false, _&&_}
-use mathlib.Core.List.{List, [], _∷_}
+use mathlib.Core.List.{List, [], _∷_, _++_}
 use Prim.Native.Nat.{ℕ, zero, suc, _+_, _*_, _/_, _%_, _^_, _-_, _<_, _≤_}
 use native.Mathlib.Omega.{arith}
 use native.Mathlib.Nat.{pow-succ', mul-assoc, mul-le-mul-left}
@@ -9,6 +9,7 @@ use lib.Pow.{pow-pos}
 use lib.Dec.{leb}
 use lib.Bits.{bitXor, xor-lt}
 use lib.ListN.{length, getD, set, take, drop, replicate}
+use lib.Seq.{take-at}
 use Rattle.symbol.specs.Version.{sideOf}
 use Rattle.symbol.specs.Layout.{layoutOf}
 use Rattle.blocks.specs.Blocks.{totalOf}
@@ -130,3 +131,7 @@ unfolding streamFrom streamIn
 stream-length v mask sq =
     let bs = dataBits (maskBit (sideOf v) mask) 0 (layoutOf v) sq in
     length-stream (codewordsOf (totalOf v) bs) ∙ length-codewords (totalOf v) bs
+
+-- the codewords in front of a buffer
+pub codewords-taken : (total : ℕ) (bs rest found : List ℕ) → found ≡ codewordsOf total bs ++ rest → take total found ≡ codewordsOf total bs
+codewords-taken total bs rest found e = ap (take total) e ∙ take-at (codewordsOf total bs) rest total (length-codewords total bs)

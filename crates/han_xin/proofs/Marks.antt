@@ -176,6 +176,9 @@ module _ (v l k : ℕ) (s p : List ℕ) (R : Ranges v l k) where
     pub distance-le : distanceIn v h ≤ 8
     unfolding distanceIn nearestDistance
     distance-le =
-        omega (arith,
-        ap (λ (t : Bool). cond t (distance v (copy false) (copy true) (nearest v (copy false) (copy true))) 0) versioned,
-        ap (distance v (copy false) (copy true)) (near .0), near .1)
+        omega (
+          arith,
+          ap (λ (t : Bool). cond t (distance v (copy false) (copy true) (nearest v (copy false) (copy true))) 0) versioned,
+          ap (distance v (copy false) (copy true)) (near .0),
+          near .1,
+        )
