@@ -2,4 +2,5 @@
 pub mod Refusals
 pub mod Modules
 pub mod Bytes
+pub mod Receipts
 pub mod Marks

@@ -34,11 +34,15 @@ pub record Fitting (m : Mark) (sq : List ℕ) : Type 0 where
   pub size : length sq ≡ sideOf (m .version) * sideOf (m .version)
   pub bits : (i : ℕ) → getD sq i 0 < 2
 
+-- the receipt of what is told
+unfoldable pub receiptIn : Mark → Told → List ℕ
+receiptIn m t = cond (eqb (t .number) 0) (receiptOf (m .version) (m .level) (m .mask) (t .count) (m .distance) (t .payload) (t .script)) (refusalReceipt (t .number))
+
 -- what is told of a square, as a reading
 abbrev pub readingOf : Mark → Told → List ℕ → List ℕ → Reading
 readingOf m t p s = record {
   number = t .number;
-  receipt = cond (eqb (t .number) 0) (receiptOf (m .version) (m .level) (m .mask) (t .count) (m .distance) (t .payload) (t .script)) (refusalReceipt (t .number));
+  receipt = receiptIn m t;
   payload = p;
   script = s;
 }

@@ -1,14 +1,15 @@
 // Read a square, Read with known version, level, mask, and Write a square (000: `decode_matrix`, `decode_data`).
 ghost use mathlib.Core.Path.{_≡_};
 ghost use mathlib.Core.List.{[], _∷_};
-ghost use Prim.Native.Nat.{ℕ, _*_, _<_, _≤_};
+ghost use Prim.Native.Nat.{ℕ, _*_, _%_, _<_, _≤_};
 ghost use lib.Dec.{eqb};
 ghost use lib.ListN.{length, getD, drop};
 ghost use mathlib.Core.List.{_++_};
 ghost use Rattle.codewords.specs.Codewords.{maskBit, streamIn, dataBits};
 ghost use Rattle.codewords.specs.Inner.{Legible};
 ghost use Rattle.han_xin.specs.Read.{firstRefusal, unless, areModules};
-ghost use Rattle.han_xin.specs.Inner.{Greater, Greatest, Fitting, readingOf, Small};
+ghost use Rattle.han_xin.specs.Inner.{Greater, Greatest, Fitting, receiptIn, readingOf, Small};
+ghost use Rattle.han_xin.specs.Receipt.{receiptOf, refusalReceipt};
 
 // What a square is read with: its version, level and mask, and how far the information was from theirs.
 pub struct Mark {
@@ -74,4 +75,66 @@ fn read_stream(
     let mut found = [0u8; 3886];
     codewords::read_codewords(&mut found, total, kinds, square, side, mask);
     codewords::to_stream(stream, &found, total);
+}
+
+fn low(n: usize) -> u8
+    ensures { λ r. ⌜ r ≡ n % 256 ⌝ }
+{
+    (n % 256) as u8
+}
+
+fn accepted(m: Mark, t: Told) -> [u8; 12]
+    requires { ⌜ (m .version < 256) × (m .level < 256) × (m .mask < 256) × (m .distance < 256) ⌝ }
+    requires { ⌜ Small t ⌝ }
+    ensures { λ r. ⌜ r ≡ receiptOf (m .version) (m .level) (m .mask) (t .count) (m .distance) (t .payload) (t .script) ⌝ }
+{
+    [
+        0,
+        low(m.version),
+        low(m.level),
+        low(m.mask),
+        low(t.count / 256),
+        low(t.count),
+        low(m.distance),
+        low(t.payload / 256),
+        low(t.payload),
+        low(t.script / 256),
+        low(t.script),
+        0,
+    ]
+}
+
+fn refusal(number: usize) -> [u8; 12]
+    requires { ⌜ number < 256 ⌝ }
+    ensures { λ r. ⌜ r ≡ refusalReceipt number ⌝ }
+{
+    [low(number), 0, 0, 0, 0, 0, 0, 0, 0, 0, 0, 0]
+}
+
+fn put(receipt: &mut [u8], bytes: &[u8; 12])
+    requires { ⌜ (length (now receipt) ≡ 12) × (length (now bytes) ≡ 12) ⌝ }
+    ensures { λ _. ⌜ now (receipt .exit) ≡ now (bytes .entry) ⌝ }
+{
+    let mut i = 0;
+    while i < 12 {
+        receipt[i] = bytes[i];
+        i += 1;
+    }
+}
+
+// The receipt of what is told.
+fn write_receipt(receipt: &mut [u8], m: Mark, t: Told)
+    requires { ⌜ length (now receipt) ≡ 12 ⌝ }
+    requires { ⌜ (m .version < 256) × (m .level < 256) × (m .mask < 256) × (m .distance < 256) ⌝ }
+    requires { ⌜ Small t ⌝ }
+    ensures { λ _. ⌜ now (receipt .exit) ≡ receiptIn m t ⌝ }
+{
+    let number = t.number;
+    if number == 0 {
+        let bytes = accepted(m, t);
+        put(receipt, &bytes);
+        return;
+    }
+    let bytes = refusal(number);
+    put(receipt, &bytes);
 }
