@@ -70,14 +70,8 @@ fn word(a: InfoBits) -> Bits
     ensures { λ r. ⌜ (r .number ≡ wordRefusalOf a) × (r .word ≡ wordIn a) ⌝ }
 {
     match a {
-        InfoBits::Word(w) => Bits {
-            number: 0,
-            word: w,
-        },
-        InfoBits::OutOfRange => Bits {
-            number: 1,
-            word: 0,
-        },
+        InfoBits::Word(w) => Bits { number: 0, word: w },
+        InfoBits::OutOfRange => Bits { number: 1, word: 0 },
     }
 }
 
@@ -92,7 +86,11 @@ fn nearest(a: NearestInfo) -> Near
     ensures { λ r. ⌜ (r .number ≡ nearestRefusalOf a) × (r .level ≡ levelOf a) × (r .mask ≡ maskOf a) × (r .distance ≡ distanceOf a) ⌝ }
 {
     match a {
-        NearestInfo::Nearest { level, mask, distance } => Near {
+        NearestInfo::Nearest {
+            level,
+            mask,
+            distance,
+        } => Near {
             number: 0,
             level,
             mask,

@@ -1,0 +1,4 @@
+pub mod Splice
+pub mod Corrects
+pub mod Batches
+pub mod Settle
