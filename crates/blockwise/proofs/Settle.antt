@@ -119,3 +119,9 @@ coded-each bs ws vs S h C near = record { number = coded-number bs vs C; are = g
         near-some 0x163 1 (b .parity) w (passes 0x163 passes-163) (omega (arith, h .0)) v
         (record { size = C .0 .0 ∙ sym (h .0); bytes = C .0 .1; code = C .0 .2; near = omega (arith, near 0 (omega arith)) })
     go (b ∷ bs) (w ∷ ws) (v ∷ vs) (more i p s S) h C near (suc j) l = go bs ws vs S (h .1) (C .1) (λ k m. near (suc k) (omega arith)) j (omega arith)
+
+pub block-small : (bs : List Shape) (ws : List (List ℕ)) → Sound bs → Shaped bs ws → (j : ℕ) → j < length bs → length (blockAt ws j) ≤ 255
+block-small [] ws S h j l = absurd (omega arith)
+block-small (b ∷ bs) [] S h j l = absurd h
+block-small (b ∷ bs) (w ∷ ws) (more i p s S) h zero l = omega (arith, h .0)
+block-small (b ∷ bs) (w ∷ ws) (more i p s S) h (suc j) l = block-small bs ws S (h .1) j (omega arith)
