@@ -1,14 +1,16 @@
 -- Document 01, "Blocks" and "Words of demand 3": each block of a stream corrected by itself, first to last, and each block of data given
 -- its parity. The field is that of 163 hex, the first root α^1.
 use mathlib.Core.Bool.{cond}
-use mathlib.Core.List.{List, [], _∷_, _++_, map}
-use Prim.Native.Nat.{ℕ, zero, suc, _+_}
+use mathlib.Core.List.{List, [], _∷_, map}
+use Prim.Native.Nat.{ℕ, _+_}
 use lib.Dec.{eqb}
-use lib.ListN.{take, drop}
-use Rattle.reed_solomon.specs.Block.{parityOf}
+use lib.ListN.{getD}
+use Rattle.reed_solomon.specs.Block.{distance, parityOf}
 use Rattle.corrector.specs.Correct.{Outcome, correctOf}
 use Rattle.parity.specs.Encode.{withParity}
 use Rattle.blocks.specs.Blocks.{Shape, cut, joined, dataParts, cutData}
+use Rattle.blockwise.specs.declared.Blocks.{Blocks}
+use Rattle.blockwise.specs.declared.Blocks.the-variants.{Corrected, Refused}
 
 -- what Correct a block gives for each block, in order
 unfoldable pub outcomes : List Shape → List (List ℕ) → List Outcome
@@ -48,3 +50,25 @@ encoded (b ∷ bs) (d ∷ ds) = withParity d (parityOf 0x163 1 (b .parity) d) �
 -- the stream of data codewords: cut into data parts, each followed by its parity, and joined
 abbrev pub streamOf : List Shape → List ℕ → List ℕ
 streamOf bs ds = joined (encoded bs (cutData bs ds))
+
+-- 01's number and the count for each case of the answer
+unfoldable pub numberOf : Blocks → ℕ
+numberOf (Corrected n) = 0
+numberOf Refused = 6
+
+unfoldable pub correctionsOf : Blocks → ℕ
+correctionsOf (Corrected n) = n
+correctionsOf Refused = 0
+
+-- in how many places two lists of blocks differ
+unfoldable pub differences : List (List ℕ) → List (List ℕ) → ℕ
+differences [] vs = 0
+differences (w ∷ ws) [] = 0
+differences (w ∷ ws) (v ∷ vs) = distance w v + differences ws vs
+
+-- block j, and its parity
+abbrev pub blockAt : List (List ℕ) → ℕ → List ℕ
+blockAt ws j = getD ws j []
+
+abbrev pub parityAt : List Shape → ℕ → ℕ
+parityAt bs j = getD (map (λ b. b .parity) bs) j 0

@@ -1,2 +1,4 @@
--- Document 01, "Blocks" and "Words of demand 3": blocks corrected and made, one after the other.
+-- Document 01, "Blocks" and "Words of demand 3": blocks corrected and made, one after the other. `Inner` is for inner functions: nobody
+-- has to believe it.
 pub mod Blockwise
+pub mod Inner

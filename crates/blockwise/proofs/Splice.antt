@@ -1,0 +1,43 @@
+-- A part of a stream that is replaced, and a part behind it. Assumes nothing.
+use mathlib.Core.Path.{_≡_, refl, sym, ap, ap₂, _∙_}
+use mathlib.Core.List.{List, [], _∷_, _++_, append-assoc}
+use Prim.Native.Nat.{ℕ, _+_, _-_, _≤_}
+use native.Mathlib.Omega.{arith}
+use lib.ListN.{length, take, drop, length-append, length-drop}
+use lib.Seq.{take-at, drop-at, drop-drop, length-take-le}
+use Rattle.blockwise.specs.Inner.{spliced}
+
+-- what a part that was lent comes back as
+pub part-back : (a n e : ℕ) (s xs : List ℕ) → e ≡ a + n → take a s ++ (xs ++ drop (e - a) (drop a s)) ≡ spliced a n xs s
+unfolding spliced
+part-back a n e s xs h =
+    let m : a + (e - a) ≡ a + n = omega arith in
+    ap (λ (l : List ℕ). take a s ++ (xs ++ l)) (drop-drop (e - a) a s ∙ ap (λ (k : ℕ). drop k s) m)
+
+module _ (a n : ℕ) (xs s : List ℕ) (size : length xs ≡ n) (room : a + n ≤ length s) where
+  front-length : length (take a s ++ xs) ≡ a + n
+  front-length = length-append (take a s) xs ∙ ap₂ _+_ (length-take-le a s (omega arith)) size
+
+  opened : spliced a n xs s ≡ (take a s ++ xs) ++ drop (a + n) s
+  unfolding spliced
+  opened = sym (append-assoc (take a s) xs (drop (a + n) s))
+
+  pub spliced-front : take (a + n) (spliced a n xs s) ≡ take a s ++ xs
+  spliced-front = ap (take (a + n)) opened ∙ take-at (take a s ++ xs) (drop (a + n) s) (a + n) front-length
+
+  pub spliced-behind : drop (a + n) (spliced a n xs s) ≡ drop (a + n) s
+  spliced-behind = ap (drop (a + n)) opened ∙ drop-at (take a s ++ xs) (drop (a + n) s) (a + n) front-length
+
+  pub spliced-length : length (spliced a n xs s) ≡ length s
+  spliced-length = ap length opened ∙ length-append (take a s ++ xs) (drop (a + n) s) ∙ omega (arith, front-length, length-drop (a + n) s)
+
+  -- two parts, one behind the other, are one
+  pub spliced-more : (m : ℕ) (ys : List ℕ) → spliced (a + n) m ys (spliced a n xs s) ≡ spliced a (n + m) (xs ++ ys) s
+  unfolding spliced
+  spliced-more m ys =
+      let r : a + n + m ≡ a + (n + m) = omega arith in
+      let behind : drop (a + n + m) (spliced a n xs s) ≡ drop (a + (n + m)) s =
+      sym (drop-drop m (a + n) (spliced a n xs s)) ∙ ap (drop m) spliced-behind ∙ drop-drop m (a + n) s ∙ ap (λ (k : ℕ). drop k s) r in
+      ap₂ (λ (x z : List ℕ). x ++ (ys ++ z)) spliced-front behind
+      ∙ append-assoc (take a s) xs (ys ++ drop (a + (n + m)) s)
+      ∙ ap (λ (l : List ℕ). take a s ++ l) (sym (append-assoc xs ys (drop (a + (n + m)) s)))

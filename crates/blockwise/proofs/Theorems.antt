@@ -1,0 +1,103 @@
+-- What a customer may quote of blocks that are corrected and made one after the other. Each holds for any blocks that hold the rule of a
+-- row: data, parity, and at most 255 codewords. Assumes nothing.
+use mathlib.Core.Path.{_≡_, refl, sym, ap, subst, _∙_}
+use mathlib.Core.Logic.{_⊎_, inl, inr}
+use mathlib.Core.Option.{none, some}
+use mathlib.Core.List.{List}
+use Prim.Native.Nat.{ℕ, _/_, _≤_, _<_}
+use native.Mathlib.Omega.{arith}
+use lib.ListN.{length}
+use Rattle.field.proofs.Field.{passes}
+use Rattle.field.proofs.Instances.{passes-163}
+use Rattle.reed_solomon.specs.Block.{distance, nearest}
+use Rattle.reed_solomon.proofs.Search.{Bytes}
+use Rattle.reed_solomon.proofs.Nearest.{Near, near-one}
+use Rattle.blocks.specs.Blocks.{Shape, totalSize, totalData, cut, joined, dataParts, cutData}
+use Rattle.blocks.proofs.Rows.{Sound}
+use Rattle.blocks.proofs.Cuts.{Shaped, cut-shaped, cut-joined, length-joined, data-back}
+use Rattle.blockwise.specs.Blockwise.{refusalOf, countOf, blocksOf, corrected, dataOf, encoded, streamOf, differences, blockAt, parityAt}
+use Rattle.blockwise.proofs.Corrects.{blocks-shaped}
+use Rattle.blockwise.proofs.Settle.{Coded, Lost, Each, lost-refused, each-settled, either, coded-shaped, coded-each, block-small}
+use Rattle.blockwise.proofs.Written.{encoded-coded, joined-bytes}
+
+module _ (bs : List Shape) (sound : Sound bs) where
+  -- ---- any stream
+
+  module _ (s : List ℕ) (size : length s ≡ totalSize bs) where
+    shaped : Shaped bs (cut bs s)
+    shaped = cut-shaped bs s (omega arith)
+
+    -- If some block has no codeword in reach, the stream is answered 6 ..
+    pub lost-then-six : (j : ℕ) → j < length bs → nearest 0x163 1 (parityAt bs j) (blockAt (cut bs s) j) ≡ none → refusalOf (corrected bs s) ≡ 6
+    lost-then-six j l e = lost-refused bs (cut bs s) sound shaped (j, l, e)
+
+    -- .. and if each has one, each is set to it, and the count is the number of places in which the stream's blocks differ from these.
+    pub each-then-set : (vs : List (List ℕ)) → length vs ≡ length bs
+        → ((j : ℕ) → j < length bs → nearest 0x163 1 (parityAt bs j) (blockAt (cut bs s) j) ≡ some (blockAt vs j))
+        → (refusalOf (corrected bs s) ≡ 0) × (blocksOf (corrected bs s) ≡ vs) × (countOf (corrected bs s) ≡ differences (cut bs s) vs)
+    each-then-set vs n e = each-settled bs (cut bs s) vs sound shaped (record { number = n; are = e })
+
+    -- There is no other answer than 0 and 6.
+    pub zero-or-six : (refusalOf (corrected bs s) ≡ 0) ⊎ (refusalOf (corrected bs s) ≡ 6)
+    zero-or-six = elim (either bs (cut bs s) shaped) [
+      | inl x ↦ inr (lost-refused bs (cut bs s) sound shaped x)
+      | inr x ↦ inl (each-settled bs (cut bs s) (x .0) sound shaped (x .1) .0)
+    ]
+
+    -- 6 only where some block has no codeword in reach.
+    pub six-then-lost : refusalOf (corrected bs s) ≡ 6 → (j : ℕ) × (j < length bs) × (nearest 0x163 1 (parityAt bs j) (blockAt (cut bs s) j) ≡ none)
+    six-then-lost e = elim (either bs (cut bs s) shaped) [
+      | inl x ↦ x
+      | inr x ↦ absurd (omega (arith, e, each-settled bs (cut bs s) (x .0) sound shaped (x .1) .0))
+    ]
+
+    -- 0 only where each block has one, and then the blocks are left as these.
+    pub zero-then-each : refusalOf (corrected bs s) ≡ 0
+        → ((j : ℕ) → j < length bs → nearest 0x163 1 (parityAt bs j) (blockAt (cut bs s) j) ≡ some (blockAt (blocksOf (corrected bs s)) j))
+        × (countOf (corrected bs s) ≡ differences (cut bs s) (blocksOf (corrected bs s)))
+    zero-then-each e = elim (either bs (cut bs s) shaped) [
+      | inl x ↦ absurd (omega (arith, e, lost-refused bs (cut bs s) sound shaped x))
+      | inr x ↦ (let q = each-settled bs (cut bs s) (x .0) sound shaped (x .1) in
+          subst
+          (λ (vs : List (List ℕ)). ((j : ℕ) → j < length bs → nearest 0x163 1 (parityAt bs j) (blockAt (cut bs s) j) ≡ some (blockAt vs j)) × (countOf (corrected bs s) ≡ differences (cut bs s) vs))
+          (sym (q .1)) (x .1 .are, q .2))
+    ]
+
+    -- No block has two codewords in reach.
+    pub no-block-has-two : (j : ℕ) → j < length bs → (u v : List ℕ) → Near 0x163 1 (parityAt bs j) (blockAt (cut bs s) j) u
+        → Near 0x163 1 (parityAt bs j) (blockAt (cut bs s) j) v → u ≡ v
+    no-block-has-two j l u v = near-one 0x163 1 (parityAt bs j) (blockAt (cut bs s) j) (passes 0x163 passes-163) (block-small bs (cut bs s) sound shaped j l) u v
+
+    -- The blocks as they are left, joined, are a stream with these blocks.
+    pub cut-corrected : cut bs (joined (blocksOf (corrected bs s))) ≡ blocksOf (corrected bs s)
+    cut-corrected = cut-joined bs (blocksOf (corrected bs s)) (blocks-shaped bs (cut bs s) shaped)
+
+  -- ---- a stream that is written
+
+  module _ (ds : List ℕ) (bytes : Bytes ds) (number : length ds ≡ totalData bs) where
+    coded : Coded bs (encoded bs (cutData bs ds))
+    coded = encoded-coded bs ds sound bytes (omega arith) .0
+
+    blocks-are : cut bs (streamOf bs ds) ≡ encoded bs (cutData bs ds)
+    blocks-are = cut-joined bs (encoded bs (cutData bs ds)) (coded-shaped bs (encoded bs (cutData bs ds)) coded)
+
+    -- The stream of data codewords has bytes, as many as the blocks; its blocks are codewords, and their data parts are the data.
+    pub written-blocks : (length (streamOf bs ds) ≡ totalSize bs) × Bytes (streamOf bs ds) × Coded bs (cut bs (streamOf bs ds))
+        × (dataParts bs (cut bs (streamOf bs ds)) ≡ ds)
+    written-blocks = (
+      length-joined bs (encoded bs (cutData bs ds)) (coded-shaped bs (encoded bs (cutData bs ds)) coded),
+      joined-bytes bs (encoded bs (cutData bs ds)) coded,
+      subst (Coded bs) (sym blocks-are) coded,
+      ap (dataParts bs) blocks-are ∙ data-back bs ds (encoded bs (cutData bs ds)) number (encoded-coded bs ds sound bytes (omega arith) .1),
+    )
+
+    -- If each block of a stream differs from the written block in at most floor(parity / 2) places, then the stream is accepted, each block
+    -- becomes the written one, the data parts are the data, and the count is the number of places that differ.
+    pub in-reach : (s : List ℕ) → length s ≡ totalSize bs
+        → ((j : ℕ) → j < length bs → distance (blockAt (cut bs s) j) (blockAt (cut bs (streamOf bs ds)) j) ≤ parityAt bs j / 2)
+        → (refusalOf (corrected bs s) ≡ 0) × (blocksOf (corrected bs s) ≡ cut bs (streamOf bs ds)) × (dataOf bs s ≡ ds)
+        × (countOf (corrected bs s) ≡ differences (cut bs s) (cut bs (streamOf bs ds)))
+    in-reach s size near =
+        let h = cut-shaped bs s (omega arith) in
+        let q = each-settled bs (cut bs s) (cut bs (streamOf bs ds)) sound h (coded-each bs (cut bs s) (cut bs (streamOf bs ds)) sound h (written-blocks .2) near) in
+        (q .0, q .1, ap (dataParts bs) (q .1) ∙ written-blocks .3, q .2)

@@ -1,0 +1,125 @@
+-- `correct_batch` meets its contract: one block more in each turn. Assumes nothing.
+use mathlib.Core.Path.{_≡_, refl, sym, ap, subst, _∙_}
+use mathlib.Core.List.{List}
+use Prim.Native.Nat.{ℕ, _+_, _-_, _*_, _≤_}
+use native.Mathlib.Omega.{arith}
+use lib.ListN.{length, drop}
+use Rattle.blocks.specs.Blocks.{Shape, batch, totalSize}
+use Rattle.blockwise.specs.Blockwise.{corrected, refusalOf}
+use Rattle.blockwise.specs.Inner.{Done}
+use Rattle.blockwise.proofs.Corrects.{done-none}
+use Rattle.blockwise.proofs.Batches.{batch-is, numbers-fit, accepted, stopped, block-in, block-done, block-count, block-refused, batch-end}
+use borrow.Author.Needs.{needs}
+use Rattle.blockwise.proofs.correct_batch.Statement.{statement}
+use Rattle.blockwise.proofs.correct_batch.Tie as tie
+
+abbrev Inv-loop : tie.InvT-loop
+Inv-loop field stream₀ from row k count info parity n₀ at₀ i₀ stream n at i = (i ≤ count) × (at ≡ from + i * (info + parity)) × (length stream ≡ length stream₀) × Done (batch i info parity) from stream₀ stream n
+
+abbrev μ-loop : tie.MeasureT-loop
+μ-loop field stream₀ from row k count info parity n₀ at₀ i₀ stream n at i = count - i
+
+mul-number : tie.Need-mul-number Inv-loop μ-loop
+mul-number c = search needs
+
+number-requires : tie.Need-number-requires Inv-loop μ-loop
+number-requires c κs = search needs
+
+mul-number-2 : tie.Need-mul-number-2 Inv-loop μ-loop
+mul-number-2 c = search needs
+
+add-number : tie.Need-add-number Inv-loop μ-loop
+add-number c = search needs
+
+number-requires-2 : tie.Need-number-requires-2 Inv-loop μ-loop
+number-requires-2 c κs = search needs
+
+mul-number-3 : tie.Need-mul-number-3 Inv-loop μ-loop
+mul-number-3 c = search needs
+
+add-number-2 : tie.Need-add-number-2 Inv-loop μ-loop
+add-number-2 c = search needs
+
+number-requires-3 : tie.Need-number-requires-3 Inv-loop μ-loop
+number-requires-3 c κs = search needs
+
+loop-holds : tie.Need-loop-holds Inv-loop μ-loop
+unfolding batch
+loop-holds c = (omega arith, omega arith, refl, done-none _ _)
+
+correct-block-requires : tie.Need-correct-block-requires Inv-loop μ-loop
+correct-block-requires c κs =
+    let q = numbers-fit (c .before .before .before .before .before .before .before .before .args .row .now) (c .before .before .before .before .before .before .before .before .args .k) (c .before .before .before .before .before .number .result) (c .before .before .before .before .number2 .result) (c .before .before .before .number3 .result) (c .before .before .before .before .before .number .ensures .0) (c .before .before .before .before .number2 .ensures .0) (c .before .before .before .number3 .ensures .0) (c .before .before .before .before .before .before .before .before .pre .1 .2) (omega arith) in
+    (c .before .before .before .before .before .before .before .before .pre .0, (q .0, q .1, q .2, omega (arith, c .before .before .loop .inv .2, block-in (c .before .before .before .before .number2 .result) (c .before .before .before .number3 .result) (c .before .before .before .before .before .before .before .before .args .from) (c .before .before .before .before .before .number .result) (c .before .before .before .before .before .before .before .before .args .stream .now) (omega (arith, c .before .before .before .before .before .before .before .before .pre .1 .3, ap totalSize (batch-is (c .before .before .before .before .before .before .before .before .args .row .now) (c .before .before .before .before .before .before .before .before .args .k) _ _ _ (c .before .before .before .before .before .number .ensures .0) (c .before .before .before .before .number2 .ensures .0) (c .before .before .before .number3 .ensures .0)))) (c .before .before .loop .i) (c .before .before .loop .at) (c .before .before .loop .n) (c .before .before .loop .stream) (c .before .loop-test .taken) (c .before .before .loop .inv .1) (c .before .before .loop .inv .3))))
+
+enum-known-r : tie.Need-enum-known-r Inv-loop μ-loop
+enum-known-r c = search needs
+
+enum-told : tie.Need-enum-told Inv-loop μ-loop
+enum-told c = search needs
+
+same-length : tie.Need-same-length Inv-loop μ-loop
+same-length c = search needs
+
+returns : tie.Need-returns Inv-loop μ-loop
+returns c =
+    ap (λ (bs : List Shape). refusalOf (corrected bs (drop (c .before .before .before .before .before .before .before .before .before .before .before .before .before .args .from) (c .before .before .before .before .before .before .before .before .before .before .before .before .before .args .stream .now)))) (batch-is (c .before .before .before .before .before .before .before .before .before .before .before .before .before .args .row .now) (c .before .before .before .before .before .before .before .before .before .before .before .before .before .args .k) _ _ _ (c .before .before .before .before .before .before .before .before .before .before .number .ensures .0) (c .before .before .before .before .before .before .before .before .before .number2 .ensures .0) (c .before .before .before .before .before .before .before .before .number3 .ensures .0))
+    ∙ block-refused (c .before .before .before .before .before .before .before .before .before .number2 .result) (c .before .before .before .before .before .before .before .before .number3 .result) (c .before .before .before .before .before .before .before .before .before .before .before .before .before .args .from) (c .before .before .before .before .before .before .before .before .before .before .number .result) (c .before .before .before .before .before .before .before .before .before .before .before .before .before .args .stream .now) (omega (arith, c .before .before .before .before .before .before .before .before .before .before .before .before .before .pre .1 .3, ap totalSize (batch-is (c .before .before .before .before .before .before .before .before .before .before .before .before .before .args .row .now) (c .before .before .before .before .before .before .before .before .before .before .before .before .before .args .k) _ _ _ (c .before .before .before .before .before .before .before .before .before .before .number .ensures .0) (c .before .before .before .before .before .before .before .before .before .number2 .ensures .0) (c .before .before .before .before .before .before .before .before .number3 .ensures .0)))) (c .before .before .before .before .before .before .before .loop .i) (c .before .before .before .before .before .before .before .loop .at) (c .before .before .before .before .before .before .before .loop .n) (c .before .before .before .before .before .before .before .loop .stream) (c .before .before .before .before .before .before .loop-test .taken) (c .before .before .before .before .before .before .before .loop .inv .1) (c .before .before .before .before .before .before .before .loop .inv .3) (stopped (batch 1 (c .before .before .before .before .before .before .before .before .before .number2 .result) (c .before .before .before .before .before .before .before .before .number3 .result)) (c .before .before .before .before .before .before .before .loop .at) (c .before .before .before .before .before .before .before .loop .stream) (c .before .before .before .before .correct-block .last .1 .0) (c .before .before .before .before .correct-block .result) (c .enum-told .given .1) (c .before .before .before .before .correct-block .ensures))
+
+add-n : tie.Need-add-n Inv-loop μ-loop
+add-n c = omega (arith, block-count (c .before .before .before .before .before .before .before .before .before .before .number2 .result) (c .before .before .before .before .before .before .before .before .before .number3 .result) (c .before .before .before .before .before .before .before .before .before .before .before .before .before .before .args .from) (c .before .before .before .before .before .before .before .before .before .before .before .number .result) (c .before .before .before .before .before .before .before .before .before .before .before .before .before .before .args .stream .now) (omega (arith, c .before .before .before .before .before .before .before .before .before .before .before .before .before .before .pre .1 .3, ap totalSize (batch-is (c .before .before .before .before .before .before .before .before .before .before .before .before .before .before .args .row .now) (c .before .before .before .before .before .before .before .before .before .before .before .before .before .before .args .k) _ _ _ (c .before .before .before .before .before .before .before .before .before .before .before .number .ensures .0) (c .before .before .before .before .before .before .before .before .before .before .number2 .ensures .0) (c .before .before .before .before .before .before .before .before .before .number3 .ensures .0)))) (c .before .before .before .before .before .before .before .before .loop .i) (c .before .before .before .before .before .before .before .before .loop .at) (c .before .before .before .before .before .before .before .before .loop .n) (c .before .before .before .before .before .before .before .before .loop .stream) (c .before .before .before .before .before .before .before .loop-test .taken) (c .before .before .before .before .before .before .before .before .loop .inv .1) (c .before .before .before .before .before .before .before .before .loop .inv .3) _ _ (accepted (batch 1 (c .before .before .before .before .before .before .before .before .before .before .number2 .result) (c .before .before .before .before .before .before .before .before .before .number3 .result)) (c .before .before .before .before .before .before .before .before .loop .at) (c .before .before .before .before .before .before .before .before .loop .stream) (c .before .before .before .before .before .correct-block .last .1 .0) (c .before .before .before .before .before .correct-block .result) _ (c .before .r .given .1) (c .before .before .before .before .before .correct-block .ensures)))
+
+add-at : tie.Need-add-at Inv-loop μ-loop
+add-at c = omega (arith, block-in (c .before .before .before .before .before .before .before .before .before .before .number2 .result) (c .before .before .before .before .before .before .before .before .before .number3 .result) (c .before .before .before .before .before .before .before .before .before .before .before .before .before .before .args .from) (c .before .before .before .before .before .before .before .before .before .before .before .number .result) (c .before .before .before .before .before .before .before .before .before .before .before .before .before .before .args .stream .now) (omega (arith, c .before .before .before .before .before .before .before .before .before .before .before .before .before .before .pre .1 .3, ap totalSize (batch-is (c .before .before .before .before .before .before .before .before .before .before .before .before .before .before .args .row .now) (c .before .before .before .before .before .before .before .before .before .before .before .before .before .before .args .k) _ _ _ (c .before .before .before .before .before .before .before .before .before .before .before .number .ensures .0) (c .before .before .before .before .before .before .before .before .before .before .number2 .ensures .0) (c .before .before .before .before .before .before .before .before .before .number3 .ensures .0)))) (c .before .before .before .before .before .before .before .before .loop .i) (c .before .before .before .before .before .before .before .before .loop .at) (c .before .before .before .before .before .before .before .before .loop .n) (c .before .before .before .before .before .before .before .before .loop .stream) (c .before .before .before .before .before .before .before .loop-test .taken) (c .before .before .before .before .before .before .before .before .loop .inv .1) (c .before .before .before .before .before .before .before .before .loop .inv .3))
+
+add-at-2 : tie.Need-add-at-2 Inv-loop μ-loop
+add-at-2 c = omega (arith, block-in (c .before .before .before .before .before .before .before .before .before .before .number2 .result) (c .before .before .before .before .before .before .before .before .before .number3 .result) (c .before .before .before .before .before .before .before .before .before .before .before .before .before .before .args .from) (c .before .before .before .before .before .before .before .before .before .before .before .number .result) (c .before .before .before .before .before .before .before .before .before .before .before .before .before .before .args .stream .now) (omega (arith, c .before .before .before .before .before .before .before .before .before .before .before .before .before .before .pre .1 .3, ap totalSize (batch-is (c .before .before .before .before .before .before .before .before .before .before .before .before .before .before .args .row .now) (c .before .before .before .before .before .before .before .before .before .before .before .before .before .before .args .k) _ _ _ (c .before .before .before .before .before .before .before .before .before .before .before .number .ensures .0) (c .before .before .before .before .before .before .before .before .before .before .number2 .ensures .0) (c .before .before .before .before .before .before .before .before .before .number3 .ensures .0)))) (c .before .before .before .before .before .before .before .before .loop .i) (c .before .before .before .before .before .before .before .before .loop .at) (c .before .before .before .before .before .before .before .before .loop .n) (c .before .before .before .before .before .before .before .before .loop .stream) (c .before .before .before .before .before .before .before .loop-test .taken) (c .before .before .before .before .before .before .before .before .loop .inv .1) (c .before .before .before .before .before .before .before .before .loop .inv .3))
+
+add-i : tie.Need-add-i Inv-loop μ-loop
+add-i c = search needs
+
+loop-less : tie.Need-loop-less Inv-loop μ-loop
+loop-less c = search needs
+
+loop-again : tie.Need-loop-again Inv-loop μ-loop
+loop-again c = (
+  omega arith,
+  omega (arith, c .before .before .before .before .before .before .before .before .loop .inv .1),
+  c .before .before .before .before .before .correct-block .kept .1 .0 ∙ c .before .before .before .before .before .before .before .before .loop .inv .2,
+  block-done (c .before .before .before .before .before .before .before .before .before .before .number2 .result) (c .before .before .before .before .before .before .before .before .before .number3 .result) (c .before .before .before .before .before .before .before .before .before .before .before .before .before .before .args .from) (c .before .before .before .before .before .before .before .before .before .before .before .number .result) (c .before .before .before .before .before .before .before .before .before .before .before .before .before .before .args .stream .now) (omega (arith, c .before .before .before .before .before .before .before .before .before .before .before .before .before .before .pre .1 .3, ap totalSize (batch-is (c .before .before .before .before .before .before .before .before .before .before .before .before .before .before .args .row .now) (c .before .before .before .before .before .before .before .before .before .before .before .before .before .before .args .k) _ _ _ (c .before .before .before .before .before .before .before .before .before .before .before .number .ensures .0) (c .before .before .before .before .before .before .before .before .before .before .number2 .ensures .0) (c .before .before .before .before .before .before .before .before .before .number3 .ensures .0)))) (c .before .before .before .before .before .before .before .before .loop .i) (c .before .before .before .before .before .before .before .before .loop .at) (c .before .before .before .before .before .before .before .before .loop .n) (c .before .before .before .before .before .before .before .before .loop .stream) (c .before .before .before .before .before .before .before .loop-test .taken) (c .before .before .before .before .before .before .before .before .loop .inv .1) (c .before .before .before .before .before .before .before .before .loop .inv .3) _ _ (accepted (batch 1 (c .before .before .before .before .before .before .before .before .before .before .number2 .result) (c .before .before .before .before .before .before .before .before .before .number3 .result)) (c .before .before .before .before .before .before .before .before .loop .at) (c .before .before .before .before .before .before .before .before .loop .stream) (c .before .before .before .before .before .correct-block .last .1 .0) (c .before .before .before .before .before .correct-block .result) _ (c .before .r .given .1) (c .before .before .before .before .before .correct-block .ensures)),
+)
+
+same-length-2 : tie.Need-same-length-2 Inv-loop μ-loop
+same-length-2 c = c .before .loop .inv .2
+
+returns-2 : tie.Need-returns-2 Inv-loop μ-loop
+returns-2 c = batch-end _ _ _ _ (batch-is (c .before .before .before .before .before .before .before .args .row .now) (c .before .before .before .before .before .before .before .args .k) _ _ _ (c .before .before .before .before .number .ensures .0) (c .before .before .before .number2 .ensures .0) (c .before .before .number3 .ensures .0)) _ _ _ _ _ (c .before .loop .inv .0) (omega arith) (c .before .loop .inv .3)
+
+pub correct-batch-spec : {M : Type 1} → statement M
+correct-batch-spec =
+    tie.close
+    (tie.spec
+    Inv-loop
+    μ-loop
+    mul-number
+    number-requires
+    mul-number-2
+    add-number
+    number-requires-2
+    mul-number-3
+    add-number-2
+    number-requires-3
+    loop-holds
+    correct-block-requires
+    enum-known-r
+    enum-told
+    same-length
+    returns
+    add-n
+    add-at
+    add-at-2
+    add-i
+    loop-less
+    loop-again
+    same-length-2
+    returns-2)

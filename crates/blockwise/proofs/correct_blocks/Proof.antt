@@ -1,0 +1,94 @@
+-- `correct_blocks` meets its contract: one batch more in each turn. Assumes nothing.
+use mathlib.Core.Path.{_≡_, refl, sym, ap, _∙_}
+use Prim.Native.Nat.{ℕ, _+_, _-_, _≤_}
+use native.Mathlib.Omega.{arith}
+use lib.ListN.{length}
+use Rattle.blocks.specs.Blocks.{totalSize}
+use Rattle.blockwise.specs.Blockwise.{refusalOf, numberOf, correctionsOf}
+use Rattle.blockwise.specs.Inner.{batchAt, batches, Done}
+use Rattle.blockwise.proofs.Corrects.{done-none}
+use Rattle.blockwise.proofs.Batches.{row-batch, accepted, stopped, batch-done, batch-count, batch-in, batch-refused, batch-place, corrected-front, row-done}
+use borrow.Author.Needs.{needs}
+use Rattle.blockwise.proofs.correct_blocks.Statement.{statement}
+use Rattle.blockwise.proofs.correct_blocks.Tie as tie
+
+abbrev Inv-loop : tie.InvT-loop
+Inv-loop field stream₀ row n₀ at₀ k₀ stream n at k = (k ≤ 3) × (at ≡ totalSize (batches k row)) × (length stream ≡ length stream₀) × Done (batches k row) 0 stream₀ stream n
+
+abbrev μ-loop : tie.MeasureT-loop
+μ-loop field stream₀ row n₀ at₀ k₀ stream n at k = 3 - k
+
+loop-holds : tie.Need-loop-holds Inv-loop μ-loop
+unfolding batches totalSize
+loop-holds c = (omega arith, refl, refl, done-none _ _)
+
+correct-batch-requires : tie.Need-correct-batch-requires Inv-loop μ-loop
+correct-batch-requires c κs =
+    (c .before .before .before .before .before .pre .0, (c .before .before .before .before .before .pre .1 .0, c .before .loop-test .taken, row-batch _ _ (c .before .before .before .before .before .pre .1 .1) (c .before .before .loop .k) (c .before .loop-test .taken), omega (arith, c .before .before .loop .inv .2, batch-in (c .before .before .before .before .before .args .row .now) (c .before .before .before .before .before .args .stream .now) (c .before .before .before .before .before .pre .1 .2) (c .before .before .loop .k) (c .before .before .loop .at) (c .before .before .loop .n) (c .before .before .loop .stream) (c .before .loop-test .taken) (c .before .before .loop .inv .1) (c .before .before .loop .inv .3))))
+
+enum-known-r : tie.Need-enum-known-r Inv-loop μ-loop
+enum-known-r c = search needs
+
+enum-told : tie.Need-enum-told Inv-loop μ-loop
+enum-told c = search needs
+
+same-length : tie.Need-same-length Inv-loop μ-loop
+same-length c = search needs
+
+returns : tie.Need-returns Inv-loop μ-loop
+unfolding numberOf
+returns c = (
+  sym (ap refusalOf (corrected-front (c .before .before .before .before .before .before .before .before .before .before .args .row .now) (c .before .before .before .before .before .before .before .before .before .before .args .stream .now) (c .before .before .before .before .before .before .before .before .before .before .pre .1 .2)) ∙ batch-refused (c .before .before .before .before .before .before .before .before .before .before .args .row .now) (c .before .before .before .before .before .before .before .before .before .before .args .stream .now) (c .before .before .before .before .before .before .before .before .before .before .pre .1 .2) (c .before .before .before .before .before .before .before .loop .k) (c .before .before .before .before .before .before .before .loop .at) (c .before .before .before .before .before .before .before .loop .n) (c .before .before .before .before .before .before .before .loop .stream) (c .before .before .before .before .before .before .loop-test .taken) (c .before .before .before .before .before .before .before .loop .inv .1) (c .before .before .before .before .before .before .before .loop .inv .3) (stopped (batchAt (c .before .before .before .before .before .before .before .before .before .before .args .row .now) (c .before .before .before .before .before .before .before .loop .k)) (c .before .before .before .before .before .before .before .loop .at) (c .before .before .before .before .before .before .before .loop .stream) (c .before .before .before .before .correct-batch .last .1 .0) (c .before .before .before .before .correct-batch .result) (c .enum-told .given .1) (c .before .before .before .before .correct-batch .ensures))),
+  λ e. absurd (omega (arith, e)),
+)
+
+add-n : tie.Need-add-n Inv-loop μ-loop
+add-n c = omega (arith, batch-count (c .before .before .before .before .before .before .before .before .before .before .before .args .row .now) (c .before .before .before .before .before .before .before .before .before .before .before .args .stream .now) (c .before .before .before .before .before .before .before .before .before .before .before .pre .1 .2) (c .before .before .before .before .before .before .before .before .loop .k) (c .before .before .before .before .before .before .before .before .loop .at) (c .before .before .before .before .before .before .before .before .loop .n) (c .before .before .before .before .before .before .before .before .loop .stream) (c .before .before .before .before .before .before .before .loop-test .taken) (c .before .before .before .before .before .before .before .before .loop .inv .1) (c .before .before .before .before .before .before .before .before .loop .inv .3) _ _ (accepted (batchAt (c .before .before .before .before .before .before .before .before .before .before .before .args .row .now) (c .before .before .before .before .before .before .before .before .loop .k)) (c .before .before .before .before .before .before .before .before .loop .at) (c .before .before .before .before .before .before .before .before .loop .stream) (c .before .before .before .before .before .correct-batch .last .1 .0) (c .before .before .before .before .before .correct-batch .result) _ (c .before .r .given .1) (c .before .before .before .before .before .correct-batch .ensures)))
+
+batch-length-requires : tie.Need-batch-length-requires Inv-loop μ-loop
+batch-length-requires c κs = search needs
+
+add-at : tie.Need-add-at Inv-loop μ-loop
+add-at c = omega (arith, c .batch-length .ensures .0, batch-in (c .before .before .before .before .before .before .before .before .before .before .before .before .args .row .now) (c .before .before .before .before .before .before .before .before .before .before .before .before .args .stream .now) (c .before .before .before .before .before .before .before .before .before .before .before .before .pre .1 .2) (c .before .before .before .before .before .before .before .before .before .loop .k) (c .before .before .before .before .before .before .before .before .before .loop .at) (c .before .before .before .before .before .before .before .before .before .loop .n) (c .before .before .before .before .before .before .before .before .before .loop .stream) (c .before .before .before .before .before .before .before .before .loop-test .taken) (c .before .before .before .before .before .before .before .before .before .loop .inv .1) (c .before .before .before .before .before .before .before .before .before .loop .inv .3))
+
+add-k : tie.Need-add-k Inv-loop μ-loop
+add-k c = search needs
+
+loop-less : tie.Need-loop-less Inv-loop μ-loop
+loop-less c = search needs
+
+loop-again : tie.Need-loop-again Inv-loop μ-loop
+loop-again c = (
+  omega arith,
+  batch-place _ _ _ _ (c .before .before .before .before .before .before .before .before .before .loop .inv .1) (c .batch-length .ensures .0),
+  c .before .before .before .before .before .before .correct-batch .kept .1 .0 ∙ c .before .before .before .before .before .before .before .before .before .loop .inv .2,
+  batch-done (c .before .before .before .before .before .before .before .before .before .before .before .before .args .row .now) (c .before .before .before .before .before .before .before .before .before .before .before .before .args .stream .now) (c .before .before .before .before .before .before .before .before .before .before .before .before .pre .1 .2) (c .before .before .before .before .before .before .before .before .before .loop .k) (c .before .before .before .before .before .before .before .before .before .loop .at) (c .before .before .before .before .before .before .before .before .before .loop .n) (c .before .before .before .before .before .before .before .before .before .loop .stream) (c .before .before .before .before .before .before .before .before .loop-test .taken) (c .before .before .before .before .before .before .before .before .before .loop .inv .1) (c .before .before .before .before .before .before .before .before .before .loop .inv .3) _ _ (accepted (batchAt (c .before .before .before .before .before .before .before .before .before .before .before .before .args .row .now) (c .before .before .before .before .before .before .before .before .before .loop .k)) (c .before .before .before .before .before .before .before .before .before .loop .at) (c .before .before .before .before .before .before .before .before .before .loop .stream) (c .before .before .before .before .before .before .correct-batch .last .1 .0) (c .before .before .before .before .before .before .correct-batch .result) _ (c .before .before .r .given .1) (c .before .before .before .before .before .before .correct-batch .ensures)),
+)
+
+same-length-2 : tie.Need-same-length-2 Inv-loop μ-loop
+same-length-2 c = c .before .loop .inv .2
+
+returns-2 : tie.Need-returns-2 Inv-loop μ-loop
+unfolding numberOf correctionsOf
+returns-2 c = let q = row-done _ _ _ _ _ (c .before .before .before .before .pre .1 .2) (c .before .loop .inv .0) (omega arith) (c .before .loop .inv .3) in (q .0, λ e. (q .1, q .2))
+
+pub correct-blocks-spec : {M : Type 1} → statement M
+correct-blocks-spec =
+    tie.close
+    (tie.spec
+    Inv-loop
+    μ-loop
+    loop-holds
+    correct-batch-requires
+    enum-known-r
+    enum-told
+    same-length
+    returns
+    add-n
+    batch-length-requires
+    add-at
+    add-k
+    loop-less
+    loop-again
+    same-length-2
+    returns-2)
