@@ -1,22 +1,20 @@
 -- Polynomials by Horner's rule, highest coefficient first: as sums, divided by x + a, how many roots they have, and what they make of the
 -- syndromes of a word. Assumes nothing.
 use mathlib.Core.Path.{_≡_, refl, sym, ap, ap₂, _∙_, subst}
-use mathlib.Core.Logic.{_≢_}
 use mathlib.Core.List.{List, [], _∷_}
 use Prim.Native.Nat.{ℕ, zero, suc, _+_, _-_, _*_, _%_, _≤_, _<_}
 use native.Mathlib.Omega.{arith}
-use native.Mathlib.Decide.{ℕ-discrete}
 use lib.ListN.{length}
-use lib.Bits.{xor-comm, xor-self, xor-mod, xor-zero-l, xor-zero-r}
+use lib.Bits.{xor-self, xor-zero-r}
 use Rattle.field.specs.Field.{raised, power, mul}
 use Rattle.field.proofs.Xor.{xor-assoc, xor-swap}
-use Rattle.field.proofs.Field.{Passes, power-lt, mul-lt, mul-comm, mul-assoc, mul-one, mul-power, sum-lt}
+use Rattle.field.proofs.Field.{Passes, mul-lt, mul-comm, mul-assoc, mul-one, mul-power, sum-lt}
 use Rattle.field.proofs.Field.{mul-sum as sum-mul}
 use Rattle.field.proofs.Entries.{mul-left-zero, mul-right-zero}
 use Rattle.algebra.specs.Sum.{_⊕_, sum, horner, degree, locator, weight, syndrome}
 use Rattle.algebra.specs.Register.{discrepancy, Tail}
-use Rattle.algebra.proofs.Sum.{Null, sum-ext, sum-swap, sum-scale, mul-add, mul-left, add-left, add-cancel}
-use Rattle.algebra.proofs.Peel.{Out, null-mul, null-div, apart}
+use Rattle.algebra.proofs.Sum.{Null, null-add, sum-ext, sum-swap, sum-scale, mul-add, mul-left, add-cancel}
+use Rattle.algebra.proofs.Peel.{Out, null-div, apart}
 
 -- f divided by x + a
 abbrev pub quotient : ℕ → (ℕ → ℕ) → ℕ → ℕ → ℕ
@@ -26,9 +24,6 @@ quotient poly f a j = horner poly f a (suc j)
 unfoldable pub rooted : ℕ → ℕ → (ℕ → ℕ) → ℕ → ℕ
 rooted poly a f zero = f 0
 rooted poly a f (suc i) = f (suc i) ⊕ mul poly a (f i)
-
-null-add : (a b : ℕ) → Null a → Null b → Null (a ⊕ b)
-null-add a b x y = xor-mod a b 8 ∙ ap₂ _⊕_ x y
 
 pub horner-ext : (poly : ℕ) (f g : ℕ → ℕ) (x n : ℕ) → ((i : ℕ) → i < n → f i ≡ g i) → horner poly f x n ≡ horner poly g x n
 unfolding horner

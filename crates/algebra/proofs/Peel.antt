@@ -1,6 +1,6 @@
 -- A word with no more places that are not zero than it has syndromes in a row that are is zero. Place by place: with c k not zero, each
 -- c i is multiplied by X i + X k, which makes a word without the place k whose syndromes are S (j + 1) + X k S j. Assumes nothing.
-use mathlib.Core.Path.{_≡_, refl, sym, ap, ap₂, _∙_, subst}
+use mathlib.Core.Path.{_≡_, sym, ap, ap₂, _∙_, subst}
 use mathlib.Core.Logic.{_≢_}
 use mathlib.Core.List.{List, [], _∷_}
 use Prim.Native.Nat.{ℕ, zero, suc, _+_, _-_, _*_, _%_, _≤_, _<_}
@@ -13,7 +13,7 @@ use Rattle.field.specs.Field.{power, times, mul}
 use Rattle.field.proofs.Field.{Passes, power-lt, power-pos, power-inj, mul-lt, mul-comm, mul-assoc, mul-power, mul-none, sum-lt}
 use Rattle.field.proofs.Field.{mul-sum as sum-mul}
 use Rattle.field.proofs.Entries.{mul-right-zero}
-use Rattle.algebra.specs.Sum.{_⊕_, sum, degree, locator, weight, syndrome}
+use Rattle.algebra.specs.Sum.{_⊕_, degree, locator, weight, syndrome}
 use Rattle.algebra.proofs.Sum.{Null, sum-ext, sum-add, sum-zero, sum-one, sum-scale, mul-add, mul-left, add-zero-eq}
 
 -- i is none of ks

@@ -1,15 +1,15 @@
 -- Laws of sums: of products with a constant, of two sums in either order, of sums with few terms that are not zero. Assumes nothing.
 use mathlib.Core.Path.{_≡_, refl, sym, ap, ap₂, _∙_}
 use mathlib.Core.Logic.{_≢_}
-use Prim.Native.Nat.{ℕ, zero, suc, _+_, _-_, _%_, _≤_, _<_}
+use Prim.Native.Nat.{ℕ, zero, suc, _+_, _%_, _≤_, _<_}
 use native.Mathlib.Omega.{arith}
 use native.Mathlib.Numerals.{add-one}
 use native.Mathlib.Nat.{add-zero, add-suc}
 use native.Mathlib.Decide.{ℕ-discrete}
-use lib.Bits.{bitXor, xor-comm, xor-self, xor-zero-l, xor-zero-r}
+use lib.Bits.{bitXor, xor-comm, xor-self, xor-zero-r, xor-mod}
 use Rattle.field.specs.Field.{mul}
 use Rattle.field.proofs.Xor.{xor-assoc, xor-swap}
-use Rattle.field.proofs.Field.{Passes, mul-comm, mul-assoc, mul-lt, sum-lt}
+use Rattle.field.proofs.Field.{Passes, mul-comm, mul-assoc, sum-lt}
 use Rattle.field.proofs.Field.{mul-sum as sum-mul}
 use Rattle.field.proofs.Entries.{mul-right-zero}
 use Rattle.algebra.specs.Sum.{_⊕_, sum}
@@ -85,6 +85,9 @@ add-left a b c = sym (xor-assoc a b c) ∙ ap (λ (x : ℕ). x ⊕ c) (xor-comm 
 -- `Null a`: a counts as zero in a product
 abbrev pub Null : ℕ → Type 0
 Null a = a % 256 ≡ 0
+
+pub null-add : (a b : ℕ) → Null a → Null b → Null (a ⊕ b)
+null-add a b x y = xor-mod a b 8 ∙ ap₂ _⊕_ x y
 
 module _ (poly : ℕ) (P : Passes poly) where
   abbrev _⊗_ : ℕ → ℕ → ℕ

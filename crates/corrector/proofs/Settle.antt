@@ -1,25 +1,25 @@
 -- A block is repaired exactly where it has a codeword in reach. Assumes nothing.
-use mathlib.Core.Path.{_≡_, refl, sym, ap, ap₂, _∙_, subst}
+use mathlib.Core.Path.{_≡_, refl, sym, ap, ap₂, _∙_}
 use mathlib.Core.Logic.{_≢_}
 use mathlib.Core.Bool.{Bool, true, false}
-use mathlib.Core.Option.{Option, none, some}
+use mathlib.Core.Option.{none, some}
 use mathlib.Core.List.{List, [], _∷_}
-use Prim.Native.Nat.{ℕ, zero, suc, _+_, _-_, _*_, _≤_, _<_}
+use Prim.Native.Nat.{ℕ, _+_, _≤_, _<_}
 use native.Mathlib.Omega.{arith}
 use native.Mathlib.Decide.{ℕ-discrete, decLt}
 use borrow.Author.Tests.{eq-eqb, ne-eqb}
-use lib.Dec.{T, eqb, eqb-refl}
-use lib.ListN.{length, getD}
+use lib.Dec.{eqb}
+use lib.ListN.{length}
 use lib.Bits.{xor-self, xor-zero-r}
-use Rattle.field.specs.Field.{power, mul}
+use Rattle.field.specs.Field.{power}
 use Rattle.field.proofs.Field.{Passes, sum-lt}
 use Rattle.algebra.specs.Sum.{_⊕_, seq, degree, syndrome}
 use Rattle.algebra.proofs.Peel.{syndrome-add, syndrome-ext}
-use Rattle.reed_solomon.specs.Block.{eval, isCodeword, orOneMore, distance, nearest, unfit}
-use Rattle.corrector.specs.Correct.{Outcome, refused, settled, orOutcome, correctOf}
+use Rattle.reed_solomon.specs.Block.{eval, orOneMore, distance, nearest, unfit}
+use Rattle.corrector.specs.Correct.{refused, settled, orOutcome, correctOf}
 use Rattle.reed_solomon.specs.Inner.{Each, Syndromes, isClean, Shortest, locatorAt, zeroFlag, Errors, withoutAll, repaired}
 use Rattle.reed_solomon.proofs.Search.{Bytes}
-use Rattle.reed_solomon.proofs.Codeword.{zero-codeword, eval-syndrome, syndromeOf, difference}
+use Rattle.reed_solomon.proofs.Codeword.{zero-codeword, eval-syndrome, difference}
 use Rattle.reed_solomon.proofs.Nearest.{Near, near-none, near-some}
 use Rattle.reed_solomon.proofs.Clean.{clean-yes, clean-zero}
 use Rattle.reed_solomon.proofs.Decode.{few, of-errors, root-at, count-is, error-is}

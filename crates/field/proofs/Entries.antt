@@ -1,10 +1,8 @@
 -- What stands in the table of a field: logarithms and powers, and so products and quotients. Assumes nothing.
-use mathlib.Core.Path.{_≡_, refl, sym, ap, ap₂, _∙_, subst}
+use mathlib.Core.Path.{_≡_, refl, sym, ap, _∙_, subst}
 use mathlib.Core.List.{List, [], _∷_, _++_}
-use mathlib.Core.Logic.{_≢_}
 use Prim.Native.Nat.{ℕ, zero, suc, _+_, _-_, _*_, _%_, _^_, _≤_, _<_}
 use native.Mathlib.Omega.{arith}
-use native.Mathlib.Nat.{le-of-suc-le-suc}
 use native.Mathlib.Decide.{ℕ-discrete, decLt}
 use lib.Dec.{T}
 use lib.Bits.{bitXor, xor-block, xor-zero-l, xor-self}
@@ -12,7 +10,7 @@ use lib.ListN.{length, getD, replicate, length-append, getD-replicate, List·get
 use lib.Seq.{getD-append-add, getD-append-seam}
 use Rattle.field.specs.Field.{raised, timesAlpha, power, powers, log, times, mul, orderTest}
 use Rattle.field.specs.Table.{each, logEntry, tableOf, polyOf, Field}
-use Rattle.field.proofs.Field.{Passes, passes, powers-length, powers-at, power-lt, power-log, mul-power, mul-lt, mul-comm, mul-assoc, mul-inverse, mul-one, times-pos, times-zero}
+use Rattle.field.proofs.Field.{Passes, passes, powers-length, powers-at, power-lt, power-log, mul-power, mul-comm, mul-assoc, mul-inverse, mul-one, times-zero}
 
 pub each-length : (n : ℕ) (f : ℕ → ℕ) → length (each n f) ≡ n
 unfolding each
@@ -27,14 +25,6 @@ each-at (suc n) f i h = elim (ℕ-discrete i n) [
       ap (λ (k : ℕ). getD (each n f ++ (f n ∷ [])) k 0) s ∙ getD-append-seam (each n f) (f n) [] 0 ∙ ap f (sym e))
   | no d ↦ List·getD-append (each n f) (f n ∷ []) 0 i (omega (arith, each-length n f)) ∙ each-at n f i (omega arith)
 ]
-
--- the product of two bytes that are not 0
-mul-pos : (poly a b : ℕ) → 0 < a → a < 256 → 0 < b → b < 256 → mul poly a b ≡ power poly (log poly a + log poly b)
-unfolding mul
-mul-pos poly a b pa ha pb hb =
-    let x : a % 256 ≡ a = omega arith in
-    let y : b % 256 ≡ b = omega arith in
-    ap₂ (times poly) x y ∙ times-pos poly a b pa pb
 
 pub mul-left-zero : (poly b : ℕ) → mul poly 0 b ≡ 0
 unfolding mul times

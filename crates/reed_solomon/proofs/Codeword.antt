@@ -1,7 +1,7 @@
 -- A block's values are its syndromes, and two codewords differ in more places than they have parity. Assumes nothing.
 use mathlib.Core.Path.{_≡_, refl, sym, ap, ap₂, _∙_, subst}
 use mathlib.Core.Bool.{Bool, true, false, _&&_}
-use mathlib.Core.List.{List, [], _∷_}
+use mathlib.Core.List.{List, _∷_}
 use Prim.Native.Nat.{ℕ, zero, suc, _+_, _%_, _≤_, _<_}
 use native.Mathlib.Omega.{arith}
 use lib.Dec.{T, eqb, eqb→eq}
@@ -9,7 +9,7 @@ use lib.ListN.{length, getD, drop, drop-of-length-le}
 use lib.Seq.{drop-cons, ext-getD}
 use lib.Bits.{xor-self}
 use Rattle.field.specs.Field.{power, mul, below}
-use Rattle.field.proofs.Field.{Passes, T-and, below-at, sum-lt}
+use Rattle.field.proofs.Field.{Passes, below-at, sum-lt}
 use Rattle.algebra.specs.Sum.{_⊕_, seq, horner, syndrome}
 use Rattle.algebra.proofs.Sum.{Null, add-zero-eq}
 use Rattle.algebra.proofs.Peel.{Out, syndrome-add, only-zero}

@@ -1,21 +1,19 @@
 -- What the syndromes say of a codeword in reach: the locator's roots are the places of the errors, and the errors are the quotients that
 -- the code computes. Assumes nothing.
-use mathlib.Core.Path.{_≡_, refl, sym, ap, ap₂, _∙_, subst}
+use mathlib.Core.Path.{_≡_, refl, sym, ap, _∙_, subst}
 use mathlib.Core.Logic.{_≢_}
-use mathlib.Core.List.{List, [], _∷_}
+use mathlib.Core.List.{List}
 use Prim.Native.Nat.{ℕ, zero, suc, _+_, _-_, _*_, _%_, _≤_, _<_}
 use native.Mathlib.Omega.{arith}
 use native.Mathlib.Decide.{ℕ-discrete}
-use lib.Dec.{T}
-use lib.ListN.{length, getD}
-use lib.Bits.{xor-self, xor-zero-r, xor-mod}
+use lib.ListN.{length}
+use lib.Bits.{xor-self, xor-zero-r}
 use Rattle.field.specs.Field.{power, mul}
-use Rattle.field.proofs.Field.{Passes, mul-lt, mul-comm, mul-assoc, sum-lt}
+use Rattle.field.proofs.Field.{Passes, mul-comm, mul-assoc, sum-lt}
 use Rattle.field.proofs.Field.{mul-sum as sum-mul}
-use Rattle.field.proofs.Entries.{mul-left-zero}
-use Rattle.algebra.specs.Sum.{_⊕_, seq, sum, horner, degree, locator, weight, syndrome}
-use Rattle.algebra.specs.Register.{discrepancy, Makes}
-use Rattle.algebra.proofs.Sum.{Null, sum-ext, sum-one, add-zero-eq}
+use Rattle.algebra.specs.Sum.{_⊕_, seq, horner, degree, locator, weight, syndrome}
+use Rattle.algebra.specs.Register.{Makes}
+use Rattle.algebra.proofs.Sum.{Null, null-add, sum-ext, sum-one, add-zero-eq}
 use Rattle.algebra.proofs.Peel.{Out, null-mul, null-div, power-alive, only-zero, apart}
 use Rattle.algebra.proofs.Register.{discrepancy-ext}
 use Rattle.algebra.proofs.Horner.{quotient, horner-one, horner-lt, quotient-law, convolution, discrepancy-value, few-roots}
@@ -26,9 +24,6 @@ use Rattle.reed_solomon.proofs.Search.{Bytes}
 use Rattle.reed_solomon.proofs.Distance.{places, places-length, differ-roots}
 use Rattle.reed_solomon.proofs.Codeword.{codeword-zero, difference, difference-null, difference-syndrome}
 use Rattle.reed_solomon.proofs.Nearest.{Near}
-
-null-add : (a b : ℕ) → Null a → Null b → Null (a ⊕ b)
-null-add a b x y = xor-mod a b 8 ∙ ap₂ _⊕_ x y
 
 module _ (poly : ℕ) (P : Passes poly) (first parity : ℕ) (w : List ℕ) (small : length w ≤ 255) (bw : Bytes w)
     (s f : List ℕ) (l : ℕ) (Y : Syndromes poly first parity w s) (F : Shortest poly s parity f l) where

@@ -1,14 +1,14 @@
 -- The codeword in reach of a block, and the parity of data: what each search finds. Assumes nothing.
-use mathlib.Core.Path.{_≡_, refl, sym, ap, _∙_, subst}
-use mathlib.Core.Bool.{Bool, true, false}
-use mathlib.Core.Option.{Option, none, some}
-use mathlib.Core.List.{List, [], _∷_, _++_}
-use Prim.Native.Nat.{ℕ, _+_, _/_, _≤_, _<_}
+use mathlib.Core.Path.{_≡_, sym, _∙_}
+use mathlib.Core.Bool.{Bool}
+use mathlib.Core.Option.{none, some}
+use mathlib.Core.List.{List}
+use Prim.Native.Nat.{ℕ, _+_, _/_, _≤_}
 use native.Mathlib.Omega.{arith}
 use lib.Dec.{T, leb, leb→le, le→leb}
-use lib.ListN.{length, getD, length-append}
+use lib.ListN.{length}
 use Rattle.field.proofs.Field.{Passes, T-and}
-use Rattle.reed_solomon.specs.Block.{isCodeword, distance, allWords, firstOf, inReach, nearest, parityOf}
+use Rattle.reed_solomon.specs.Block.{isCodeword, distance, inReach, nearest}
 use Rattle.reed_solomon.proofs.Search.{Bytes, Passing, found-passing, passing-none, passing-some}
 use Rattle.reed_solomon.proofs.Distance.{triangle}
 use Rattle.reed_solomon.proofs.Codeword.{both, near-equal}

@@ -1,13 +1,13 @@
 -- The terms of the locator from one place to the next: a step makes those of the next place of those of one, and their sum is the locator's
 -- value there. Assumes nothing.
-use mathlib.Core.Path.{_≡_, refl, sym, ap, ap₂, _∙_, subst}
+use mathlib.Core.Path.{_≡_, refl, sym, ap, _∙_}
 use mathlib.Core.List.{List}
-use Prim.Native.Nat.{ℕ, suc, _+_, _-_, _*_, _%_, _≤_, _<_}
+use Prim.Native.Nat.{ℕ, suc, _+_, _-_, _*_, _%_, _<_}
 use native.Mathlib.Omega.{arith}
 use lib.ListN.{length}
 use Rattle.field.specs.Field.{raised, power, mul}
 use Rattle.field.proofs.Field.{Passes, mul-assoc, mul-one, mul-power}
-use Rattle.algebra.specs.Sum.{seq, sum, horner, degree}
+use Rattle.algebra.specs.Sum.{seq, sum, degree}
 use Rattle.algebra.proofs.Sum.{sum-ext}
 use Rattle.algebra.proofs.Horner.{horner-sum, horner-lt}
 use Rattle.reed_solomon.specs.Inner.{Each, carried, Terms, locatorAt}

@@ -1,20 +1,20 @@
 -- What a customer may quote of blocks. Each holds for any polynomial that passes document 01's order test, any first root, and blocks of
 -- at most 255 bytes. Assumes nothing.
-use mathlib.Core.Path.{_≡_, sym}
+use mathlib.Core.Path.{_≡_}
 use mathlib.Core.Logic.{_≢_}
 use mathlib.Core.List.{List}
-use mathlib.Core.Option.{none, some}
-use Prim.Native.Nat.{ℕ, _+_, _≤_, _<_}
+use mathlib.Core.Option.{some}
+use Prim.Native.Nat.{ℕ, _+_, _≤_}
 use native.Mathlib.Omega.{arith}
 use native.Mathlib.Decide.{decLe}
 use lib.Dec.{T}
-use lib.ListN.{length, getD}
+use lib.ListN.{length}
 use Rattle.field.specs.Field.{orderTest}
 use Rattle.field.proofs.Field.{passes}
 use Rattle.reed_solomon.specs.Block.{isCodeword, distance, inReach, nearest}
-use Rattle.reed_solomon.proofs.Search.{Bytes, Passing}
+use Rattle.reed_solomon.proofs.Search.{Bytes}
 use Rattle.reed_solomon.proofs.Codeword.{near-equal}
-use Rattle.reed_solomon.proofs.Nearest.{Near, passing-near, near-one, some-near, near-none, near-some}
+use Rattle.reed_solomon.proofs.Nearest.{Near, passing-near, near-one, some-near, near-some}
 
 module _ (poly : ℕ) (test : T (orderTest poly)) (first parity : ℕ) where
   -- Two different codewords of one length and parity differ in at least parity + 1 places.

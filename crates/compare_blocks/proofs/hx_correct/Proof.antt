@@ -1,5 +1,5 @@
 -- `hx_correct` meets its contract: one case of the answer after the other. Assumes nothing.
-use mathlib.Core.Path.{_≡_, ap, sym, _∙_}
+use mathlib.Core.Path.{ap, sym, _∙_}
 use Rattle.corrector.specs.declared.Correction.{Correction}
 use Rattle.corrector.specs.Correct.{outcome, refused}
 use borrow.Author.Needs.{needs}

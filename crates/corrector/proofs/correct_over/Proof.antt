@@ -1,5 +1,5 @@
 -- `correct_over` meets its contract: the refusals 5 in their order, a block with no error, and one with errors. Assumes nothing.
-use mathlib.Core.Path.{refl, sym, _∙_}
+use mathlib.Core.Path.{sym, _∙_}
 use Rattle.field.proofs.Entries.{the-field}
 use Rattle.corrector.specs.Correct.{outcome}
 use Rattle.corrector.proofs.Settle.{unfit-refused, fit-settled, clean-settled}

@@ -1,5 +1,4 @@
 -- `field::han_xin` meets its contract: the table is computed anew and compared. Assumes nothing.
-use mathlib.Core.Path.{_≡_, refl}
 use Rattle.field.specs.Field.{timesAlpha, powers, find, log}
 use Rattle.field.specs.Table.{each, logEntry, tableOf}
 use Rattle.field.proofs.Entries.{field-of, poly-of-table}

@@ -1,5 +1,5 @@
 -- `errors::add` meets its contract. Assumes nothing.
-use mathlib.Core.Path.{_≡_, refl, subst}
+use mathlib.Core.Path.{_≡_, refl}
 use Prim.Native.Nat.{_≤_, _-_}
 use lib.ListN.{length}
 use Rattle.reed_solomon.specs.Inner.{Each, repaired}

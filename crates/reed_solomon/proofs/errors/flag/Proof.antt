@@ -1,6 +1,5 @@
 -- `errors::flag` meets its contract. Assumes nothing.
 use borrow.Author.Tests.{eq-eqb, ne-eqb}
-use mathlib.Core.Path.{sym}
 use Rattle.reed_solomon.specs.Inner.{zeroFlag}
 use Rattle.reed_solomon.proofs.errors.flag.Statement.{statement}
 use Rattle.reed_solomon.proofs.errors.flag.Tie as tie

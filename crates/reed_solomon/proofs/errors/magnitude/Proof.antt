@@ -3,8 +3,6 @@ use mathlib.Core.Path.{sym, _∙_}
 use Rattle.field.proofs.Entries.{the-field}
 use Rattle.reed_solomon.proofs.Magnitudes.{small-product, magnitude-none, magnitude-some}
 use native.Mathlib.Omega.{arith}
-use Prim.Native.Nat.{_≤_}
-use Rattle.field.specs.Table.{polyOf}
 use borrow.Author.Needs.{needs}
 use Rattle.reed_solomon.proofs.errors.magnitude.Statement.{statement}
 use Rattle.reed_solomon.proofs.errors.magnitude.Tie as tie

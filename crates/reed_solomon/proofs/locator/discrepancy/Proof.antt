@@ -1,6 +1,6 @@
 -- `locator::discrepancy` meets its contract: the sum, term by term. Assumes nothing.
 use mathlib.Core.Path.{_≡_, refl, sym, ap, ap₂, _∙_}
-use Prim.Native.Nat.{ℕ, suc, _≤_, _-_}
+use Prim.Native.Nat.{suc, _≤_, _-_}
 use lib.Bits.{bitXor}
 use Rattle.field.specs.Table.{polyOf}
 use Rattle.field.specs.Field.{mul}
