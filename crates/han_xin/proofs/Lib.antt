@@ -3,4 +3,6 @@ pub mod Refusals
 pub mod Modules
 pub mod Bytes
 pub mod Receipts
+pub mod Data
 pub mod Marks
+pub mod Demand

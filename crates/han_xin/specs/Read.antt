@@ -8,7 +8,7 @@ use lib.ListN.{length}
 use Rattle.symbol.specs.Version.{sideOf, isSide, sideVersion}
 use Rattle.symbol.specs.Layout.{layoutOf}
 use Rattle.information.specs.Information.{isInfo, copyOf, nearestLevel, nearestMask, nearestDistance}
-use Rattle.blocks.specs.Blocks.{totalOf, shapesOf, hasBlocks}
+use Rattle.blocks.specs.Blocks.{totalOf, shapesOf, hasBlocks, cut}
 use Rattle.codewords.specs.Codewords.{maskBit, streamIn}
 use Rattle.blockwise.specs.Blockwise.{refusalOf, countOf, corrected, dataOf}
 use Rattle.segments.specs.FromData.{Outcome, fromData}
@@ -52,6 +52,10 @@ distanceIn v sq = nearestDistance v (copyOf (sideOf v) false sq) (copyOf (sideOf
 -- the stream of a square of version v under a mask
 unfoldable pub streamFrom : ℕ → ℕ → List ℕ → List ℕ
 streamFrom v mask sq = streamIn (totalOf v) (maskBit (sideOf v) mask) (layoutOf v) sq
+
+-- "Words of demand 3": the blocks of a square, for a version, level and mask
+unfoldable pub blocksIn : ℕ → ℕ → ℕ → List ℕ → List (List ℕ)
+blocksIn v level mask sq = cut (shapesOf v level) (streamFrom v mask sq)
 
 -- 1 side not odd or not 23 to 189; 2 not s × s bytes; 3 a byte above 1; 4 distance above 10; 1 for a row or version as under Blocks
 unfoldable pub readRefusal : ℕ → List ℕ → ℕ

@@ -65,10 +65,13 @@ encodings-small (g ∷ gs) = append-small (encodingOf g) (encodings gs) (encodin
 pub padded-length : (n : ℕ) (gs : List Segment) → length (encodings gs) ≤ 8 * n → length (paddedBits n gs) ≡ 8 * n
 padded-length n gs h = length-append (encodings gs) (replicate (8 * n - length (encodings gs)) 0) ∙ rw length-replicate (omega arith)
 
+pub padded-small : (n : ℕ) (gs : List Segment) → (i : ℕ) → getD (paddedBits n gs) i 0 < 2
+padded-small n gs =
+    append-small (encodings gs) (replicate (8 * n - length (encodings gs)) 0) (encodings-small gs) (zeros-small (8 * n - length (encodings gs)))
+
 pub data-bits : (n : ℕ) (gs : List Segment) → length (encodings gs) ≤ 8 * n → bitsOf (dataOf n gs) ≡ paddedBits n gs
 data-bits n gs h =
-    bits-words n (paddedBits n gs) (padded-length n gs h)
-    (append-small (encodings gs) (replicate (8 * n - length (encodings gs)) 0) (encodings-small gs) (zeros-small (8 * n - length (encodings gs))))
+    bits-words n (paddedBits n gs) (padded-length n gs h) (padded-small n gs)
 
 pub data-length : (n : ℕ) (gs : List Segment) → length (encodings gs) ≤ 8 * n → length (dataOf n gs) ≡ n
 data-length n gs h =

@@ -1,5 +1,5 @@
 -- What a customer can quote of scripts.
-use mathlib.Core.Path.{_≡_, refl}
+use mathlib.Core.Path.{_≡_, refl, ap}
 use mathlib.Core.Bool.{Bool, true, false, cond}
 use mathlib.Core.List.{List, _++_}
 use Prim.Native.Nat.{ℕ, _+_, _-_, _*_, _<_, _≤_}
@@ -63,6 +63,16 @@ given-back : (s p : List ℕ) (n : ℕ) (gs : List Segment) (u : ℕ) (buffer ot
     ≡ record { refusal = 0; payloadLength = length p; scriptLength = length s; payload = p ++ drop (length p) buffer; script = s ++ drop (length s) other }
 given-back s p n gs u buffer other a d z m es ep o lp ls =
     rw (a, z, d, le-ltb 3886 n m, es, ep, ne-eqb (length p) 0 o, le-ltb (length buffer) (length p) lp, le-ltb (length other) (length s) ls)
+
+-- the encoding of what is accepted and fits n bytes has n bytes
+pub encoded-data : (s p : List ℕ) (n b : ℕ) → ((i : ℕ) → getD s i 0 < 256) → checkOf s p ≡ Bits b → b ≤ 8 * n → n ≤ 3886
+    → (gs : List Segment) × (encoded n (commandsOf s p) ≡ dataOf n gs) × (length (dataOf n gs) ≡ n)
+encoded-data s p n b h e l m =
+    let a = accepted s p b h e in
+    let gs = a .segments in
+    let g = a .again in
+    let k : length (encodings gs) ≤ 8 * n = rw (encodings-length gs (g .2) (a .have)) (uncapped b (bitsOfSegments gs) n (a .bits) l m) in
+    (gs, ap (encoded n) (a .are), data-length n gs k)
 
 -- ROUND TRIP. For every script and payload that the check accepts and whose bits fit a run of n bytes, at most 3,886: Segments from data
 -- of the encoding, with buffers long enough, gives exactly that script and payload.
