@@ -6,3 +6,5 @@ pub mod Receipts
 pub mod Data
 pub mod Marks
 pub mod Demand
+pub mod Settle
+pub mod Theorems
