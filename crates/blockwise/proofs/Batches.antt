@@ -70,28 +70,22 @@ row-total r =
     (total-append (batchAt r 1) (batchAt r 2) ∙ ap₂ _+_ (total-batch (getD r 3 0) (getD r 4 0) (getD r 5 0)) (total-batch (getD r 6 0) (getD r 7 0) (getD r 8 0)))
     ∙ omega arith
 
--- batch k has room behind those before it
-pub row-room : (r : List ℕ) (k : ℕ) → k < 3 → totalSize (batches k r) + totalSize (batchAt r k) ≤ rowLength r
+-- whatever adds up over blocks, batch k has room behind those before it
+pub batch-room : (f : List Shape → ℕ) → ((bs cs : List Shape) → f (bs ++ cs) ≡ f bs + f cs) → (r : List ℕ) (k : ℕ) → k < 3 → f (batches k r) + f (batchAt r k) ≤ f (shapes r)
 unfolding batches
-row-room r k h = go k h
+batch-room f add r k h = go k h
   where
-    all : totalSize (batches 3 r) ≡ rowLength r
-    all = ap totalSize (batches-all r) ∙ row-total r
+    all : f (batches 3 r) ≡ f (shapes r)
+    all = ap f (batches-all r)
 
-    two : totalSize (batches 3 r) ≡ totalSize (batches 2 r) + totalSize (batchAt r 2)
-    two = total-append (batches 2 r) (batchAt r 2)
-
-    one : totalSize (batches 2 r) ≡ totalSize (batches 1 r) + totalSize (batchAt r 1)
-    one = total-append (batches 1 r) (batchAt r 1)
-
-    none : totalSize (batches 1 r) ≡ totalSize (batches 0 r) + totalSize (batchAt r 0)
-    none = total-append (batches 0 r) (batchAt r 0)
-
-    go : (k : ℕ) → k < 3 → totalSize (batches k r) + totalSize (batchAt r k) ≤ rowLength r
-    go zero h = omega (arith, all, two, one, none)
-    go (suc zero) h = omega (arith, all, two, one)
-    go (suc (suc zero)) h = omega (arith, all, two)
+    go : (k : ℕ) → k < 3 → f (batches k r) + f (batchAt r k) ≤ f (shapes r)
+    go zero h = omega (arith, all, add (batches 2 r) (batchAt r 2), add (batches 1 r) (batchAt r 1), add (batches 0 r) (batchAt r 0))
+    go (suc zero) h = omega (arith, all, add (batches 2 r) (batchAt r 2), add (batches 1 r) (batchAt r 1))
+    go (suc (suc zero)) h = omega (arith, all, add (batches 2 r) (batchAt r 2))
     go (suc (suc (suc k))) h = absurd (omega arith)
+
+row-room : (r : List ℕ) (k : ℕ) → k < 3 → totalSize (batches k r) + totalSize (batchAt r k) ≤ rowLength r
+row-room r k h = omega (arith, batch-room totalSize total-append r k h, row-total r)
 
 -- the two cases of an answer
 pub accepted : (bs : List Shape) (a : ℕ) (s s′ : List ℕ) (r : Blocks) (n : ℕ) → r ≡ Corrected n → Corrects bs a s s′ r → Done bs a s s′ n
@@ -106,24 +100,24 @@ done-le bs a s s′ n D = omega (arith, D .count, count-le bs (drop a s))
 
 -- ---- one block more of a batch
 
-batch-split : (i m d p : ℕ) → batch (i + m) d p ≡ batch i d p ++ batch m d p
+pub batch-split : (i m d p : ℕ) → batch (i + m) d p ≡ batch i d p ++ batch m d p
 unfolding batch
 batch-split zero m d p = let e : 0 + m ≡ m = omega arith in ap (λ (k : ℕ). batch k d p) e
 batch-split (suc i) m d p = ap (λ (k : ℕ). batch k d p) (suc-add i m) ∙ ap (λ (bs : List Shape). record { info = d; parity = p } ∷ bs) (batch-split i m d p)
 
 -- a block before the last of n has room
-pub block-room : (i n d p : ℕ) → i < n → i * (d + p) + (d + p) ≤ n * (d + p)
-block-room i n d p h = let m : suc i * (d + p) ≤ n * (d + p) = mul-le-mul-right (d + p) h in omega (arith, m, suc-mul i (d + p))
+pub room : (i n m : ℕ) → i < n → i * m + m ≤ n * m
+room i n m h = let e : suc i * m ≤ n * m = mul-le-mul-right m h in omega (arith, e, suc-mul i m)
 
-module _ (d p a n : ℕ) (s₀ : List ℕ) (room : a + totalSize (batch n d p) ≤ length s₀) (i at m : ℕ) (s : List ℕ) (few : i < n) (place : at ≡ a + i * (d + p)) (D : Done (batch i d p) a s₀ s m) where
+module _ (d p a n : ℕ) (s₀ : List ℕ) (fits : a + totalSize (batch n d p) ≤ length s₀) (i at m : ℕ) (s : List ℕ) (few : i < n) (place : at ≡ a + i * (d + p)) (D : Done (batch i d p) a s₀ s m) where
   done-room : a + totalSize (batch i d p) ≤ length s₀
-  done-room = omega (arith, room, total-batch n d p, total-batch i d p, block-room i n d p few)
+  done-room = omega (arith, fits, total-batch n d p, total-batch i d p, room i n (d + p) few)
 
   here : a + totalSize (batch i d p) ≡ at
   here = omega (arith, place, total-batch i d p)
 
   pub block-in : at + (d + p) ≤ length s₀
-  block-in = omega (arith, place, room, total-batch n d p, block-room i n d p few)
+  block-in = omega (arith, place, fits, total-batch n d p, room i n (d + p) few)
 
   pub block-done : (s′ : List ℕ) (k : ℕ) → Done (batch 1 d p) at s s′ k → Done (batch (i + 1) d p) a s₀ s′ (m + k)
   block-done s′ k E =

@@ -1,10 +1,11 @@
 -- A part of a stream that is replaced, and a part behind it. Assumes nothing.
 use mathlib.Core.Path.{_≡_, refl, sym, ap, ap₂, _∙_}
 use mathlib.Core.List.{List, [], _∷_, _++_, append-assoc}
-use Prim.Native.Nat.{ℕ, _+_, _-_, _≤_}
+use Prim.Native.Nat.{ℕ, _+_, _-_, _≤_, _<_}
 use native.Mathlib.Omega.{arith}
-use lib.ListN.{length, take, drop, length-append, length-drop}
-use lib.Seq.{take-at, drop-at, drop-drop, length-take-le}
+use native.Mathlib.Numerals.{add-one}
+use lib.ListN.{length, take, drop, getD, set, length-append, length-drop}
+use lib.Seq.{take-at, drop-at, drop-drop, getD-drop, length-take-le, paste, paste-suc}
 use Rattle.blockwise.specs.Inner.{spliced}
 
 -- what a part that was lent comes back as
@@ -41,3 +42,16 @@ module _ (a n : ℕ) (xs s : List ℕ) (size : length xs ≡ n) (room : a + n �
       ap₂ (λ (x z : List ℕ). x ++ (ys ++ z)) spliced-front behind
       ∙ append-assoc (take a s) xs (ys ++ drop (a + (n + m)) s)
       ∙ ap (λ (l : List ℕ). take a s ++ l) (sym (append-assoc xs ys (drop (a + (n + m)) s)))
+
+-- a copy, byte by byte
+pub copy-more : (d s t : List ℕ) (to from i : ℕ) → d ≡ paste t to (drop from s) i → to + i < length t → from + i < length s
+    → set d (to + i) (getD s (from + i) 0) ≡ paste t to (drop from s) (i + 1)
+copy-more d s t to from i e h l =
+    ap₂ (λ (r : List ℕ) (x : ℕ). set r (to + i) x) e (sym (getD-drop from s i 0))
+    ∙ paste-suc t to (drop from s) i 0 h (omega (arith, length-drop from s)) ∙ ap (paste t to (drop from s)) (sym (add-one i))
+
+pub copy-end : (d s t : List ℕ) (to from i n : ℕ) → d ≡ paste t to (drop from s) i → i ≤ n → n ≤ i → d ≡ spliced to n (take n (drop from s)) t
+unfolding spliced
+copy-end d s t to from i n e lo hi =
+    let z : i ≡ n = omega arith in
+    e ∙ ap (paste t to (drop from s)) z ∙ append-assoc (take to t) (take n (drop from s)) (drop (to + n) t)

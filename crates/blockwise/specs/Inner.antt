@@ -2,9 +2,9 @@
 use mathlib.Core.Path.{_≡_}
 use mathlib.Core.List.{List, [], _++_}
 use Prim.Native.Nat.{ℕ, zero, suc, _+_, _*_}
-use lib.ListN.{take, drop, getD}
-use Rattle.blocks.specs.Blocks.{Shape, batch, totalSize, joined}
-use Rattle.blockwise.specs.Blockwise.{corrected, refusalOf, countOf, blocksOf}
+use lib.ListN.{length, take, drop, getD}
+use Rattle.blocks.specs.Blocks.{Shape, batch, totalSize, totalData, cut, joined, dataParts, cutData}
+use Rattle.blockwise.specs.Blockwise.{corrected, refusalOf, countOf, blocksOf, encoded}
 use Rattle.blockwise.specs.declared.Blocks.{Blocks}
 use Rattle.blockwise.specs.declared.Blocks.the-variants.{Corrected, Refused}
 
@@ -31,3 +31,13 @@ pub record Done (bs : List Shape) (a : ℕ) (s s′ : List ℕ) (n : ℕ) : Type
 abbrev pub Corrects : List Shape → ℕ → List ℕ → List ℕ → Blocks → Type 0
 Corrects bs a s s′ (Corrected n) = Done bs a s s′ n
 Corrects bs a s s′ Refused = refusalOf (corrected bs (drop a s)) ≡ 6
+
+-- the blocks of the data ds stand from a on
+pub record Writes (bs : List Shape) (a : ℕ) (ds s s′ : List ℕ) : Type 0 where
+  pub size : length s′ ≡ length s
+  pub stream : s′ ≡ spliced a (totalSize bs) (joined (encoded bs (cutData bs ds))) s
+
+-- the data parts of the blocks of the stream t stand from a on
+pub record Gathers (bs : List Shape) (a : ℕ) (t s s′ : List ℕ) : Type 0 where
+  pub size : length s′ ≡ length s
+  pub parts : s′ ≡ spliced a (totalData bs) (dataParts bs (cut bs t)) s

@@ -2,13 +2,17 @@
 // level: three batches of count, data, parity.
 ghost use mathlib.Core.Path.{_≡_};
 ghost use mathlib.Core.List.{[], _∷_, _++_};
-ghost use Prim.Native.Nat.{ℕ, _+_, _*_, _≤_, _<_};
+ghost use Prim.Native.Nat.{ℕ, _+_, _-_, _*_, _≤_, _<_};
 ghost use lib.Dec.{T};
 ghost use lib.ListN.{length, take, drop, getD};
 ghost use Rattle.field.specs.Table.{Field, polyOf};
-ghost use Rattle.blocks.specs.Blocks.{batchHolds, rowLength, rowHolds, batch, shapes, totalSize, joined};
-ghost use Rattle.blockwise.specs.Blockwise.{corrected, refusalOf, countOf, blocksOf, numberOf, correctionsOf};
-ghost use Rattle.blockwise.specs.Inner.{batchAt, Corrects};
+ghost use Rattle.algebra.specs.Sum.{seq};
+ghost use Rattle.reed_solomon.specs.Block.{parityOf};
+ghost use Rattle.parity.specs.Encode.{withParity};
+ghost use Rattle.parity.specs.Inner.{Generator};
+ghost use Rattle.blocks.specs.Blocks.{batchHolds, rowLength, rowHolds, batch, shapes, totalSize, totalData, cut, joined, dataParts};
+ghost use Rattle.blockwise.specs.Blockwise.{corrected, refusalOf, countOf, blocksOf, streamOf, numberOf, correctionsOf};
+ghost use Rattle.blockwise.specs.Inner.{batchAt, batches, spliced, Corrects, Writes, Gathers};
 use corrector::Correction;
 
 // What became of the blocks: the count of all corrections, or the refusal 6 of document 01.
@@ -102,4 +106,137 @@ pub fn correct_blocks(field: &[u16; 1280], stream: &mut [u8], row: &[u8]) -> Blo
         k += 1;
     }
     Blocks::Corrected(n)
+}
+
+// How many data codewords batch k of the row has.
+fn batch_data(row: &[u8], k: usize) -> usize
+    requires { ⌜ (length (now row) ≡ 9) × (k < 3) ⌝ }
+    ensures { λ r. ⌜ (r ≡ totalData (batchAt (now (row .entry)) k)) × (r ≤ 130050) ⌝ }
+{
+    number(row, 3 * k) * number(row, 3 * k + 1)
+}
+
+// Where batch k of the row begins in the stream.
+fn length_before(row: &[u8], k: usize) -> usize
+    requires { ⌜ (length (now row) ≡ 9) × (k ≤ 3) ⌝ }
+    ensures { λ r. ⌜ r ≡ totalSize (batches k (now (row .entry))) ⌝ }
+{
+    let mut n: usize = 0;
+    let mut i: usize = 0;
+    while i < k {
+        n += batch_length(row, i);
+        i += 1;
+    }
+    n
+}
+
+// Where it begins in the data.
+fn data_before(row: &[u8], k: usize) -> usize
+    requires { ⌜ (length (now row) ≡ 9) × (k ≤ 3) ⌝ }
+    ensures { λ r. ⌜ r ≡ totalData (batches k (now (row .entry))) ⌝ }
+{
+    let mut n: usize = 0;
+    let mut i: usize = 0;
+    while i < k {
+        n += batch_data(row, i);
+        i += 1;
+    }
+    n
+}
+
+// n bytes of src, from the place `from` on, written to dst from the place `to` on.
+fn copy(dst: &mut [u8], to: usize, src: &[u8], from: usize, n: usize)
+    requires { ⌜ (to + n ≤ length (now dst)) × (from + n ≤ length (now src)) ⌝ }
+    ensures { λ _. ⌜ now (dst .exit) ≡ spliced to n (take n (drop from (now (src .entry)))) (now (dst .entry)) ⌝ }
+{
+    let mut i: usize = 0;
+    while i < n {
+        dst[to + i] = src[from + i];
+        i += 1;
+    }
+}
+
+// The data parts of batch k of the row.
+fn gather_batch(out: &mut [u8], stream: &[u8], row: &[u8], k: usize)
+    requires { ⌜ (length (now row) ≡ 9) × (k < 3) × (rowLength (now row) ≤ length (now stream)) × (totalData (shapes (now row)) ≤ length (now out)) ⌝ }
+    ensures { λ _. ⌜ Gathers (batchAt (now (row .entry)) k) (totalData (batches k (now (row .entry)))) (drop (totalSize (batches k (now (row .entry)))) (now (stream .entry))) (now (out .entry)) (now (out .exit)) ⌝ }
+{
+    let count = number(row, 3 * k);
+    let info = number(row, 3 * k + 1);
+    let parity = number(row, 3 * k + 2);
+    let mut at = data_before(row, k);
+    let mut from = length_before(row, k);
+    let mut i: usize = 0;
+    while i < count {
+        copy(out, at, stream, from, info);
+        at += info;
+        from += info + parity;
+        i += 1;
+    }
+}
+
+// The data parts of all blocks of the stream, joined in block order at the front of out; the answer is their number.
+pub fn gather_data(out: &mut [u8], stream: &[u8], row: &[u8]) -> usize
+    requires { ⌜ (length (now row) ≡ 9) × (rowLength (now row) ≤ length (now stream)) × (totalData (shapes (now row)) ≤ length (now out)) ⌝ }
+    ensures { λ r. ⌜ (r ≡ totalData (shapes (now (row .entry)))) × (now (out .exit) ≡ dataParts (shapes (now (row .entry))) (cut (shapes (now (row .entry))) (now (stream .entry))) ++ drop r (now (out .entry))) ⌝ }
+{
+    let mut k: usize = 0;
+    while k < 3 {
+        gather_batch(out, stream, row, k);
+        k += 1;
+    }
+    data_before(row, 3)
+}
+
+// Data at the front of a block, and their parity behind them, whose generator is g.
+fn write_block(field: &[u16; 1280], g: &[u8], block: &mut [u8], info: &[u8])
+    requires { ⌜ Field (now field) × (polyOf (now field) ≡ 0x163) ⌝ }
+    requires { ⌜ (length (now info) ≤ length (now block)) × (length (now block) ≤ 255) × (length (now g) ≡ 256) × Generator 0x163 1 (length (now block) - length (now info)) (seq (now g)) ⌝ }
+    ensures { λ _. ⌜ now (block .exit) ≡ withParity (now (info .entry)) (parityOf 0x163 1 (length (now (block .entry)) - length (now (info .entry))) (now (info .entry))) ⌝ }
+{
+    let n = info.len();
+    copy(block, 0, info, 0, n);
+    parity::write_parity(field, g, block, n);
+}
+
+// The blocks of batch k of the row, their generator computed once.
+fn write_batch(field: &[u16; 1280], stream: &mut [u8], data: &[u8], row: &[u8], k: usize)
+    requires { ⌜ Field (now field) × (polyOf (now field) ≡ 0x163) ⌝ }
+    requires { ⌜ (length (now row) ≡ 9) × (k < 3) × T (rowHolds (now row) (rowLength (now row))) × (rowLength (now row) ≤ length (now stream)) × (totalData (shapes (now row)) ≤ length (now «data»)) ⌝ }
+    ensures { λ _. ⌜ Writes (batchAt (now (row .entry)) k) (totalSize (batches k (now (row .entry)))) (drop (totalData (batches k (now (row .entry)))) (now («data» .entry))) (now (stream .entry)) (now (stream .exit)) ⌝ }
+{
+    let count = number(row, 3 * k);
+    if count == 0 {
+        return;
+    }
+    let info = number(row, 3 * k + 1);
+    let parity = number(row, 3 * k + 2);
+    let g = parity::generator(field, 1, parity);
+    let mut at = data_before(row, k);
+    let mut from = length_before(row, k);
+    let mut i: usize = 0;
+    while i < count {
+        write_block(
+            field,
+            &g,
+            &mut stream[from..from + (info + parity)],
+            &data[at..at + info],
+        );
+        at += info;
+        from += info + parity;
+        i += 1;
+    }
+}
+
+// The stream of data codewords: each block's data followed by their parity.
+pub fn write_blocks(field: &[u16; 1280], stream: &mut [u8], data: &[u8], row: &[u8])
+    requires { ⌜ Field (now field) × (polyOf (now field) ≡ 0x163) ⌝ }
+    requires { ⌜ (length (now row) ≡ 9) × T (rowHolds (now row) (rowLength (now row))) × (rowLength (now row) ≤ length (now stream)) × (totalData (shapes (now row)) ≤ length (now «data»)) ⌝ }
+    ensures { λ _. ⌜ now (stream .exit) ≡ streamOf (shapes (now (row .entry))) (now («data» .entry)) ++ drop (rowLength (now (row .entry))) (now (stream .entry)) ⌝ }
+{
+    let mut k: usize = 0;
+    while k < 3 {
+        write_batch(field, stream, data, row, k);
+        k += 1;
+    }
 }

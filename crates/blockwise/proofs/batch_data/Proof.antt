@@ -1,0 +1,42 @@
+-- `batch_data` meets its contract: count times the data of a block. Assumes nothing.
+use mathlib.Core.Path.{_≡_, sym, ap₂, _∙_}
+use Prim.Native.Nat.{ℕ, _*_, _≤_}
+use native.Mathlib.Nat.{mul-le-mul}
+use native.Mathlib.Omega.{arith}
+use Rattle.blockwise.proofs.Makes.{data-batch}
+use borrow.Author.Needs.{needs}
+use Rattle.blockwise.proofs.batch_data.Statement.{statement}
+use Rattle.blockwise.proofs.batch_data.Tie as tie
+
+mul-number : tie.Need-mul-number
+mul-number c = search needs
+
+number-requires : tie.Need-number-requires
+number-requires c κs = search needs
+
+mul-number-2 : tie.Need-mul-number-2
+mul-number-2 c = search needs
+
+add-number : tie.Need-add-number
+add-number c = search needs
+
+number-requires-2 : tie.Need-number-requires-2
+number-requires-2 c κs = search needs
+
+mul-result : tie.Need-mul-result
+mul-result c = omega (arith, mul-le-mul (c .before .number .ensures .1) (c .number2 .ensures .1))
+
+returns : tie.Need-returns
+returns c = (ap₂ _*_ (c .before .number .ensures .0) (c .number2 .ensures .0) ∙ sym (data-batch _ _ _), omega (arith, mul-le-mul (c .before .number .ensures .1) (c .number2 .ensures .1)))
+
+pub batch-data-spec : {M : Type 1} → statement M
+batch-data-spec =
+    tie.close
+    (tie.spec
+    mul-number
+    number-requires
+    mul-number-2
+    add-number
+    number-requires-2
+    mul-result
+    returns)

@@ -1,0 +1,56 @@
+-- `gather_data` meets its contract: the data of one batch more in each turn. Assumes nothing.
+use mathlib.Core.Path.{_≡_, refl, _∙_}
+use Prim.Native.Nat.{_-_, _≤_}
+use native.Mathlib.Omega.{arith}
+use lib.ListN.{length}
+use Rattle.blockwise.specs.Inner.{batches, Gathers}
+use Rattle.blockwise.proofs.Makes.{gathers-none, gathers-batch, gathers-row}
+use borrow.Author.Needs.{needs}
+use Rattle.blockwise.proofs.gather_data.Statement.{statement}
+use Rattle.blockwise.proofs.gather_data.Tie as tie
+
+abbrev Inv-loop : tie.InvT-loop
+Inv-loop out₀ stream row k₀ out k = (k ≤ 3) × Gathers (batches k row) 0 stream out₀ out
+
+abbrev μ-loop : tie.MeasureT-loop
+μ-loop out₀ stream row k₀ out k = 3 - k
+
+loop-holds : tie.Need-loop-holds Inv-loop μ-loop
+unfolding batches
+loop-holds c = (omega arith, gathers-none _ _ _)
+
+gather-batch-requires : tie.Need-gather-batch-requires Inv-loop μ-loop
+gather-batch-requires c κs = (c .before .before .before .before .before .before .pre .0, c .before .loop-test .taken, c .before .before .before .before .before .before .pre .1, omega (arith, c .before .before .before .before .before .before .pre .2, c .before .before .loop .inv .1 .size))
+
+add-k : tie.Need-add-k Inv-loop μ-loop
+add-k c = search needs
+
+loop-less : tie.Need-loop-less Inv-loop μ-loop
+loop-less c = search needs
+
+loop-again : tie.Need-loop-again Inv-loop μ-loop
+loop-again c = (omega arith, gathers-batch (c .before .before .before .before .before .before .before .before .before .args .row .now) (c .before .before .before .before .before .loop .k) (c .before .before .before .before .loop-test .taken) (c .before .before .before .before .before .before .before .before .before .args .stream .now) _ _ _ (c .before .before .before .before .before .before .before .before .before .pre .2) (c .before .before .before .before .before .loop .inv .1) (c .before .before .gather-batch .ensures))
+
+data-before-requires : tie.Need-data-before-requires Inv-loop μ-loop
+data-before-requires c κs = (c .before .before .before .before .before .pre .0, omega arith)
+
+same-length : tie.Need-same-length Inv-loop μ-loop
+same-length c = c .before .before .loop .inv .1 .size
+
+returns : tie.Need-returns Inv-loop μ-loop
+returns c = gathers-row (c .before .before .before .before .before .before .args .row .now) (c .before .before .loop .k) (c .before .before .loop .inv .0) (omega arith) (c .before .before .before .before .before .before .args .stream .now) _ _ _ (c .data-before .ensures) (c .before .before .loop .inv .1)
+
+pub gather-data-spec : {M : Type 1} → statement M
+gather-data-spec =
+    tie.close
+    (tie.spec
+    Inv-loop
+    μ-loop
+    loop-holds
+    gather-batch-requires
+    add-k
+    loop-less
+    loop-again
+    data-before-requires
+    same-length
+    returns)

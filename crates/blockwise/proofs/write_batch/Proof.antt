@@ -1,0 +1,170 @@
+-- `write_batch` meets its contract: one block more in each turn. Assumes nothing.
+use mathlib.Core.Path.{_≡_, refl, sym, ap₂, _∙_}
+use Prim.Native.Nat.{ℕ, _+_, _-_, _*_, _≤_, _<_}
+use native.Mathlib.Omega.{arith}
+use lib.ListN.{length, take, drop}
+use Rattle.blocks.specs.Blocks.{batch, totalSize, totalData}
+use Rattle.blockwise.specs.Inner.{batches, Writes}
+use Rattle.blockwise.proofs.Batches.{batch-is, numbers-fit, row-batch}
+use Rattle.blockwise.proofs.Makes.{writes-none, writes-zero, stream-room, data-room, part-length, one-written, generator-as, writes-next, writes-end}
+use borrow.Author.Needs.{needs}
+use Rattle.blockwise.proofs.write_batch.Statement.{statement}
+use Rattle.blockwise.proofs.write_batch.Tie as tie
+
+abbrev Inv-loop : tie.InvT-loop
+Inv-loop field stream₀ «data» row k count info parity g at₀ from₀ i₀ stream at from i = (i ≤ count) × (at ≡ totalData (batches k row) + i * info) × (from ≡ totalSize (batches k row) + i * (info + parity)) × Writes (batch i info parity) (totalSize (batches k row)) (drop (totalData (batches k row)) «data») stream₀ stream
+
+abbrev μ-loop : tie.MeasureT-loop
+μ-loop field stream₀ «data» row k count info parity g at₀ from₀ i₀ stream at from i = count - i
+
+mul-number : tie.Need-mul-number Inv-loop μ-loop
+mul-number c = search needs
+
+number-requires : tie.Need-number-requires Inv-loop μ-loop
+number-requires c κs = search needs
+
+returns : tie.Need-returns Inv-loop μ-loop
+returns c = writes-zero (c .before .before .before .before .before .args .row .now) (c .before .before .before .before .before .args .k) _ _ _ _ (c .before .number .ensures .0) (c .if1 .taken)
+
+mul-number-2 : tie.Need-mul-number-2 Inv-loop μ-loop
+mul-number-2 c = search needs
+
+add-number : tie.Need-add-number Inv-loop μ-loop
+add-number c = search needs
+
+number-requires-2 : tie.Need-number-requires-2 Inv-loop μ-loop
+number-requires-2 c κs = search needs
+
+mul-number-3 : tie.Need-mul-number-3 Inv-loop μ-loop
+mul-number-3 c = search needs
+
+add-number-2 : tie.Need-add-number-2 Inv-loop μ-loop
+add-number-2 c = search needs
+
+number-requires-3 : tie.Need-number-requires-3 Inv-loop μ-loop
+number-requires-3 c κs = search needs
+
+generator-requires : tie.Need-generator-requires Inv-loop μ-loop
+generator-requires c κs =
+    let q = numbers-fit (c .before .before .before .before .before .before .before .args .row .now) (c .before .before .before .before .before .before .before .args .k) (c .before .before .before .number .result) (c .before .number2 .result) (c .number3 .result) (c .before .before .before .number .ensures .0) (c .before .number2 .ensures .0) (c .number3 .ensures .0) (row-batch _ _ (c .before .before .before .before .before .before .before .pre .1 .2) (c .before .before .before .before .before .before .before .args .k) (c .before .before .before .before .before .before .before .pre .1 .1)) (let z = c .before .before .if1 .left in omega arith) in
+    (c .before .before .before .before .before .before .before .pre .0 .0, (omega arith, omega (arith, q .0, q .2)))
+
+data-before-requires : tie.Need-data-before-requires Inv-loop μ-loop
+data-before-requires c κs = (c .before .before .before .before .before .before .before .before .pre .1 .0, omega (arith, c .before .before .before .before .before .before .before .before .pre .1 .1))
+
+length-before-requires : tie.Need-length-before-requires Inv-loop μ-loop
+length-before-requires c κs = (c .before .before .before .before .before .before .before .before .before .pre .1 .0, omega (arith, c .before .before .before .before .before .before .before .before .before .pre .1 .1))
+
+loop-holds : tie.Need-loop-holds Inv-loop μ-loop
+unfolding batch
+loop-holds c = (omega arith, omega (arith, c .before .data-before .ensures), omega (arith, c .length-before .ensures), writes-none _ _ _)
+
+slice-aggregate-write-block : tie.Need-slice-aggregate-write-block Inv-loop μ-loop
+slice-aggregate-write-block c = search needs
+
+add-write-block : tie.Need-add-write-block Inv-loop μ-loop
+add-write-block c = search needs
+
+add-write-block-2 : tie.Need-add-write-block-2 Inv-loop μ-loop
+add-write-block-2 c = omega (arith, c .before .before .loop .inv .2, c .before .before .loop .inv .3 .size, c .before .before .before .before .before .before .before .before .before .before .before .before .before .pre .1 .3, stream-room (c .before .before .before .before .before .before .before .before .before .before .before .before .before .args .row .now) (c .before .before .before .before .before .before .before .before .before .before .before .before .before .args .k) (c .before .before .before .before .before .before .before .before .before .number .result) (c .before .before .before .before .before .before .before .number2 .result) (c .before .before .before .before .before .before .number3 .result) (c .before .before .before .before .before .before .before .before .before .before .before .before .before .pre .1 .1) (c .before .before .before .before .before .before .before .before .before .number .ensures .0) (c .before .before .before .before .before .before .before .number2 .ensures .0) (c .before .before .before .before .before .before .number3 .ensures .0) (c .before .before .loop .i) (c .before .loop-test .taken))
+
+sub-write-block : tie.Need-sub-write-block Inv-loop μ-loop
+sub-write-block c = search needs
+
+part-write-block-start : tie.Need-part-write-block-start Inv-loop μ-loop
+part-write-block-start c = omega (arith, c .before .before .loop .inv .2, c .before .before .loop .inv .3 .size, c .before .before .before .before .before .before .before .before .before .before .before .before .before .pre .1 .3, stream-room (c .before .before .before .before .before .before .before .before .before .before .before .before .before .args .row .now) (c .before .before .before .before .before .before .before .before .before .before .before .before .before .args .k) (c .before .before .before .before .before .before .before .before .before .number .result) (c .before .before .before .before .before .before .before .number2 .result) (c .before .before .before .before .before .before .number3 .result) (c .before .before .before .before .before .before .before .before .before .before .before .before .before .pre .1 .1) (c .before .before .before .before .before .before .before .before .before .number .ensures .0) (c .before .before .before .before .before .before .before .number2 .ensures .0) (c .before .before .before .before .before .before .number3 .ensures .0) (c .before .before .loop .i) (c .before .loop-test .taken))
+
+part-write-block-end : tie.Need-part-write-block-end Inv-loop μ-loop
+part-write-block-end c = omega (arith, c .before .before .loop .inv .2, c .before .before .loop .inv .3 .size, c .before .before .before .before .before .before .before .before .before .before .before .before .before .pre .1 .3, stream-room (c .before .before .before .before .before .before .before .before .before .before .before .before .before .args .row .now) (c .before .before .before .before .before .before .before .before .before .before .before .before .before .args .k) (c .before .before .before .before .before .before .before .before .before .number .result) (c .before .before .before .before .before .before .before .number2 .result) (c .before .before .before .before .before .before .number3 .result) (c .before .before .before .before .before .before .before .before .before .before .before .before .before .pre .1 .1) (c .before .before .before .before .before .before .before .before .before .number .ensures .0) (c .before .before .before .before .before .before .before .number2 .ensures .0) (c .before .before .before .before .before .before .number3 .ensures .0) (c .before .before .loop .i) (c .before .loop-test .taken))
+
+add-write-block-3 : tie.Need-add-write-block-3 Inv-loop μ-loop
+add-write-block-3 c = omega (arith, c .before .before .before .loop .inv .1, c .before .before .before .before .before .before .before .before .before .before .before .before .before .before .pre .1 .4, data-room (c .before .before .before .before .before .before .before .before .before .before .before .before .before .before .args .row .now) (c .before .before .before .before .before .before .before .before .before .before .before .before .before .before .args .k) (c .before .before .before .before .before .before .before .before .before .before .number .result) (c .before .before .before .before .before .before .before .before .number2 .result) (c .before .before .before .before .before .before .before .number3 .result) (c .before .before .before .before .before .before .before .before .before .before .before .before .before .before .pre .1 .1) (c .before .before .before .before .before .before .before .before .before .before .number .ensures .0) (c .before .before .before .before .before .before .before .before .number2 .ensures .0) (c .before .before .before .before .before .before .before .number3 .ensures .0) (c .before .before .before .loop .i) (c .before .before .loop-test .taken))
+
+sub-write-block-2 : tie.Need-sub-write-block-2 Inv-loop μ-loop
+sub-write-block-2 c = search needs
+
+part-write-block-start-2 : tie.Need-part-write-block-start-2 Inv-loop μ-loop
+part-write-block-start-2 c = omega (arith, c .before .before .before .loop .inv .1, c .before .before .before .before .before .before .before .before .before .before .before .before .before .before .pre .1 .4, data-room (c .before .before .before .before .before .before .before .before .before .before .before .before .before .before .args .row .now) (c .before .before .before .before .before .before .before .before .before .before .before .before .before .before .args .k) (c .before .before .before .before .before .before .before .before .before .before .number .result) (c .before .before .before .before .before .before .before .before .number2 .result) (c .before .before .before .before .before .before .before .number3 .result) (c .before .before .before .before .before .before .before .before .before .before .before .before .before .before .pre .1 .1) (c .before .before .before .before .before .before .before .before .before .before .number .ensures .0) (c .before .before .before .before .before .before .before .before .number2 .ensures .0) (c .before .before .before .before .before .before .before .number3 .ensures .0) (c .before .before .before .loop .i) (c .before .before .loop-test .taken))
+
+part-write-block-end-2 : tie.Need-part-write-block-end-2 Inv-loop μ-loop
+part-write-block-end-2 c = omega (arith, c .before .before .before .loop .inv .1, c .before .before .before .before .before .before .before .before .before .before .before .before .before .before .pre .1 .4, data-room (c .before .before .before .before .before .before .before .before .before .before .before .before .before .before .args .row .now) (c .before .before .before .before .before .before .before .before .before .before .before .before .before .before .args .k) (c .before .before .before .before .before .before .before .before .before .before .number .result) (c .before .before .before .before .before .before .before .before .number2 .result) (c .before .before .before .before .before .before .before .number3 .result) (c .before .before .before .before .before .before .before .before .before .before .before .before .before .before .pre .1 .1) (c .before .before .before .before .before .before .before .before .before .before .number .ensures .0) (c .before .before .before .before .before .before .before .before .number2 .ensures .0) (c .before .before .before .before .before .before .before .number3 .ensures .0) (c .before .before .before .loop .i) (c .before .before .loop-test .taken))
+
+write-block-requires : tie.Need-write-block-requires Inv-loop μ-loop
+write-block-requires c κs =
+    let d = c .before .before .before .before .before .before .before .before .before .number2 .result in
+    let p = c .before .before .before .before .before .before .before .before .number3 .result in
+    let l = c .before .before .before .before .loop in
+    let q = numbers-fit (c .before .before .before .before .before .before .before .before .before .before .before .before .before .before .before .args .row .now) (c .before .before .before .before .before .before .before .before .before .before .before .before .before .before .before .args .k) (c .before .before .before .before .before .before .before .before .before .before .before .number .result) (c .before .before .before .before .before .before .before .before .before .number2 .result) (c .before .before .before .before .before .before .before .before .number3 .result) (c .before .before .before .before .before .before .before .before .before .before .before .number .ensures .0) (c .before .before .before .before .before .before .before .before .before .number2 .ensures .0) (c .before .before .before .before .before .before .before .before .number3 .ensures .0) (row-batch _ _ (c .before .before .before .before .before .before .before .before .before .before .before .before .before .before .before .pre .1 .2) (c .before .before .before .before .before .before .before .before .before .before .before .before .before .before .before .args .k) (c .before .before .before .before .before .before .before .before .before .before .before .before .before .before .before .pre .1 .1)) (omega arith) in
+    let m = part-length (l .from) (l .from + (d + p)) (d + p) (l .stream) refl (omega (arith, c .before .before .before .before .loop .inv .2, c .before .before .before .before .loop .inv .3 .size, c .before .before .before .before .before .before .before .before .before .before .before .before .before .before .before .pre .1 .3, stream-room (c .before .before .before .before .before .before .before .before .before .before .before .before .before .before .before .args .row .now) (c .before .before .before .before .before .before .before .before .before .before .before .before .before .before .before .args .k) (c .before .before .before .before .before .before .before .before .before .before .before .number .result) (c .before .before .before .before .before .before .before .before .before .number2 .result) (c .before .before .before .before .before .before .before .before .number3 .result) (c .before .before .before .before .before .before .before .before .before .before .before .before .before .before .before .pre .1 .1) (c .before .before .before .before .before .before .before .before .before .before .before .number .ensures .0) (c .before .before .before .before .before .before .before .before .before .number2 .ensures .0) (c .before .before .before .before .before .before .before .before .number3 .ensures .0) (c .before .before .before .before .loop .i) (c .before .before .before .loop-test .taken))) in
+    let n = part-length (l .at) (l .at + d) d (c .before .before .before .before .before .before .before .before .before .before .before .before .before .before .before .args .«data» .now) refl (omega (arith, c .before .before .before .before .loop .inv .1, c .before .before .before .before .before .before .before .before .before .before .before .before .before .before .before .pre .1 .4, data-room (c .before .before .before .before .before .before .before .before .before .before .before .before .before .before .before .args .row .now) (c .before .before .before .before .before .before .before .before .before .before .before .before .before .before .before .args .k) (c .before .before .before .before .before .before .before .before .before .before .before .number .result) (c .before .before .before .before .before .before .before .before .before .number2 .result) (c .before .before .before .before .before .before .before .before .number3 .result) (c .before .before .before .before .before .before .before .before .before .before .before .before .before .before .before .pre .1 .1) (c .before .before .before .before .before .before .before .before .before .before .before .number .ensures .0) (c .before .before .before .before .before .before .before .before .before .number2 .ensures .0) (c .before .before .before .before .before .before .before .before .number3 .ensures .0) (c .before .before .before .before .loop .i) (c .before .before .before .loop-test .taken))) in
+    let e : p ≡ length (take (l .from + (d + p) - l .from) (drop (l .from) (l .stream))) - length (take (l .at + d - l .at) (drop (l .at) (c .before .before .before .before .before .before .before .before .before .before .before .before .before .before .before .args .«data» .now))) = omega (arith, m, n) in
+    (c .before .before .before .before .before .before .before .before .before .before .before .before .before .before .before .pre .0, (omega (arith, m, n), omega (arith, m, q .2), c .before .before .before .before .before .before .before .generator .ensures .0, generator-as _ _ _ _ _ (c .before .before .before .before .before .before .before .before .before .before .before .before .before .before .before .pre .0 .1) e (c .before .before .before .before .before .before .before .generator .ensures .1)))
+
+add-at : tie.Need-add-at Inv-loop μ-loop
+add-at c = omega (arith, c .before .before .before .before .before .before .before .loop .inv .1, c .before .before .before .before .before .before .before .before .before .before .before .before .before .before .before .before .before .before .pre .1 .4, data-room (c .before .before .before .before .before .before .before .before .before .before .before .before .before .before .before .before .before .before .args .row .now) (c .before .before .before .before .before .before .before .before .before .before .before .before .before .before .before .before .before .before .args .k) (c .before .before .before .before .before .before .before .before .before .before .before .before .before .before .number .result) (c .before .before .before .before .before .before .before .before .before .before .before .before .number2 .result) (c .before .before .before .before .before .before .before .before .before .before .before .number3 .result) (c .before .before .before .before .before .before .before .before .before .before .before .before .before .before .before .before .before .before .pre .1 .1) (c .before .before .before .before .before .before .before .before .before .before .before .before .before .before .number .ensures .0) (c .before .before .before .before .before .before .before .before .before .before .before .before .number2 .ensures .0) (c .before .before .before .before .before .before .before .before .before .before .before .number3 .ensures .0) (c .before .before .before .before .before .before .before .loop .i) (c .before .before .before .before .before .before .loop-test .taken))
+
+add-from : tie.Need-add-from Inv-loop μ-loop
+add-from c = omega (arith, c .before .before .before .before .before .before .before .loop .inv .2, c .before .before .before .before .before .before .before .loop .inv .3 .size, c .before .before .before .before .before .before .before .before .before .before .before .before .before .before .before .before .before .before .pre .1 .3, stream-room (c .before .before .before .before .before .before .before .before .before .before .before .before .before .before .before .before .before .before .args .row .now) (c .before .before .before .before .before .before .before .before .before .before .before .before .before .before .before .before .before .before .args .k) (c .before .before .before .before .before .before .before .before .before .before .before .before .before .before .number .result) (c .before .before .before .before .before .before .before .before .before .before .before .before .number2 .result) (c .before .before .before .before .before .before .before .before .before .before .before .number3 .result) (c .before .before .before .before .before .before .before .before .before .before .before .before .before .before .before .before .before .before .pre .1 .1) (c .before .before .before .before .before .before .before .before .before .before .before .before .before .before .number .ensures .0) (c .before .before .before .before .before .before .before .before .before .before .before .before .number2 .ensures .0) (c .before .before .before .before .before .before .before .before .before .before .before .number3 .ensures .0) (c .before .before .before .before .before .before .before .loop .i) (c .before .before .before .before .before .before .loop-test .taken))
+
+add-from-2 : tie.Need-add-from-2 Inv-loop μ-loop
+add-from-2 c = omega (arith, c .before .before .before .before .before .before .before .loop .inv .2, c .before .before .before .before .before .before .before .loop .inv .3 .size, c .before .before .before .before .before .before .before .before .before .before .before .before .before .before .before .before .before .before .pre .1 .3, stream-room (c .before .before .before .before .before .before .before .before .before .before .before .before .before .before .before .before .before .before .args .row .now) (c .before .before .before .before .before .before .before .before .before .before .before .before .before .before .before .before .before .before .args .k) (c .before .before .before .before .before .before .before .before .before .before .before .before .before .before .number .result) (c .before .before .before .before .before .before .before .before .before .before .before .before .number2 .result) (c .before .before .before .before .before .before .before .before .before .before .before .number3 .result) (c .before .before .before .before .before .before .before .before .before .before .before .before .before .before .before .before .before .before .pre .1 .1) (c .before .before .before .before .before .before .before .before .before .before .before .before .before .before .number .ensures .0) (c .before .before .before .before .before .before .before .before .before .before .before .before .number2 .ensures .0) (c .before .before .before .before .before .before .before .before .before .before .before .number3 .ensures .0) (c .before .before .before .before .before .before .before .loop .i) (c .before .before .before .before .before .before .loop-test .taken))
+
+add-i : tie.Need-add-i Inv-loop μ-loop
+add-i c = search needs
+
+loop-less : tie.Need-loop-less Inv-loop μ-loop
+loop-less c = search needs
+
+loop-again : tie.Need-loop-again Inv-loop μ-loop
+loop-again c = (
+  omega arith,
+  omega (arith, c .before .before .before .before .before .before .before .loop .inv .1),
+  omega (arith, c .before .before .before .before .before .before .before .loop .inv .2),
+  writes-next (c .before .before .before .before .before .before .before .before .before .before .before .before .number2 .result) (c .before .before .before .before .before .before .before .before .before .before .before .number3 .result) (c .before .before .before .before .before .before .before .loop .i) _ (totalData (batches (c .before .before .before .before .before .before .before .before .before .before .before .before .before .before .before .before .before .before .args .k) (c .before .before .before .before .before .before .before .before .before .before .before .before .before .before .before .before .before .before .args .row .now))) (c .before .before .before .before .before .before .before .before .before .before .before .before .before .before .before .before .before .before .args .«data» .now) (c .before .before .before .before .before .before .before .loop .from) (c .before .before .before .before .before .before .before .loop .at) _ _ _ (c .before .before .before .before .before .before .before .loop .inv .2) (c .before .before .before .before .before .before .before .loop .inv .1) (omega (arith, c .before .before .before .before .before .before .before .loop .inv .2, c .before .before .before .before .before .before .before .loop .inv .3 .size, c .before .before .before .before .before .before .before .before .before .before .before .before .before .before .before .before .before .before .pre .1 .3, stream-room (c .before .before .before .before .before .before .before .before .before .before .before .before .before .before .before .before .before .before .args .row .now) (c .before .before .before .before .before .before .before .before .before .before .before .before .before .before .before .before .before .before .args .k) (c .before .before .before .before .before .before .before .before .before .before .before .before .before .before .number .result) (c .before .before .before .before .before .before .before .before .before .before .before .before .number2 .result) (c .before .before .before .before .before .before .before .before .before .before .before .number3 .result) (c .before .before .before .before .before .before .before .before .before .before .before .before .before .before .before .before .before .before .pre .1 .1) (c .before .before .before .before .before .before .before .before .before .before .before .before .before .before .number .ensures .0) (c .before .before .before .before .before .before .before .before .before .before .before .before .number2 .ensures .0) (c .before .before .before .before .before .before .before .before .before .before .before .number3 .ensures .0) (c .before .before .before .before .before .before .before .loop .i) (c .before .before .before .before .before .before .loop-test .taken))) (c .before .before .before .before .before .before .before .loop .inv .3)
+      (one-written (c .before .before .before .before .before .before .before .before .before .before .before .before .number2 .result) (c .before .before .before .before .before .before .before .before .before .before .before .number3 .result) (c .before .before .before .before .before .before .before .loop .from) _ (c .before .before .before .before .before .before .before .loop .at) _ (c .before .before .before .before .before .before .before .before .before .before .before .before .before .before .before .before .before .before .args .«data» .now) (c .before .before .before .before .before .before .before .loop .stream) (c .before .before .write-block .last .1 .1 .0) refl refl (omega (arith, c .before .before .before .before .before .before .before .loop .inv .2, c .before .before .before .before .before .before .before .loop .inv .3 .size, c .before .before .before .before .before .before .before .before .before .before .before .before .before .before .before .before .before .before .pre .1 .3, stream-room (c .before .before .before .before .before .before .before .before .before .before .before .before .before .before .before .before .before .before .args .row .now) (c .before .before .before .before .before .before .before .before .before .before .before .before .before .before .before .before .before .before .args .k) (c .before .before .before .before .before .before .before .before .before .before .before .before .before .before .number .result) (c .before .before .before .before .before .before .before .before .before .before .before .before .number2 .result) (c .before .before .before .before .before .before .before .before .before .before .before .number3 .result) (c .before .before .before .before .before .before .before .before .before .before .before .before .before .before .before .before .before .before .pre .1 .1) (c .before .before .before .before .before .before .before .before .before .before .before .before .before .before .number .ensures .0) (c .before .before .before .before .before .before .before .before .before .before .before .before .number2 .ensures .0) (c .before .before .before .before .before .before .before .before .before .before .before .number3 .ensures .0) (c .before .before .before .before .before .before .before .loop .i) (c .before .before .before .before .before .before .loop-test .taken))) (omega (arith, c .before .before .before .before .before .before .before .loop .inv .1, c .before .before .before .before .before .before .before .before .before .before .before .before .before .before .before .before .before .before .pre .1 .4, data-room (c .before .before .before .before .before .before .before .before .before .before .before .before .before .before .before .before .before .before .args .row .now) (c .before .before .before .before .before .before .before .before .before .before .before .before .before .before .before .before .before .before .args .k) (c .before .before .before .before .before .before .before .before .before .before .before .before .before .before .number .result) (c .before .before .before .before .before .before .before .before .before .before .before .before .number2 .result) (c .before .before .before .before .before .before .before .before .before .before .before .number3 .result) (c .before .before .before .before .before .before .before .before .before .before .before .before .before .before .before .before .before .before .pre .1 .1) (c .before .before .before .before .before .before .before .before .before .before .before .before .before .before .number .ensures .0) (c .before .before .before .before .before .before .before .before .before .before .before .before .number2 .ensures .0) (c .before .before .before .before .before .before .before .before .before .before .before .number3 .ensures .0) (c .before .before .before .before .before .before .before .loop .i) (c .before .before .before .before .before .before .loop-test .taken))) (c .before .before .write-block .kept .1 .1 .0) (c .before .before .write-block .ensures)),
+)
+
+same-length : tie.Need-same-length Inv-loop μ-loop
+same-length c = c .before .loop .inv .3 .size
+
+returns-2 : tie.Need-returns-2 Inv-loop μ-loop
+returns-2 c = writes-end (c .before .before .before .before .before .before .number2 .result) (c .before .before .before .before .before .number3 .result) (c .before .loop .i) _ (totalData (batches (c .before .before .before .before .before .before .before .before .before .before .before .before .args .k) (c .before .before .before .before .before .before .before .before .before .before .before .before .args .row .now))) (c .before .before .before .before .before .before .before .before .before .before .before .before .args .«data» .now) (c .before .before .before .before .before .before .before .before .number .result) _ (batch-is (c .before .before .before .before .before .before .before .before .before .before .before .before .args .row .now) (c .before .before .before .before .before .before .before .before .before .before .before .before .args .k) _ _ _ (c .before .before .before .before .before .before .before .before .number .ensures .0) (c .before .before .before .before .before .before .number2 .ensures .0) (c .before .before .before .before .before .number3 .ensures .0)) (c .before .loop .inv .0) (omega arith) _ _ (c .before .loop .inv .3)
+
+pub write-batch-spec : {M : Type 1} → statement M
+write-batch-spec =
+    tie.close
+    (tie.spec
+    Inv-loop
+    μ-loop
+    mul-number
+    number-requires
+    returns
+    mul-number-2
+    add-number
+    number-requires-2
+    mul-number-3
+    add-number-2
+    number-requires-3
+    generator-requires
+    data-before-requires
+    length-before-requires
+    loop-holds
+    slice-aggregate-write-block
+    add-write-block
+    add-write-block-2
+    sub-write-block
+    part-write-block-start
+    part-write-block-end
+    add-write-block-3
+    sub-write-block-2
+    part-write-block-start-2
+    part-write-block-end-2
+    write-block-requires
+    add-at
+    add-from
+    add-from-2
+    add-i
+    loop-less
+    loop-again
+    same-length
+    returns-2)

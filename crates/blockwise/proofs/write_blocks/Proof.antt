@@ -1,0 +1,52 @@
+-- `write_blocks` meets its contract: one batch more in each turn. Assumes nothing.
+use mathlib.Core.Path.{_≡_, refl, _∙_}
+use Prim.Native.Nat.{_-_, _≤_}
+use native.Mathlib.Omega.{arith}
+use lib.ListN.{length}
+use Rattle.blockwise.specs.Inner.{batches, Writes}
+use Rattle.blockwise.proofs.Makes.{writes-none, writes-batch, writes-row}
+use borrow.Author.Needs.{needs}
+use Rattle.blockwise.proofs.write_blocks.Statement.{statement}
+use Rattle.blockwise.proofs.write_blocks.Tie as tie
+
+abbrev Inv-loop : tie.InvT-loop
+Inv-loop field stream₀ «data» row k₀ stream k = (k ≤ 3) × Writes (batches k row) 0 «data» stream₀ stream
+
+abbrev μ-loop : tie.MeasureT-loop
+μ-loop field stream₀ «data» row k₀ stream k = 3 - k
+
+loop-holds : tie.Need-loop-holds Inv-loop μ-loop
+unfolding batches
+loop-holds c = (omega arith, writes-none _ _ _)
+
+write-batch-requires : tie.Need-write-batch-requires Inv-loop μ-loop
+write-batch-requires c κs = (c .before .before .before .before .before .before .pre .0, (c .before .before .before .before .before .before .pre .1 .0, c .before .loop-test .taken, c .before .before .before .before .before .before .pre .1 .1, omega (arith, c .before .before .before .before .before .before .pre .1 .2, c .before .before .loop .inv .1 .size), c .before .before .before .before .before .before .pre .1 .3))
+
+add-k : tie.Need-add-k Inv-loop μ-loop
+add-k c = search needs
+
+loop-less : tie.Need-loop-less Inv-loop μ-loop
+loop-less c = search needs
+
+loop-again : tie.Need-loop-again Inv-loop μ-loop
+loop-again c = (omega arith, writes-batch (c .before .before .before .before .before .before .before .before .before .args .row .now) (c .before .before .before .before .before .loop .k) (c .before .before .before .before .loop-test .taken) (c .before .before .before .before .before .before .before .before .before .args .«data» .now) _ _ _ (c .before .before .before .before .before .before .before .before .before .pre .1 .2) (c .before .before .before .before .before .loop .inv .1) (c .before .before .write-batch .ensures))
+
+same-length : tie.Need-same-length Inv-loop μ-loop
+same-length c = c .before .loop .inv .1 .size
+
+returns : tie.Need-returns Inv-loop μ-loop
+returns c = writes-row (c .before .before .before .before .before .args .row .now) (c .before .loop .k) (c .before .loop .inv .0) (omega arith) (c .before .before .before .before .before .args .«data» .now) _ _ (c .before .loop .inv .1)
+
+pub write-blocks-spec : {M : Type 1} → statement M
+write-blocks-spec =
+    tie.close
+    (tie.spec
+    Inv-loop
+    μ-loop
+    loop-holds
+    write-batch-requires
+    add-k
+    loop-less
+    loop-again
+    same-length
+    returns)
