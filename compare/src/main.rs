@@ -6,6 +6,7 @@
 include!(concat!(env!("OUT_DIR"), "/original.rs"));
 
 mod blocks;
+mod segments;
 mod tools;
 
 /// Stands in for the module of the original that is not at hand.
@@ -23,7 +24,10 @@ pub mod encoding {
 }
 
 /// A part's name, its comparison and its benchmark.
-const PARTS: [(&str, fn(), fn()); 1] = [("blocks", blocks::compare, blocks::bench)];
+const PARTS: [(&str, fn(), fn()); 2] = [
+    ("blocks", blocks::compare, blocks::bench),
+    ("segments", segments::compare, segments::bench),
+];
 
 fn main() {
     let mut words: Vec<String> = std::env::args().skip(1).collect();

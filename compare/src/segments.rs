@@ -290,7 +290,7 @@ fn values(tally: &mut Tally) {
         let mut bits = Bits::default();
         bits.put(4, 3);
         bits.put(13, n);
-        for i in 0..n.min(3884) {
+        for i in 0..n.min(3883) {
             bits.put(8, i & 255);
         }
         tally.one(&bits.bytes());
@@ -303,8 +303,7 @@ fn values(tally: &mut Tally) {
         tally.one(&bits.bytes());
     }
     tally.say("all values of four-byte");
-    for (prefix, width) in [(8, 7), (17, 14), (26, 21)].map(|(_, w)| w).into_iter().zip([7, 14, 21]) {
-        let lead = prefix / 7;
+    for (lead, width) in [(1, 7), (2, 14), (3, 21)] {
         for v in 0..1 << width {
             let mut bits = Bits::default();
             bits.put(4, 8);
