@@ -1,7 +1,8 @@
 //! Both sides by running: the original Rust, unchanged, and our static libraries.
 //!
 //! `compare [PART ..]` compares every answer and every lent byte, prints how many of which kind were tried, and stops at the first
-//! difference with the input that shows it. `compare bench [PART ..]` times both.
+//! difference with the input that shows it. `compare bench [PART ..]` times both. `compare replay` writes the recorded lists that
+//! the programs crates/replay_.. replay, from the original's answers.
 #![allow(dead_code)]
 include!(concat!(env!("OUT_DIR"), "/original.rs"));
 
@@ -31,6 +32,9 @@ const PARTS: [(&str, fn(), fn()); 2] = [
 
 fn main() {
     let mut words: Vec<String> = std::env::args().skip(1).collect();
+    if words.first().is_some_and(|w| w == "replay") {
+        return segments::replay();
+    }
     let bench = words.first().is_some_and(|w| w == "bench");
     if bench {
         words.remove(0);
