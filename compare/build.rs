@@ -3,10 +3,20 @@
 //! HAN_XIN_RUST names the folder of the originals, HAN_XIN_LIB that of the static libraries.
 use std::{env, fs, path::Path};
 
-const LIBRARIES: [&str; 1] = ["compare_blocks"];
+const LIBRARIES: [&str; 2] = ["compare_blocks", "compare_segments"];
 
 const ACCESS: [(&str, &str); 2] = [
-    ("han_xin", ""),
+    (
+        "han_xin",
+        "
+/// Not part of the original.
+pub mod access {
+    pub fn parse(data: &[u8]) -> Option<(String, Vec<u8>)> {
+        super::parse(data)
+    }
+}
+",
+    ),
     (
         "reed_solomon",
         "

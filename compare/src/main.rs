@@ -7,6 +7,8 @@
 include!(concat!(env!("OUT_DIR"), "/original.rs"));
 
 mod blocks;
+mod segments;
+mod symbol;
 mod tools;
 
 /// Stands in for the module of the original that is not at hand.
@@ -31,12 +33,26 @@ struct Part {
     record: fn() -> (Vec<u8>, String),
 }
 
-const PARTS: [Part; 1] = [Part {
-    name: "blocks",
-    compare: blocks::compare,
-    bench: blocks::bench,
-    record: blocks::record,
-}];
+const PARTS: [Part; 3] = [
+    Part {
+        name: "blocks",
+        compare: blocks::compare,
+        bench: blocks::bench,
+        record: blocks::record,
+    },
+    Part {
+        name: "symbol",
+        compare: symbol::compare,
+        bench: symbol::bench,
+        record: symbol::record,
+    },
+    Part {
+        name: "segments",
+        compare: segments::compare,
+        bench: segments::bench,
+        record: segments::record,
+    },
+];
 
 fn main() {
     let mut words: Vec<String> = std::env::args().skip(1).collect();

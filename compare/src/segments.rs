@@ -290,7 +290,7 @@ fn values(tally: &mut Tally) {
         let mut bits = Bits::default();
         bits.put(4, 3);
         bits.put(13, n);
-        for i in 0..n.min(3884) {
+        for i in 0..n.min(3883) {
             bits.put(8, i & 255);
         }
         tally.one(&bits.bytes());
@@ -303,8 +303,7 @@ fn values(tally: &mut Tally) {
         tally.one(&bits.bytes());
     }
     tally.say("all values of four-byte");
-    for (prefix, width) in [(8, 7), (17, 14), (26, 21)].map(|(_, w)| w).into_iter().zip([7, 14, 21]) {
-        let lead = prefix / 7;
+    for (lead, width) in [(1, 7), (2, 14), (3, 21)] {
         for v in 0..1 << width {
             let mut bits = Bits::default();
             bits.put(4, 8);
@@ -484,4 +483,57 @@ pub fn bench() {
         });
         line(name, ours, theirs);
     }
+}
+
+/// Writes the fixed list that crates/replay_segments replays: inputs, and the original's answers.
+pub fn record() -> (Vec<u8>, String) {
+    let mut random = Random::new(20830);
+    let mut inputs: Vec<Vec<u8>> = vec![
+        vec![0x10, 0x1F, 0xFF],
+        vec![0x10, 0x17, 0xFD],
+        vec![0x10, 0x2B, 0xFD],
+        vec![0x1F, 0xF4],
+        vec![0x29, 0x3F],
+        vec![],
+        vec![0; 3886],
+        vec![0xFF; 40],
+    ];
+    for mode in 9..16 {
+        inputs.push(vec![mode << 4, 0x55]);
+    }
+    for (mode, width, values) in [(4, 12, [4073, 4074]), (5, 12, [3007, 3008]), (6, 15, [23_939, 23_940]), (7, 21, [1_587_599, 1_587_600])] {
+        for v in values {
+            let mut bits = Bits::default();
+            bits.put(4, mode);
+            bits.put(width, v);
+            bits.put(width, (1 << width) - 1);
+            if mode == 7 {
+                bits.0.truncate(25);
+            }
+            inputs.push(bits.bytes());
+        }
+    }
+    for turn in 0..420 {
+        let count = 1 + random.below(6);
+        let (data, ..) = segments(&mut random, count, 12);
+        if turn % 3 == 1 && !data.is_empty() {
+            inputs.push(data[..random.below(data.len())].to_vec());
+        }
+        if turn % 3 == 2 && !data.is_empty() {
+            let mut other = data.clone();
+            let at = random.below(other.len());
+            other[at] ^= 1 << random.below(8);
+            inputs.push(other);
+        }
+        inputs.push(data);
+    }
+    let (mut stdin, mut stdout) = (Vec::new(), String::new());
+    for data in &inputs {
+        stdin.extend(u16::try_from(data.len()).unwrap().to_be_bytes());
+        stdin.extend(data);
+        stdout += &parse(data).map_or("-".to_owned(), |r| hex(&r.1));
+        stdout.push('\n');
+    }
+    assert!(stdin.len() <= 65536, "{} bytes", stdin.len());
+    (stdin, stdout)
 }

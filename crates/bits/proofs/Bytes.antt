@@ -60,7 +60,7 @@ low-value (b ∷ bs) h =
     let t : (b * 2 ^ length bs + value 0 bs) / 2 ^ length bs % 2 ≡ b = rw (high b (length bs) s) (mod-eq-of-lt (h 0)) in
     rw (e, t, low-add (length bs) (length bs) b (value 0 bs) (omega arith), low-value bs (λ i. h (suc i)))
 
-take-small : (n : ℕ) (bs : List ℕ) → ((i : ℕ) → getD bs i 0 < 2) → (i : ℕ) → getD (take n bs) i 0 < 2
+pub take-small : (n : ℕ) (bs : List ℕ) → ((i : ℕ) → getD bs i 0 < 2) → (i : ℕ) → getD (take n bs) i 0 < 2
 take-small zero bs h i = omega arith
 take-small (suc n) [] h i = omega arith
 take-small (suc n) (b ∷ bs) h zero = h 0

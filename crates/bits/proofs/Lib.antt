@@ -2,3 +2,4 @@ pub mod Reading
 pub mod Writing
 pub mod Words
 pub mod Bytes
+pub mod Window

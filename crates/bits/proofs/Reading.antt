@@ -1,14 +1,14 @@
--- Laws of reading: what a turn of `read_bits` does, and how large a number of n bits is.
-use mathlib.Core.Path.{_≡_, refl, ap, sym}
+-- Laws of bits that are read: the bit at a position, how many are left, and how large a number of n bits is.
+use mathlib.Core.Path.{_≡_, refl}
 use mathlib.Core.List.{List, [], _∷_}
 use Prim.Native.Nat.{ℕ, zero, suc, _+_, _-_, _*_, _/_, _%_, _^_, _<_, _≤_}
 use native.Mathlib.Nat.{zero-div, zero-mod, add-zero, zero-add, lt-of-lt-of-le, pow-suc}
 use native.Mathlib.Omega.{arith}
 use lib.ListN.{length, getD, take, drop, length-drop}
 use lib.Pow.{pow-mono}
-use lib.Seq.{drop-cons, getD-drop}
-use borrow.Author.Tests.{lt-leb, le-leb}
-use Rattle.bits.specs.declared.Word.the-variants.{Value, Cut}
+use lib.Seq.{getD-drop}
+use borrow.Author.Tests.{lt-leb}
+use Rattle.bits.specs.declared.Word.the-variants.{Cut}
 use Rattle.bits.specs.Bits.{lowBits, bitsOf, value, readOf}
 
 pub length-bits : (s : List ℕ) → length (bitsOf s) ≡ 8 * length s
@@ -35,34 +35,12 @@ bit-at (b ∷ s) (suc (suc (suc (suc (suc (suc (suc (suc i)))))))) =
 pub bit-lt : (s : List ℕ) (i : ℕ) → getD (bitsOf s) i 0 < 2
 bit-lt s i = omega (arith, bit-at s i)
 
--- one bit more
-pub value-step : (B : List ℕ) (v j m : ℕ) → j < length B → value v (take (suc m) (drop j B)) ≡ value (v * 2 + getD B j 0) (take m (drop (suc j) B))
-unfolding value
-value-step B v j m h = rw (drop-cons B j 0)
-
 pub length-left : (s : List ℕ) (at : ℕ) → length (drop at (bitsOf s)) ≡ 8 * length s - at
 length-left s at = rw (length-drop, length-bits)
 
 pub read-short : (s : List ℕ) (at n : ℕ) → 8 * length s < at + n → at ≤ 8 * length s → Cut ≡ readOf n (drop at (bitsOf s))
 unfolding readOf
 read-short s at n h g = simp (length-left, lt-leb n (8 * length s - at) (omega arith))
-
--- a turn of the reader's loop
-pub read-more : (s : List ℕ) (at n i v x : ℕ) → at + n ≤ 8 * length s → i < n → x ≡ getD (bitsOf s) (at + i) 0
-    → value v (take (n - i) (drop (at + i) (bitsOf s))) ≡ value (v * 2 + x) (take (n - (i + 1)) (drop (at + (i + 1)) (bitsOf s)))
-read-more s at n i v x h lt e =
-    let m : n - i ≡ suc (n - (i + 1)) = omega arith in
-    let p : at + (i + 1) ≡ suc (at + i) = omega arith in
-    let b : at + i < length (bitsOf s) = omega (arith, length-bits s) in
-    rw (m, e, p) (value-step (bitsOf s) v (at + i) (n - (i + 1)) b)
-
--- no bit is left to read
-pub read-all : (s : List ℕ) (at n i v : ℕ) → at + n ≤ 8 * length s → i ≡ n
-    → value 0 (take n (drop at (bitsOf s))) ≡ value v (take (n - i) (drop (at + i) (bitsOf s))) → Value v ≡ readOf n (drop at (bitsOf s))
-unfolding readOf value
-read-all s at n i v h e p =
-    let z : n - i ≡ 0 = omega arith in
-    simp (length-left, le-leb n (8 * length s - at) (omega arith)) (ap Value (sym (simp z at p)))
 
 -- n bits behind a number of k bits say a number of k + n bits
 pub value-bound : (bs : List ℕ) (n v k : ℕ) → ((i : ℕ) → getD bs i 0 < 2) → v < 2 ^ k → value v (take n bs) < 2 ^ (k + n)

@@ -12,7 +12,7 @@ pub enum Word {
 }
 
 fn wide(x: u8) -> usize
-    ensures { λ r. ⌜ r ≡ x ⌝ }
+    ensures { λ r. ⌜ (r ≡ x) × (r < 256) ⌝ }
 {
     x as usize
 }
@@ -25,21 +25,37 @@ pub fn bit(s: &[u8], at: usize) -> usize
     wide((s[at / 8] >> (7 - at % 8)) & 1)
 }
 
-// The number that the n bits from a position on say.
+// The number that n bits say, near the end of the bytes: the bytes that hold them, as one number.
+fn read_last(s: &[u8], at: usize, n: usize) -> Word
+    requires { ⌜ (length (now s) ≤ 4096) × (at + n ≤ 8 * length (now s)) × (n ≤ 21) ⌝ }
+    ensures { λ r. ⌜ r ≡ readOf n (drop at (bitsOf (now (s .entry)))) ⌝ }
+{
+    let first = at / 8;
+    let end = at + n;
+    let last = (end + 7) / 8;
+    let mut v: usize = 0;
+    let mut i: usize = first;
+    while i < last {
+        v = v * 256 + wide(s[i]);
+        i += 1;
+    }
+    Word::Value((v >> (8 * last - end)) % (1 << n))
+}
+
+// The number that the n bits from a position on say. Four bytes hold them wherever they start.
 pub fn read_bits(s: &[u8], at: usize, n: usize) -> Word
     requires { ⌜ (length (now s) ≤ 4096) × (at ≤ 8 * length (now s)) × (n ≤ 21) ⌝ }
     ensures { λ r. ⌜ r ≡ readOf n (drop at (bitsOf (now (s .entry)))) ⌝ }
 {
+    let i = at / 8;
+    if 4 <= s.len() - i {
+        let v = ((wide(s[i]) * 256 + wide(s[i + 1])) * 256 + wide(s[i + 2])) * 256 + wide(s[i + 3]);
+        return Word::Value((v >> (32 - at % 8 - n)) % (1 << n));
+    }
     if s.len() * 8 < at + n {
         return Word::Cut;
     }
-    let mut v: usize = 0;
-    let mut i: usize = 0;
-    while i < n {
-        v = v * 2 + bit(s, at + i);
-        i += 1;
-    }
-    Word::Value(v)
+    read_last(s, at, n)
 }
 
 // Sets the bit at a position.

@@ -44,7 +44,7 @@ accepted s p b h e = go (commandsOf s p) refl e
             record { segments = gs; are = q; again = commands-again (length s + 1) s p gs h q; have = a; some = eqb-false (length p) 0 z; bits = k }
 
 -- a number of bits that a run of data has is not capped
-uncapped : (b c n : ℕ) → b ≡ capped c → b ≤ 8 * n → n ≤ 3886 → c ≤ 8 * n
+pub uncapped : (b c n : ℕ) → b ≡ capped c → b ≤ 8 * n → n ≤ 3886 → c ≤ 8 * n
 uncapped b c n e h l = go (ltb c most) refl e
   where
     go : (x : Bool) → ltb c most ≡ x → b ≡ cond x c most → c ≤ 8 * n

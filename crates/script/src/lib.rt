@@ -84,7 +84,7 @@ fn in_subset(first: bool, b: usize) -> bool
 }
 
 // x - y, or 0.
-fn minus(x: usize, y: usize) -> usize
+pub fn minus(x: usize, y: usize) -> usize
     ensures { λ r. ⌜ r ≡ x - y ⌝ }
 {
     if x < y {

@@ -4,3 +4,5 @@ pub mod Regions
 pub mod Designators
 pub mod Steps
 pub mod Outcomes
+pub mod Sizes
+pub mod Theorems

@@ -21,7 +21,7 @@ wide-requires : tie.Need-wide-requires
 wide-requires c κs = search needs
 
 returns : tie.Need-returns
-returns c = rw bit-at (c .wide .ensures ∙ and-mask _ 1)
+returns c = rw bit-at (c .wide .ensures .0 ∙ and-mask _ 1)
 
 pub bit-spec : {M : Type 1} → statement M
 bit-spec =

@@ -1,0 +1,47 @@
+use mathlib.Core.Path.{refl, sym, _∙_}
+use borrow.Author.Needs.{needs}
+use Rattle.compare_segments.proofs.compare_segments_check.Statement.{statement}
+use Rattle.compare_segments.proofs.compare_segments_check.Tie as tie
+
+check-script-requires : tie.Need-check-script-requires
+check-script-requires c κs = search needs
+
+enum-known-answer : tie.Need-enum-known-answer
+enum-known-answer c = search needs
+
+enum-told : tie.Need-enum-told
+enum-told c = search needs
+
+enum-told-2 : tie.Need-enum-told-2
+enum-told-2 c = search needs
+
+enum-told-3 : tie.Need-enum-told-3
+enum-told-3 c = search needs
+
+returns : tie.Need-returns
+returns c =
+    let v = c .before .answer .given in
+    rw (sym (c .before .before .before .check-script .ensures) ∙ v .1) (refl, refl)
+
+returns-2 : tie.Need-returns-2
+returns-2 c = rw (sym (c .before .before .check-script .ensures) ∙ c .enum-told .given .1) (refl, refl)
+
+returns-3 : tie.Need-returns-3
+returns-3 c = rw (sym (c .before .before .check-script .ensures) ∙ c .enum-told2 .given .1) (refl, refl)
+
+returns-4 : tie.Need-returns-4
+returns-4 c = rw (sym (c .before .before .check-script .ensures) ∙ c .enum-told3 .given .1) (refl, refl)
+
+pub compare-segments-check-spec : {M : Type 1} → statement M
+compare-segments-check-spec =
+    tie.close
+    (tie.spec
+    check-script-requires
+    enum-known-answer
+    enum-told
+    enum-told-2
+    enum-told-3
+    returns
+    returns-2
+    returns-3
+    returns-4)

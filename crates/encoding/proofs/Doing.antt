@@ -1,0 +1,121 @@
+-- Words that are left to write, and bits that are written one part after the other.
+use mathlib.Core.Path.{_≡_, refl, _∙_, sym, subst}
+use mathlib.Core.Bool.{Bool, true, false, not}
+use mathlib.Core.List.{List, [], _∷_, _++_}
+use Prim.Native.Nat.{ℕ, suc, _+_, _-_, _*_, _<_, _≤_}
+use native.Mathlib.Nat.{mul-suc, mul-zero, add-zero}
+use native.Mathlib.Numerals.{add-one}
+use native.Mathlib.Omega.{arith}
+use lib.ListN.{length, getD, drop, length-append, drop-of-length-le}
+use lib.Seq.{sets, drop-cons, drop-drop}
+use Rattle.bits.specs.Bits.{bitsOf, lowBits, wordBits}
+use Rattle.bits.proofs.Words.{sets-append, length-low, length-words}
+use Rattle.script.specs.Writer.{numericWords}
+use Rattle.script.specs.declared.Glyph.{Glyph}
+use Rattle.script.specs.declared.Glyph.the-variants.{Same, Other, Lacking}
+use Rattle.script.specs.Glyphs.{wordsOf, hasAll, stepOf, switchOf, endOf, Glyphed}
+use Rattle.script.proofs.Tests.{false-true}
+use Rattle.script.proofs.Runs.{just-end}
+use Rattle.encoding.specs.Written.{Written}
+
+pub written-both : {s t u xs ys : List ℕ} {i a r : ℕ} → Written s i xs a t → Written t a ys r u → Written s i (xs ++ ys) r u
+written-both {s} {t} {u} {xs} {ys} {i} {a} {r} p q =
+    record {
+      behind = q .behind ∙ rw (p .behind, length-append xs ys) (omega arith);
+      bits = q .bits ∙ rw (p .bits, p .behind) (sym (sets-append (bitsOf s) i xs ys));
+    }
+
+-- to write the words us into the bytes t from the position a on is what is left of writing ws into s from i on
+pub record Doing (w : ℕ) (s : List ℕ) (i : ℕ) (ws t : List ℕ) (a : ℕ) (us : List ℕ) : Type 0 where
+  pub place : a + w * length us ≡ i + w * length ws
+  pub bits : sets (bitsOf t) a (wordBits w us) ≡ sets (bitsOf s) i (wordBits w ws)
+
+pub begun : (w : ℕ) (s : List ℕ) (i : ℕ) (ws : List ℕ) → Doing w s i ws s i ws
+begun w s i ws = record { place = refl; bits = refl }
+
+module _ {w : ℕ} {s : List ℕ} {i : ℕ} {ws t : List ℕ} {a : ℕ} where
+  pub word-room : {u : ℕ} {us : List ℕ} (m : ℕ) → Doing w s i ws t a (u ∷ us) → i + w * length ws ≤ m → a + w ≤ m
+  word-room {u} {us} m d h = let k : a + (w * length us + w) ≡ i + w * length ws = rw mul-suc at (d .place) in omega arith
+
+  pub word-done : {u : ℕ} {us : List ℕ} {t′ : List ℕ} {r : ℕ} → Doing w s i ws t a (u ∷ us) → Written t a (lowBits w u) r t′ → Doing w s i ws t′ r us
+  unfolding wordBits
+  word-done {u} {us} {t′} {r} d q =
+      let k : a + (w * length us + w) ≡ i + w * length ws = rw mul-suc at (d .place) in
+      let b : r ≡ a + w = q .behind ∙ rw length-low in
+      record {
+        place = rw b (omega arith);
+        bits = rw (q .bits, b) (sym (sets-append (bitsOf t) a (lowBits w u) (wordBits w us) ∙ rw length-low) ∙ d .bits);
+      }
+
+  pub all-done : Doing w s i ws t a [] → Written s i (wordBits w ws) a t
+  unfolding wordBits
+  all-done d =
+      let k : a ≡ i + w * length ws = rw (mul-zero, add-zero) at (d .place) in
+      record { behind = rw length-words k; bits = d .bits }
+
+pub doing-as : {w : ℕ} {s : List ℕ} {i : ℕ} {ws t : List ℕ} {a : ℕ} {us vs : List ℕ} → us ≡ vs → Doing w s i ws t a us → Doing w s i ws t a vs
+doing-as e d = rw e at d
+
+-- ---- digits
+
+pub three-digits : (run : List ℕ) (j : ℕ) → j + 3 ≤ length run → numericWords (drop j run) ≡ ((getD run j 0 - 48) * 100 + (getD run (j + 1) 0 - 48) * 10 + (getD run (j + 2) 0 - 48)) ∷ numericWords (drop (j + 3) run)
+unfolding numericWords
+three-digits run j h =
+    let e1 : j + 1 ≡ suc j = omega arith in
+    let e2 : j + 2 ≡ suc (suc j) = omega arith in
+    let e3 : j + 3 ≡ suc (suc (suc j)) = omega arith in
+    rw (e1, e2, e3, drop-cons run j 0 (omega arith), drop-cons run (suc j) 0 (omega arith), drop-cons run (suc (suc j)) 0 (omega arith))
+
+pub one-digit : (run : List ℕ) (j : ℕ) → j + 1 ≡ length run → numericWords (drop j run) ≡ (getD run j 0 - 48) ∷ 1021 ∷ []
+unfolding numericWords
+one-digit run j h =
+    let l : length run ≤ suc j = omega arith in
+    let d : drop (suc j) run ≡ [] = drop-of-length-le run l in
+    rw (drop-cons run j 0 (omega arith), d)
+
+pub two-digits : (run : List ℕ) (j : ℕ) → j + 2 ≡ length run → numericWords (drop j run) ≡ ((getD run j 0 - 48) * 10 + (getD run (j + 1) 0 - 48)) ∷ 1022 ∷ []
+unfolding numericWords
+two-digits run j h =
+    let e1 : j + 1 ≡ suc j = omega arith in
+    let l : length run ≤ suc (suc j) = omega arith in
+    let d : drop (suc (suc j)) run ≡ [] = drop-of-length-le run l in
+    rw (e1, drop-cons run j 0 (omega arith), drop-cons run (suc j) 0 (omega arith), d)
+
+pub no-digit : (run : List ℕ) (j : ℕ) → length run ≤ j → numericWords (drop j run) ≡ 1023 ∷ []
+unfolding numericWords
+no-digit run j h = rw (drop-of-length-le run h)
+
+-- ---- bytes
+
+pub next-byte : (run : List ℕ) (j : ℕ) → j < length run → drop j run ≡ getD run j 0 ∷ drop (j + 1) run
+next-byte run j h = rw add-one (drop-cons run j 0 h)
+
+pub no-byte : (run : List ℕ) (j : ℕ) → length run ≤ j → drop j run ≡ []
+no-byte run j h = drop-of-length-le run h
+
+-- ---- characters
+
+module _ (run : List ℕ) (mode : ℕ) (f : Bool) (j w by : ℕ) (r : Glyph) (h : Glyphed mode f (drop j run) r) (b : by ≡ stepOf mode) where
+  pub same-words : r ≡ Same w → (wordsOf mode f (drop j run) ≡ w ∷ wordsOf mode f (drop (j + by) run)) × (hasAll mode (drop j run) ≡ hasAll mode (drop (j + by) run)) × (j + by ≤ j + length (drop j run))
+  same-words e =
+      let g : Glyphed mode f (drop j run) (Same w) = subst (λ (z : Glyph). Glyphed mode f (drop j run) z) e h in
+      (rw b (g .0 ∙ rw drop-drop), rw b (g .1 ∙ rw drop-drop), rw b (add-le (g .2)))
+    where
+      add-le : stepOf mode ≤ length (drop j run) → j + stepOf mode ≤ j + length (drop j run)
+      add-le q = omega arith
+
+  pub other-words : r ≡ Other w → (wordsOf mode f (drop j run) ≡ switchOf mode ∷ w ∷ wordsOf mode (not f) (drop (j + by) run)) × (hasAll mode (drop j run) ≡ hasAll mode (drop (j + by) run)) × (j + by ≤ j + length (drop j run))
+  other-words e =
+      let g : Glyphed mode f (drop j run) (Other w) = subst (λ (z : Glyph). Glyphed mode f (drop j run) z) e h in
+      (rw b (g .0 ∙ rw drop-drop), rw b (g .1 ∙ rw drop-drop), rw b (add-le (g .2)))
+    where
+      add-le : stepOf mode ≤ length (drop j run) → j + stepOf mode ≤ j + length (drop j run)
+      add-le q = omega arith
+
+  pub never-lacking : {A : Type 0} → hasAll mode (drop j run) ≡ true → r ≡ Lacking → A
+  never-lacking t e =
+      let g : hasAll mode (drop j run) ≡ false = subst (λ (z : Glyph). Glyphed mode f (drop j run) z) e h in
+      absurd (false-true (sym g ∙ t))
+
+pub end-words : (run : List ℕ) (mode : ℕ) (f : Bool) (j : ℕ) → length run ≤ j → wordsOf mode f (drop j run) ≡ endOf mode ∷ []
+end-words run mode f j h = let d : drop j run ≡ [] = drop-of-length-le run h in rw d (just-end mode f)

@@ -1,0 +1,4 @@
+pub mod Doing
+pub mod Runs
+pub mod Zeros
+pub mod Segments

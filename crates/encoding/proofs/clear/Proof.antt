@@ -1,0 +1,54 @@
+use mathlib.Core.Path.{_≡_, refl}
+use mathlib.Core.List.{_++_}
+use Prim.Native.Nat.{_-_, _≤_}
+use native.Mathlib.Omega.{arith}
+use lib.ListN.{length, drop, replicate, length-set}
+use Rattle.encoding.proofs.Zeros.{clear-more, clear-end}
+use Rattle.encoding.proofs.clear.Statement.{statement}
+use Rattle.encoding.proofs.clear.Tie as tie
+
+abbrev Inv-loop : tie.InvT-loop
+Inv-loop buf₀ i₀ buf i = (length buf ≡ length buf₀) × (i ≤ length buf₀) × (buf ≡ replicate i 0 ++ drop i buf₀)
+
+abbrev μ-loop : tie.MeasureT-loop
+μ-loop buf₀ i₀ buf i = length buf₀ - i
+
+loop-holds : tie.Need-loop-holds Inv-loop μ-loop
+loop-holds c = (refl, omega arith, refl)
+
+slice-write-buf : tie.Need-slice-write-buf Inv-loop μ-loop
+slice-write-buf c = omega arith
+
+add-i : tie.Need-add-i Inv-loop μ-loop
+add-i c = omega arith
+
+loop-less : tie.Need-loop-less Inv-loop μ-loop
+loop-less c = omega arith
+
+loop-again : tie.Need-loop-again Inv-loop μ-loop
+loop-again c =
+    let l = c .before .loop in
+    let a = c .before .before .args in
+    (simp length-set (l .inv .0), omega arith, clear-more (a .buf .now) (l .buf) (l .i) (omega arith) (l .inv .2))
+
+same-length : tie.Need-same-length Inv-loop μ-loop
+same-length c = c .before .loop .inv .0
+
+returns : tie.Need-returns Inv-loop μ-loop
+returns c =
+    let l = c .before .loop in
+    clear-end (c .before .before .args .buf .now) (l .buf) (l .i) (omega arith) (l .inv .2)
+
+pub clear-spec : {M : Type 1} → statement M
+clear-spec =
+    tie.close
+    (tie.spec
+    Inv-loop
+    μ-loop
+    loop-holds
+    slice-write-buf
+    add-i
+    loop-less
+    loop-again
+    same-length
+    returns)

@@ -1,0 +1,78 @@
+use mathlib.Core.Path.{_≡_, refl, _∙_}
+use mathlib.Core.List.{_∷_}
+use borrow.Author.Needs.{needs}
+use Prim.Native.Nat.{_+_, _-_, _*_, _≤_}
+use native.Mathlib.Omega.{arith}
+use lib.ListN.{length, getD, drop}
+use Rattle.encoding.proofs.Doing.{Doing, begun, word-room, word-done, all-done, doing-as, next-byte, no-byte}
+use Rattle.encoding.proofs.write_bytes.Statement.{statement}
+use Rattle.encoding.proofs.write_bytes.Tie as tie
+
+abbrev Inv-loop : tie.InvT-loop
+Inv-loop buf₀ from run at₀ j₀ buf at j = (length buf ≡ length buf₀) × (j ≤ length run) × Doing 8 buf₀ from run buf at (drop j run)
+
+abbrev μ-loop : tie.MeasureT-loop
+μ-loop buf₀ from run at₀ j₀ buf at j = length run - j
+
+loop-holds : tie.Need-loop-holds Inv-loop μ-loop
+loop-holds c =
+    let a = c .before .before .args in
+    (refl, omega arith, begun 8 (a .buf .now) (a .from) (a .run .now))
+
+shared-slice-read-wide : tie.Need-shared-slice-read-wide Inv-loop μ-loop
+shared-slice-read-wide c = omega arith
+
+wide-requires : tie.Need-wide-requires Inv-loop μ-loop
+wide-requires c κs = search needs
+
+-- the byte that is next
+next : (c : tie.In-loop Inv-loop μ-loop) → Doing 8 (c .before .before .before .before .args .buf .now) (c .before .before .before .before .args .from) (c .before .before .before .before .args .run .now) (c .before .loop .buf) (c .before .loop .at) (getD (c .before .before .before .before .args .run .now) (c .before .loop .j) 0 ∷ drop (c .before .loop .j + 1) (c .before .before .before .before .args .run .now))
+next c =
+    let l = c .before .loop in
+    let a = c .before .before .before .before .args in
+    doing-as (next-byte (a .run .now) (l .j) (omega arith)) (l .inv .2)
+
+put-requires : tie.Need-put-requires Inv-loop μ-loop
+put-requires c κs =
+    let a = c .before .before .before .before .before .before .before .args in
+    let r = word-room (8 * length (a .buf .now)) (next (c .before .before .before)) (omega arith) in
+    (omega arith, omega arith, omega arith)
+
+add-j : tie.Need-add-j Inv-loop μ-loop
+add-j c = omega arith
+
+loop-less : tie.Need-loop-less Inv-loop μ-loop
+loop-less c = omega arith
+
+loop-again : tie.Need-loop-again Inv-loop μ-loop
+loop-again c =
+    let w = c .before .before .before in
+    let n = w .before .before .before in
+    let l = n .before .loop in
+    let p = c .before .before .put in
+    (p .kept .0 ∙ l .inv .0, omega arith, word-done (next n) (rw (w .wide .ensures .0) at (p .ensures)))
+
+same-length : tie.Need-same-length Inv-loop μ-loop
+same-length c = c .before .loop .inv .0
+
+returns : tie.Need-returns Inv-loop μ-loop
+returns c =
+    let l = c .before .loop in
+    let a = c .before .before .before .before .args in
+    all-done (doing-as (no-byte (a .run .now) (l .j) (omega arith)) (l .inv .2))
+
+pub write-bytes-spec : {M : Type 1} → statement M
+write-bytes-spec =
+    tie.close
+    (tie.spec
+    Inv-loop
+    μ-loop
+    loop-holds
+    shared-slice-read-wide
+    wide-requires
+    put-requires
+    add-j
+    loop-less
+    loop-again
+    same-length
+    returns)

@@ -1,0 +1,233 @@
+use mathlib.Core.Path.{_≡_, refl, sym, _∙_}
+use mathlib.Core.Bool.{true}
+use Prim.Native.Nat.{_+_, _-_, _*_, _≤_}
+use native.Mathlib.Omega.{arith}
+use borrow.Author.Needs.{needs}
+use lib.ListN.{length, drop, length-drop}
+use Rattle.script.specs.Glyphs.{wordsOf, hasAll, beginsIn}
+use Rattle.encoding.proofs.Doing.{Doing, begun, word-room, word-done, all-done, doing-as, same-words, other-words, never-lacking, end-words}
+use Rattle.encoding.proofs.write_chars.Statement.{statement}
+use Rattle.encoding.proofs.write_chars.Tie as tie
+
+abbrev Inv-loop : tie.InvT-loop
+Inv-loop buf₀ from mode run by w first₀ at₀ j₀ buf first at j =
+    (length buf ≡ length buf₀) × (j ≤ length run) × (hasAll mode (drop j run) ≡ true) × (from + w * length (wordsOf mode first₀ run) ≤ 8 * length buf₀)
+    × Doing w buf₀ from (wordsOf mode first₀ run) buf at (wordsOf mode first (drop j run))
+
+abbrev μ-loop : tie.MeasureT-loop
+μ-loop buf₀ from mode run by w first₀ at₀ j₀ buf first at j = length run - j
+
+step-requires : tie.Need-step-requires Inv-loop μ-loop
+step-requires c κs = search needs
+
+width-requires : tie.Need-width-requires Inv-loop μ-loop
+width-requires c κs = search needs
+
+loop-holds : tie.Need-loop-holds Inv-loop μ-loop
+unfolding beginsIn
+loop-holds c =
+    let s = c .before .before .before .before in
+    let a = s .args in
+    (refl, omega arith, s .pre .1, rw (c .width .ensures .0) (s .pre .2), begun (c .width .result) (a .buf .now) (a .from) (wordsOf (a .mode) (beginsIn (a .mode)) (a .run .now)))
+
+glyph-at-requires : tie.Need-glyph-at-requires Inv-loop μ-loop
+glyph-at-requires c κs = omega arith
+
+enum-known-g : tie.Need-enum-known-g Inv-loop μ-loop
+enum-known-g c = c .match .keys1
+
+put-requires : tie.Need-put-requires Inv-loop μ-loop
+put-requires c κs =
+    let k = c .before in
+    let gl = k .before .before .before in
+    let l = gl .before .before .loop in
+    let wd = gl .before .before .before .width in
+    let st = gl .before .before .before .before .step in
+    let a = gl .before .before .before .before .before .before .before .args in
+    let v = k .before .g .given in
+    let t = same-words (a .run .now) (a .mode) (l .first) (l .j) (v .0 .0) (st .result) (gl .glyph-at .result) (gl .glyph-at .ensures) (st .ensures .0) (v .1) in
+    let e = t .2 in
+    let n = length-drop (l .j) (a .run .now) in
+    let d = doing-as (t .0) (l .inv .4) in
+    let r = word-room (8 * length (a .buf .now)) d (l .inv .3) in
+    (omega arith, omega arith, omega arith)
+
+add-j : tie.Need-add-j Inv-loop μ-loop
+add-j c = omega arith
+
+loop-less : tie.Need-loop-less Inv-loop μ-loop
+loop-less c =
+    let k = c .before .before .before .before in
+    let gl = k .before .before .before in
+    let l = gl .before .before .loop in
+    let wd = gl .before .before .before .width in
+    let st = gl .before .before .before .before .step in
+    let a = gl .before .before .before .before .before .before .before .args in
+    let v = k .before .g .given in
+    let t = same-words (a .run .now) (a .mode) (l .first) (l .j) (v .0 .0) (st .result) (gl .glyph-at .result) (gl .glyph-at .ensures) (st .ensures .0) (v .1) in
+    let e = t .2 in
+    let n = length-drop (l .j) (a .run .now) in
+    let d = doing-as (t .0) (l .inv .4) in
+    omega arith
+
+loop-again : tie.Need-loop-again Inv-loop μ-loop
+loop-again c =
+    let k = c .before .before .before .before in
+    let gl = k .before .before .before in
+    let l = gl .before .before .loop in
+    let wd = gl .before .before .before .width in
+    let st = gl .before .before .before .before .step in
+    let a = gl .before .before .before .before .before .before .before .args in
+    let v = k .before .g .given in
+    let t = same-words (a .run .now) (a .mode) (l .first) (l .j) (v .0 .0) (st .result) (gl .glyph-at .result) (gl .glyph-at .ensures) (st .ensures .0) (v .1) in
+    let e = t .2 in
+    let n = length-drop (l .j) (a .run .now) in
+    let d = doing-as (t .0) (l .inv .4) in
+    let p = c .before .before .put in
+    (p .kept .0 ∙ l .inv .0, omega arith, sym (t .1) ∙ l .inv .2, l .inv .3, word-done d (p .ensures))
+
+enum-known-g-2 : tie.Need-enum-known-g-2 Inv-loop μ-loop
+enum-known-g-2 c = c .match .keys2
+
+switch-word-requires : tie.Need-switch-word-requires Inv-loop μ-loop
+switch-word-requires c κs = search needs
+
+put-requires-2 : tie.Need-put-requires-2 Inv-loop μ-loop
+put-requires-2 c κs =
+    let k = c .before .before in
+    let gl = k .before .before .before in
+    let l = gl .before .before .loop in
+    let wd = gl .before .before .before .width in
+    let st = gl .before .before .before .before .step in
+    let a = gl .before .before .before .before .before .before .before .args in
+    let v = k .before .g2 .given in
+    let t = other-words (a .run .now) (a .mode) (l .first) (l .j) (v .0 .0) (st .result) (gl .glyph-at .result) (gl .glyph-at .ensures) (st .ensures .0) (v .1) in
+    let e = t .2 in
+    let n = length-drop (l .j) (a .run .now) in
+    let d = doing-as (t .0) (l .inv .4) in
+    let r = word-room (8 * length (a .buf .now)) d (l .inv .3) in
+    (omega arith, omega arith, omega arith)
+
+put-requires-3 : tie.Need-put-requires-3 Inv-loop μ-loop
+put-requires-3 c κs =
+    let k = c .before .before .before .before .before .before in
+    let gl = k .before .before .before in
+    let l = gl .before .before .loop in
+    let wd = gl .before .before .before .width in
+    let st = gl .before .before .before .before .step in
+    let a = gl .before .before .before .before .before .before .before .args in
+    let v = k .before .g2 .given in
+    let t = other-words (a .run .now) (a .mode) (l .first) (l .j) (v .0 .0) (st .result) (gl .glyph-at .result) (gl .glyph-at .ensures) (st .ensures .0) (v .1) in
+    let e = t .2 in
+    let n = length-drop (l .j) (a .run .now) in
+    let d = doing-as (t .0) (l .inv .4) in
+    let p = c .before .before .before .put2 in
+    let q = word-done d (rw (c .before .before .before .before .switch-word .ensures) at (p .ensures)) in
+    let r = word-room (8 * length (a .buf .now)) q (l .inv .3) in
+    let y = p .kept .0 in
+    (omega arith, omega arith, omega arith)
+
+add-j-2 : tie.Need-add-j-2 Inv-loop μ-loop
+add-j-2 c = omega arith
+
+loop-less-2 : tie.Need-loop-less-2 Inv-loop μ-loop
+loop-less-2 c =
+    let k = c .before .before .before .before .before .before .before .before .before in
+    let gl = k .before .before .before in
+    let l = gl .before .before .loop in
+    let wd = gl .before .before .before .width in
+    let st = gl .before .before .before .before .step in
+    let a = gl .before .before .before .before .before .before .before .args in
+    let v = k .before .g2 .given in
+    let t = other-words (a .run .now) (a .mode) (l .first) (l .j) (v .0 .0) (st .result) (gl .glyph-at .result) (gl .glyph-at .ensures) (st .ensures .0) (v .1) in
+    let e = t .2 in
+    let n = length-drop (l .j) (a .run .now) in
+    let d = doing-as (t .0) (l .inv .4) in
+    omega arith
+
+loop-again-2 : tie.Need-loop-again-2 Inv-loop μ-loop
+loop-again-2 c =
+    let k = c .before .before .before .before .before .before .before .before .before in
+    let gl = k .before .before .before in
+    let l = gl .before .before .loop in
+    let wd = gl .before .before .before .width in
+    let st = gl .before .before .before .before .step in
+    let a = gl .before .before .before .before .before .before .before .args in
+    let v = k .before .g2 .given in
+    let t = other-words (a .run .now) (a .mode) (l .first) (l .j) (v .0 .0) (st .result) (gl .glyph-at .result) (gl .glyph-at .ensures) (st .ensures .0) (v .1) in
+    let e = t .2 in
+    let n = length-drop (l .j) (a .run .now) in
+    let d = doing-as (t .0) (l .inv .4) in
+    let p = c .before .before .before .before .before .before .put2 in
+    let q = word-done d (rw (c .before .before .before .before .before .before .before .switch-word .ensures) at (p .ensures)) in
+    let z = c .before .before .put3 in
+    (z .kept .0 ∙ p .kept .0 ∙ l .inv .0, omega arith, sym (t .1) ∙ l .inv .2, l .inv .3, word-done q (z .ensures))
+
+enum-told : tie.Need-enum-told Inv-loop μ-loop
+enum-told c = c .match .keys3
+
+same-length : tie.Need-same-length Inv-loop μ-loop
+same-length c = c .before .before .before .before .loop .inv .0
+
+returns : tie.Need-returns Inv-loop μ-loop
+returns c =
+    let gl = c .before .before in
+    let l = gl .before .before .loop in
+    let st = gl .before .before .before .before .step in
+    let a = gl .before .before .before .before .before .before .before .args in
+    never-lacking (a .run .now) (a .mode) (l .first) (l .j) 0 (st .result) (gl .glyph-at .result) (gl .glyph-at .ensures) (st .ensures .0) (l .inv .2) (c .enum-told .given .1)
+
+end-word-requires : tie.Need-end-word-requires Inv-loop μ-loop
+end-word-requires c κs = search needs
+
+put-requires-4 : tie.Need-put-requires-4 Inv-loop μ-loop
+put-requires-4 c κs =
+    let l = c .before .before .before .loop in
+    let a = c .before .before .before .before .before .before .before .before .args in
+    let wd = c .before .before .before .before .width in
+    let d = doing-as (end-words (a .run .now) (a .mode) (l .first) (l .j) (omega arith)) (l .inv .4) in
+    let r = word-room (8 * length (a .buf .now)) d (l .inv .3) in
+    (omega arith, omega arith, omega arith)
+
+same-length-2 : tie.Need-same-length-2 Inv-loop μ-loop
+same-length-2 c = c .before .before .put4 .kept .0 ∙ c .before .before .before .before .before .before .loop .inv .0
+
+returns-2 : tie.Need-returns-2 Inv-loop μ-loop
+unfolding beginsIn
+returns-2 c =
+    let w = c .before .before .before in
+    let l = w .before .before .before .loop in
+    let a = w .before .before .before .before .before .before .before .before .args in
+    let wd = w .before .before .before .before .width in
+    let d = doing-as (end-words (a .run .now) (a .mode) (l .first) (l .j) (omega arith)) (l .inv .4) in
+    rw (wd .ensures .0) at (all-done (word-done d (rw (w .end-word .ensures) at (c .before .before .put4 .ensures))))
+
+pub write-chars-spec : {M : Type 1} → statement M
+write-chars-spec =
+    tie.close
+    (tie.spec
+    Inv-loop
+    μ-loop
+    step-requires
+    width-requires
+    loop-holds
+    glyph-at-requires
+    enum-known-g
+    put-requires
+    add-j
+    loop-less
+    loop-again
+    enum-known-g-2
+    switch-word-requires
+    put-requires-2
+    put-requires-3
+    add-j-2
+    loop-less-2
+    loop-again-2
+    enum-told
+    same-length
+    returns
+    end-word-requires
+    put-requires-4
+    same-length-2
+    returns-2)

@@ -1,0 +1,201 @@
+// The bits of a script and its payload, in a lent run of data bytes.
+use script::Command;
+use script::Glyph;
+ghost use mathlib.Core.Path.{_≡_};
+ghost use mathlib.Core.Bool.{true};
+ghost use Prim.Native.Nat.{_+_, _-_, _*_, _<_, _≤_};
+ghost use lib.ListN.{length, getD, take, drop, replicate};
+ghost use Rattle.bits.specs.Bits.{bitsOf, lowBits, wordBits};
+ghost use Rattle.script.specs.Writer.{all, isDigit, numericWords, modeHas, modeBits, eciBits, encodingOf};
+ghost use Rattle.script.specs.Glyphs.{wordsOf, hasAll, widthOf, switchOf, endOf, beginsIn};
+ghost use Rattle.segments.specs.Script.{run, eci};
+ghost use Rattle.script.specs.Check.{commandsOf, encoded};
+ghost use Rattle.encoding.specs.Written.{Written};
+ghost use Rattle.encoding.specs.Fits.{Fits};
+
+fn wide(x: u8) -> usize
+    ensures { λ r. ⌜ (r ≡ x) × (r < 256) ⌝ }
+{
+    x as usize
+}
+
+// Writes the n low bits of a number, and says where the next go.
+fn put(buf: &mut [u8], at: usize, n: usize, v: usize) -> usize
+    requires { ⌜ (length (now buf) ≤ 4096) × (at + n ≤ 8 * length (now buf)) × (n ≤ 24) ⌝ }
+    ensures { λ r. ⌜ Written (now (buf .entry)) at (lowBits n v) r (now (buf .exit)) ⌝ }
+{
+    bits::write_bits(buf, at, n, v);
+    at + n
+}
+
+fn switch_word(mode: usize) -> usize
+    ensures { λ r. ⌜ r ≡ switchOf mode ⌝ }
+{
+    if mode == 2 { 62 } else { 4094 }
+}
+
+fn end_word(mode: usize) -> usize
+    ensures { λ r. ⌜ r ≡ endOf mode ⌝ }
+{
+    if mode == 2 {
+        return 63;
+    }
+    if mode == 6 {
+        return 32767;
+    }
+    4095
+}
+
+// The characters of a run in modes 2, 4, 5 and 6, and the end.
+fn write_chars(buf: &mut [u8], from: usize, mode: usize, run: &[u8]) -> usize
+    requires { ⌜ (length (now buf) ≤ 4096) × (hasAll mode (now run) ≡ true) × (from + widthOf mode * length (wordsOf mode (beginsIn mode) (now run)) ≤ 8 * length (now buf)) ⌝ }
+    ensures { λ r. ⌜ Written (now (buf .entry)) from (wordBits (widthOf mode) (wordsOf mode (beginsIn mode) (now (run .entry)))) r (now (buf .exit)) ⌝ }
+{
+    let by = script::step(mode);
+    let w = script::width(mode);
+    let mut first = mode != 5;
+    let mut at = from;
+    let mut j: usize = 0;
+    while j < run.len() {
+        let g = script::glyph_at(mode, first, run, j);
+        match g {
+            Glyph::Same(c) => {
+                at = put(buf, at, w, c);
+                j += by;
+            }
+            Glyph::Other(c) => {
+                let next = put(buf, at, w, switch_word(mode));
+                at = put(buf, next, w, c);
+                first = !first;
+                j += by;
+            }
+            Glyph::Lacking => {
+                return at;
+            }
+        }
+    }
+    put(buf, at, w, end_word(mode))
+}
+
+// The digit at a place of a run.
+fn digit(run: &[u8], j: usize) -> usize
+    requires { ⌜ j < length (now run) ⌝ }
+    ensures { λ r. ⌜ (r ≡ getD (now (run .entry)) j 0 - 48) × (r < 256) ⌝ }
+{
+    script::minus(wide(run[j]), 48)
+}
+
+// The digits of a run in groups of three, and the end with the number of the last group's digits.
+fn write_numeric(buf: &mut [u8], from: usize, run: &[u8]) -> usize
+    requires { ⌜ (length (now buf) ≤ 4096) × (from + 10 * length (numericWords (now run)) ≤ 8 * length (now buf)) ⌝ }
+    ensures { λ r. ⌜ Written (now (buf .entry)) from (wordBits 10 (numericWords (now (run .entry)))) r (now (buf .exit)) ⌝ }
+{
+    let mut at = from;
+    let mut j: usize = 0;
+    while 3 <= run.len() - j {
+        let v = digit(run, j) * 100 + digit(run, j + 1) * 10 + digit(run, j + 2);
+        at = put(buf, at, 10, v);
+        j += 3;
+    }
+    let left = run.len() - j;
+    if left == 1 {
+        let next = put(buf, at, 10, digit(run, j));
+        return put(buf, next, 10, 1021);
+    }
+    if left == 2 {
+        let next = put(buf, at, 10, digit(run, j) * 10 + digit(run, j + 1));
+        return put(buf, next, 10, 1022);
+    }
+    put(buf, at, 10, 1023)
+}
+
+// The bytes of a run.
+fn write_bytes(buf: &mut [u8], from: usize, run: &[u8]) -> usize
+    requires { ⌜ (length (now buf) ≤ 4096) × (from + 8 * length (now run) ≤ 8 * length (now buf)) ⌝ }
+    ensures { λ r. ⌜ Written (now (buf .entry)) from (wordBits 8 (now (run .entry))) r (now (buf .exit)) ⌝ }
+{
+    let mut at = from;
+    let mut j: usize = 0;
+    while j < run.len() {
+        at = put(buf, at, 8, wide(run[j]));
+        j += 1;
+    }
+    at
+}
+
+// A segment of modes 1 to 7: four bits of mode, then its run.
+fn write_run(buf: &mut [u8], from: usize, mode: usize, chars: &[u8]) -> usize
+    requires { ⌜ (length (now buf) ≤ 4096) × (1 ≤ mode) × (mode ≤ 7) × (modeHas mode (now chars) ≡ true) × (from + length (encodingOf (run mode (now chars))) ≤ 8 * length (now buf)) ⌝ }
+    ensures { λ r. ⌜ Written (now (buf .entry)) from (encodingOf (run mode (now (chars .entry)))) r (now (buf .exit)) ⌝ }
+{
+    let at = put(buf, from, 4, mode);
+    if mode == 1 {
+        return write_numeric(buf, at, chars);
+    }
+    if mode == 3 {
+        let next = put(buf, at, 13, chars.len());
+        return write_bytes(buf, next, chars);
+    }
+    if mode == 7 {
+        return put(buf, at, 21, script::four_code(chars));
+    }
+    write_chars(buf, at, mode, chars)
+}
+
+// An ECI: four bits of mode, then the shortest prefix and the value.
+fn write_eci(buf: &mut [u8], from: usize, v: usize) -> usize
+    requires { ⌜ (length (now buf) ≤ 4096) × (from + length (encodingOf (eci v)) ≤ 8 * length (now buf)) ⌝ }
+    ensures { λ r. ⌜ Written (now (buf .entry)) from (encodingOf (eci v)) r (now (buf .exit)) ⌝ }
+{
+    let at = put(buf, from, 4, 8);
+    if v < 128 {
+        let next = put(buf, at, 1, 0);
+        return put(buf, next, 7, v);
+    }
+    if v < 16384 {
+        let next = put(buf, at, 2, 2);
+        return put(buf, next, 14, v);
+    }
+    let next = put(buf, at, 3, 6);
+    put(buf, next, 21, v)
+}
+
+// Sets all bytes to 0.
+fn clear(buf: &mut [u8])
+    ensures { λ _. ⌜ now (buf .exit) ≡ replicate (length (now (buf .entry))) 0 ⌝ }
+{
+    let mut i: usize = 0;
+    while i < buf.len() {
+        buf[i] = 0;
+        i += 1;
+    }
+}
+
+// The data bytes of a script and its payload that the check has accepted: their bits, and zeros behind.
+pub fn encode(script: &[u8], payload: &[u8], codewords: &mut [u8])
+    requires { ⌜ Fits (now script) (now payload) (length (now codewords)) ⌝ }
+    ensures { λ _. ⌜ now (codewords .exit) ≡ encoded (length (now (codewords .entry))) (commandsOf (now (script .entry)) (now (payload .entry))) ⌝ }
+{
+    clear(codewords);
+    let mut i: usize = 0;
+    let mut j: usize = 0;
+    let mut at: usize = 0;
+    while i < script.len() {
+        let next = script::command_at(script, i);
+        match next {
+            Command::Run(mode, n) => {
+                let end = j + n;
+                at = write_run(codewords, at, mode, &payload[j..end]);
+                j = end;
+                i += script::command_size(mode);
+            }
+            Command::Eci(v) => {
+                at = write_eci(codewords, at, v);
+                i += 4;
+            }
+            Command::Wrong => {
+                return;
+            }
+        }
+    }
+}
