@@ -3,10 +3,26 @@
 //! HAN_XIN_RUST names the folder of the originals, HAN_XIN_LIB that of the static libraries.
 use std::{env, fs, path::Path};
 
-const LIBRARIES: [&str; 1] = ["compare_blocks"];
+const LIBRARIES: [&str; 1] = ["compare_symbol"];
 
 const ACCESS: [(&str, &str); 2] = [
-    ("han_xin", ""),
+    (
+        "han_xin",
+        "
+/// Not part of the original.
+pub mod access {
+    pub fn masked(mask: usize, row: usize, column: usize) -> bool {
+        super::masked(mask, row, column)
+    }
+    pub fn total(version: usize) -> u16 {
+        super::TOTAL_CODEWORDS[version - 1]
+    }
+    pub fn row(version: usize, level: usize) -> [u8; 9] {
+        super::BLOCKS[version - 1][level]
+    }
+}
+",
+    ),
     (
         "reed_solomon",
         "

@@ -3,7 +3,7 @@ ghost use mathlib.Core.Path.{_≡_};
 ghost use Rattle.symbol.specs.Version.{sideVersion, versionOf};
 ghost use Rattle.symbol.specs.Layout.{layoutRefusal, layoutWritten, refusalOf};
 ghost use Rattle.information.specs.Information.{infoRefusal, infoWord, wordRefusalOf, wordIn, nearestRefusal, nearestLevel, nearestMask, nearestDistance, nearestRefusalOf, levelOf, maskOf, distanceOf};
-ghost use Rattle.compare_symbol.specs.Answers.{totalAnswer, rowAnswer, maskAnswer};
+ghost use Rattle.compare_symbol.specs.Answers.{totalAnswer, rowAnswer, maskAnswer, positionAnswer};
 use information::InfoBits;
 use information::NearestInfo;
 use symbol::FromSide;
@@ -70,14 +70,8 @@ fn word(a: InfoBits) -> Bits
     ensures { λ r. ⌜ (r .number ≡ wordRefusalOf a) × (r .word ≡ wordIn a) ⌝ }
 {
     match a {
-        InfoBits::Word(w) => Bits {
-            number: 0,
-            word: w,
-        },
-        InfoBits::OutOfRange => Bits {
-            number: 1,
-            word: 0,
-        },
+        InfoBits::Word(w) => Bits { number: 0, word: w },
+        InfoBits::OutOfRange => Bits { number: 1, word: 0 },
     }
 }
 
@@ -92,7 +86,11 @@ fn nearest(a: NearestInfo) -> Near
     ensures { λ r. ⌜ (r .number ≡ nearestRefusalOf a) × (r .level ≡ levelOf a) × (r .mask ≡ maskOf a) × (r .distance ≡ distanceOf a) ⌝ }
 {
     match a {
-        NearestInfo::Nearest { level, mask, distance } => Near {
+        NearestInfo::Nearest {
+            level,
+            mask,
+            distance,
+        } => Near {
             number: 0,
             level,
             mask,
@@ -161,4 +159,21 @@ pub extern "C" fn hx_masked(mask: usize, row: usize, column: usize) -> usize
         return 2;
     }
     codewords::masked(mask, row + 1, column + 1)
+}
+
+// The place of information bit n in copy 0 or in the other one, or 0 where the side or n is out of range.
+#[no_mangle]
+pub extern "C" fn hx_info_position(side: usize, copy: usize, n: usize) -> usize
+    ensures { λ r. ⌜ r ≡ positionAnswer side copy n ⌝ }
+{
+    if side < 23 {
+        return 0;
+    }
+    if 189 < side {
+        return 0;
+    }
+    if 34 <= n {
+        return 0;
+    }
+    information::info_position(side, copy != 0, n)
 }
