@@ -3,9 +3,6 @@ use borrow.Author.Tests.{le-leb, lt-leb, lt-ltb, le-ltb}
 use borrow.Author.Needs.{needs}
 use Rattle.compare_symbol.proofs.hx_info_position.Statement.{statement}
 use Rattle.compare_symbol.proofs.hx_info_position.Tie as tie
-use Rattle.compare_symbol.proofs.hx_info_position.Reads as reads
-use Rattle.compare_symbol.proofs.hx_info_position.Lts as lts
-use Rattle.information.proofs.info_position.Reads as info-position-reads
 
 returns : tie.Need-returns
 unfolding positionAnswer

@@ -1,14 +1,8 @@
 use lib.ListN.{length}
-use Prim.Native.Nat.{_-_, _<_, _≤_}
-use native.Mathlib.Omega.{arith}
+use Prim.Native.Nat.{_-_, _≤_}
 use borrow.Author.Needs.{needs}
 use Rattle.replay_symbol.proofs.all.Statement.{statement}
 use Rattle.replay_symbol.proofs.all.Tie as tie
-use Rattle.replay_symbol.proofs.all.Reads as reads
-use Rattle.replay_symbol.proofs.all.Lts as lts
-use Rattle.replay_symbol.proofs.eight.Reads as eight-reads
-use Rattle.replay_symbol.proofs.narrow.Reads as narrow-reads
-use Rattle.replay_symbol.proofs.one.Reads as one-reads
 
 abbrev Inv-loop : tie.InvT-loop
 Inv-loop list at₀ at = at ≤ length list

@@ -3,9 +3,6 @@ use lib.Seq.{length-take-le}
 use borrow.Author.Needs.{needs}
 use Rattle.replay_symbol.proofs.layout_front.Statement.{statement}
 use Rattle.replay_symbol.proofs.layout_front.Tie as tie
-use Rattle.replay_symbol.proofs.layout_front.Reads as reads
-use Rattle.replay_symbol.proofs.layout_front.Lts as lts
-use Rattle.replay_symbol.proofs.layout_in.Reads as layout-in-reads
 
 -- src/main.rt:72:28
 slice-relend-prefix-layout-in : tie.Need-slice-relend-prefix-layout-in

@@ -4,9 +4,6 @@ use native.Mathlib.Omega.{arith}
 use borrow.Author.Needs.{needs}
 use Rattle.replay_symbol.proofs.sums.Statement.{statement}
 use Rattle.replay_symbol.proofs.sums.Tie as tie
-use Rattle.replay_symbol.proofs.sums.Reads as reads
-use Rattle.replay_symbol.proofs.sums.Lts as lts
-use Rattle.replay_symbol.proofs.wide.Reads as wide-reads
 
 abbrev Inv-loop : tie.InvT-loop
 Inv-loop bytes a₀ b₀ i₀ a b i = (a < 65521) × (b < 65521) × (i ≤ length bytes)

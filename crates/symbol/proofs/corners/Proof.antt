@@ -1,15 +1,11 @@
 use Rattle.symbol.proofs.CornerRows.{all-blank, data-rows, near-upper, near-lower, corners-stored}
 use Rattle.symbol.specs.Layout.{cornerKind}
-use Prim.Native.Nat.{ℕ, _-_, _*_}
+use Prim.Native.Nat.{_-_, _*_}
 use native.Mathlib.Nat.{zero-mul}
 use native.Mathlib.Omega.{arith}
 use borrow.Author.Needs.{needs}
 use Rattle.symbol.proofs.corners.Statement.{statement}
 use Rattle.symbol.proofs.corners.Tie as tie
-use Rattle.symbol.proofs.corners.Reads as reads
-use Rattle.symbol.proofs.corners.Lts as lts
-use Rattle.symbol.proofs.line_ends.Reads as line-ends-reads
-use Rattle.symbol.proofs.run.Reads as run-reads
 
 mul-run : tie.Need-mul-run
 mul-run c = search needs

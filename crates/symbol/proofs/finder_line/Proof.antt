@@ -1,14 +1,9 @@
 use Rattle.symbol.proofs.Coordinates.{square-le}
-use Rattle.symbol.proofs.CornerRows.{row-end, finder-row, information-row}
+use Rattle.symbol.proofs.CornerRows.{row-end, finder-row}
 use native.Mathlib.Omega.{arith}
 use borrow.Author.Needs.{needs}
 use Rattle.symbol.proofs.finder_line.Statement.{statement}
 use Rattle.symbol.proofs.finder_line.Tie as tie
-use Rattle.symbol.proofs.finder_line.Reads as reads
-use Rattle.symbol.proofs.finder_line.Lts as lts
-use Rattle.symbol.proofs.finder_row.Reads as finder-row-reads
-use Rattle.symbol.proofs.modules.Reads as modules-reads
-use Rattle.symbol.proofs.run.Reads as run-reads
 
 mul-at : tie.Need-mul-at
 mul-at c = omega (arith, row-end (c .before .args .side) (c .before .args .row) (c .before .pre .3), square-le (c .before .args .side) (c .before .pre .1), c .before .pre .0, c .before .pre .2)

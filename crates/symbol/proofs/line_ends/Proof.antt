@@ -2,14 +2,10 @@ use Rattle.symbol.proofs.CornerRows.{row-next, row-done, row-beyond, be
 use Rattle.symbol.specs.Inner.{UpTo, Beyond}
 use Rattle.symbol.specs.Layout.{cornerKind}
 use mathlib.Core.Path.{_≡_, subst}
-use Prim.Native.Nat.{ℕ, _+_, _-_, _*_, _<_, _≤_}
+use Prim.Native.Nat.{ℕ, _-_, _*_, _<_, _≤_}
 use native.Mathlib.Omega.{arith}
-use borrow.Author.Needs.{needs}
 use Rattle.symbol.proofs.line_ends.Statement.{statement}
 use Rattle.symbol.proofs.line_ends.Tie as tie
-use Rattle.symbol.proofs.line_ends.Reads as reads
-use Rattle.symbol.proofs.line_ends.Lts as lts
-use Rattle.symbol.proofs.line.Reads as line-reads
 
 abbrev Inv-loop : tie.InvT-loop
 Inv-loop out₀ side from to row₀ out row = UpTo (cornerKind side) (side * side) (row * side) out × Beyond (side * side) out₀ out × (from ≤ row) × (row ≤ to)

@@ -11,8 +11,6 @@ use native.Mathlib.Omega.{arith}
 use borrow.Author.Needs.{needs}
 use Rattle.symbol.proofs.plot.Statement.{statement}
 use Rattle.symbol.proofs.plot.Tie as tie
-use Rattle.symbol.proofs.plot.Reads as reads
-use Rattle.symbol.proofs.plot.Lts as lts
 
 returns : tie.Need-returns
 unfolding plotAll
