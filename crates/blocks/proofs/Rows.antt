@@ -11,17 +11,9 @@ use lib.Seq.{drop-drop, take-suc, getD-take, getD-drop, getD-set-same, getD-set-
 use native.Mathlib.Decide.{ℕ-discrete}
 use native.Mathlib.Numerals.{add-one}
 use borrow.Author.Tests.{eqb-true}
-use Rattle.symbol.proofs.Finite.{upTo, every}
+use Rattle.symbol.proofs.Finite.{and-left, and-right, upTo, every}
 use Rattle.blocks.specs.Table.{blocks, totals}
 use Rattle.blocks.specs.Blocks.{totalOf, rowAt, rowOf, batchHolds, rowLength, rowHolds, Shape, size, batch, shapes, shapesOf, totalSize, dataModules}
-
-and-left : (a b : Bool) → T (a && b) → T a
-and-left true b t = tt
-and-left false b t = t
-
-and-right : (a b : Bool) → T (a && b) → T b
-and-right true b t = t
-and-right false b t = absurd t
 
 four : (a b c d : Bool) → T (a && (b && (c && d))) → T a × T b × T c × T d
 four a b c d t =

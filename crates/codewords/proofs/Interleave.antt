@@ -1,4 +1,4 @@
--- Interleave: every stream place is reached once, so that either way undoes the other.
+-- Interleave: every stream place is reached, so that a stream that was interleaved is given back.
 use mathlib.Core.Path.{_≡_, refl, ap, ap₂, _∙_, sym, subst}
 use mathlib.Core.Logic.{_≢_, _⊎_, inl, inr}
 use mathlib.Core.List.{List, [], _∷_, _++_, map, append-assoc, append-nil}

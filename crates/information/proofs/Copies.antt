@@ -28,9 +28,6 @@ module _ (s n : ℕ) (big : 23 ≤ s) (hi : s ≤ 189) (h : n < 34) {r : ℕ} (d
     pub first-lt : r * s + c < s * s
     first-lt = subst (λ (k : ℕ). k < s * s) (sym first-is) (place-lt s big false n h)
 
-pub square-le : (s : ℕ) → s ≤ 189 → s * s ≤ 35721
-square-le s h = mul-le-mul h h
-
 number-lt : (f : ℕ → ℕ) → ((k : ℕ) → f k < 2) → (n : ℕ) → numberOf f n < 2 ^ n
 unfolding numberOf
 number-lt f b zero = lit< tt
