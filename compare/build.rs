@@ -3,7 +3,7 @@
 //! HAN_XIN_RUST names the folder of the originals, HAN_XIN_LIB that of the static libraries.
 use std::{env, fs, path::Path};
 
-const LIBRARIES: [&str; 1] = ["compare_symbol"];
+const LIBRARIES: [&str; 2] = ["compare_blocks", "compare_symbol"];
 
 const ACCESS: [(&str, &str); 2] = [
     (

@@ -6,6 +6,7 @@
 #![allow(dead_code)]
 include!(concat!(env!("OUT_DIR"), "/original.rs"));
 
+mod blocks;
 mod symbol;
 mod tools;
 
@@ -31,12 +32,20 @@ struct Part {
     record: fn() -> (Vec<u8>, String),
 }
 
-const PARTS: [Part; 1] = [Part {
-    name: "symbol",
-    compare: symbol::compare,
-    bench: symbol::bench,
-    record: symbol::record,
-}];
+const PARTS: [Part; 2] = [
+    Part {
+        name: "blocks",
+        compare: blocks::compare,
+        bench: blocks::bench,
+        record: blocks::record,
+    },
+    Part {
+        name: "symbol",
+        compare: symbol::compare,
+        bench: symbol::bench,
+        record: symbol::record,
+    },
+];
 
 fn main() {
     let mut words: Vec<String> = std::env::args().skip(1).collect();
@@ -44,14 +53,23 @@ fn main() {
         Some("bench" | "record") => words.remove(0),
         _ => "compare".to_string(),
     };
-    if let Some(w) = words.iter().find(|w| PARTS.iter().all(|p| p.name != w.as_str())) {
+    if let Some(w) = words
+        .iter()
+        .find(|w| PARTS.iter().all(|p| p.name != w.as_str()))
+    {
         eprintln!("compare: no part {w}");
         std::process::exit(2);
     }
     if mode == "bench" {
-        println!("{:34} {:>12} {:>12} {:>7}", "name", "ours, ns", "Rust, ns", "ratio");
+        println!(
+            "{:34} {:>12} {:>12} {:>7}",
+            "name", "ours, ns", "Rust, ns", "ratio"
+        );
     }
-    for part in PARTS.iter().filter(|p| words.is_empty() || words.iter().any(|w| w == p.name)) {
+    for part in PARTS
+        .iter()
+        .filter(|p| words.is_empty() || words.iter().any(|w| w == p.name))
+    {
         match mode.as_str() {
             "bench" => (part.bench)(),
             "record" => {
