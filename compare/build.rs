@@ -3,7 +3,7 @@
 //! HAN_XIN_RUST names the folder of the originals, HAN_XIN_LIB that of the static libraries.
 use std::{env, fs, path::Path};
 
-const LIBRARIES: [&str; 2] = ["compare_blocks", "compare_segments"];
+const LIBRARIES: [&str; 3] = ["compare_blocks", "compare_symbol", "compare_segments"];
 
 const ACCESS: [(&str, &str); 2] = [
     (
@@ -13,6 +13,15 @@ const ACCESS: [(&str, &str); 2] = [
 pub mod access {
     pub fn parse(data: &[u8]) -> Option<(String, Vec<u8>)> {
         super::parse(data)
+    }
+    pub fn masked(mask: usize, row: usize, column: usize) -> bool {
+        super::masked(mask, row, column)
+    }
+    pub fn total(version: usize) -> u16 {
+        super::TOTAL_CODEWORDS[version - 1]
+    }
+    pub fn row(version: usize, level: usize) -> [u8; 9] {
+        super::BLOCKS[version - 1][level]
     }
 }
 ",
@@ -41,8 +50,8 @@ pub mod access {
 
 fn main() {
     let here = env::var("CARGO_MANIFEST_DIR").unwrap();
-    let rust =
-        env::var("HAN_XIN_RUST").unwrap_or(format!("{here}/../../shared/docs/src/multiformat/src"));
+    let rust = env::var("HAN_XIN_RUST")
+        .unwrap_or(format!("{here}/../../shared/docs/src/multiformat/src"));
     let lib = env::var("HAN_XIN_LIB").unwrap_or(format!("{here}/../target/staticlib"));
     let out = env::var("OUT_DIR").unwrap();
     println!("cargo:rerun-if-env-changed=HAN_XIN_RUST");

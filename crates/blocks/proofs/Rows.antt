@@ -3,25 +3,17 @@ use mathlib.Core.Path.{_≡_, refl, sym, ap, ap₂, subst, _∙_}
 use mathlib.Core.Bool.{Bool, true, false, _&&_, _||_}
 use mathlib.Core.List.{List, [], _∷_, _++_}
 use Prim.Native.Nat.{ℕ, zero, suc, _+_, _-_, _*_, _/_, _<_, _≤_}
-use native.Mathlib.Nat.{add-zero, le-of-suc-le-suc, not-suc-le-zero, mul-assoc}
+use native.Mathlib.Nat.{add-zero, le-of-suc-le-suc, not-suc-le-zero}
 use native.Mathlib.Omega.{arith}
 use lib.Dec.{T, eqb, ltb, leb, eqb→eq, ltb→lt, leb→le}
-use lib.ListN.{length, take, drop, getD, set, length-drop, drop-of-length-le}
-use lib.Seq.{drop-drop, drop-cons, getD-take, getD-drop, getD-set-same, getD-set-other, ext-getD, length-take-le}
+use lib.ListN.{length, take, drop, getD, set, length-drop}
+use lib.Seq.{drop-drop, take-suc, getD-take, getD-drop, getD-set-same, getD-set-other, ext-getD, length-take-le}
 use native.Mathlib.Decide.{ℕ-discrete}
 use native.Mathlib.Numerals.{add-one}
 use borrow.Author.Tests.{eqb-true}
-use Rattle.symbol.proofs.Finite.{upTo, every}
+use Rattle.symbol.proofs.Finite.{and-left, and-right, upTo, every}
 use Rattle.blocks.specs.Table.{blocks, totals}
 use Rattle.blocks.specs.Blocks.{totalOf, rowAt, rowOf, batchHolds, rowLength, rowHolds, Shape, size, batch, shapes, shapesOf, totalSize, dataModules}
-
-and-left : (a b : Bool) → T (a && b) → T a
-and-left true b t = tt
-and-left false b t = t
-
-and-right : (a b : Bool) → T (a && b) → T b
-and-right true b t = t
-and-right false b t = absurd t
 
 four : (a b c d : Bool) → T (a && (b && (c && d))) → T a × T b × T c × T d
 four a b c d t =
@@ -104,21 +96,16 @@ unfolding dataModules
 module-none zero n = absurd (n refl)
 module-none (suc k) n = refl
 
--- data modules counted from a place on
-pub modules-more : (ks : List ℕ) (i n x : ℕ) → i < length ks → x ≡ dataModules (getD ks i 0 ∷ []) → n + dataModules (drop i ks) ≡ dataModules ks → n + x + dataModules (drop (i + 1) ks) ≡ dataModules ks
+-- data modules of the first n kinds, counted one by one
+pub modules-more : (ks : List ℕ) (n i count x : ℕ) → n ≤ length ks → i < n → x ≡ dataModules (getD ks i 0 ∷ []) → count ≡ dataModules (take i ks) → count + x ≡ dataModules (take (i + 1) ks)
 unfolding dataModules
-modules-more ks i n x h e q =
-    let s : dataModules (drop i ks) ≡ dataModules (getD ks i 0 ∷ drop (suc i) ks) = ap dataModules (drop-cons ks i 0 h) in
-    let d : dataModules (drop (i + 1) ks) ≡ dataModules (drop (suc i) ks) = ap (λ (k : ℕ). dataModules (drop k ks)) (add-one i) in
-    omega (arith, s, d, e, q, first (getD ks i 0) (drop (suc i) ks))
+modules-more ks n i count x l h e q =
+    ap₂ _+_ q e ∙ sym (ap (λ (k : ℕ). dataModules (take k ks)) (add-one i) ∙ ap dataModules (take-suc ks i 0 (omega arith)) ∙ joined (take i ks) (getD ks i 0 ∷ []))
   where
-    first : (k : ℕ) (us : List ℕ) → dataModules (k ∷ us) ≡ dataModules (k ∷ []) + dataModules us
-    first zero us = omega arith
-    first (suc k) us = omega arith
-
-pub modules-done : (ks : List ℕ) (i n : ℕ) → length ks ≤ i → n + dataModules (drop i ks) ≡ dataModules ks → n ≡ dataModules ks
-unfolding dataModules
-modules-done ks i n h q = omega (arith, q, ap dataModules (drop-of-length-le ks {i = i} h))
+    joined : (us vs : List ℕ) → dataModules (us ++ vs) ≡ dataModules us + dataModules vs
+    joined [] vs = omega arith
+    joined (zero ∷ us) vs = let h = joined us vs in omega arith
+    joined (suc k ∷ us) vs = joined us vs
 
 -- what the rule says of the blocks
 

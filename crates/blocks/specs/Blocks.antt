@@ -1,5 +1,5 @@
 -- Document 01, "Blocks" (000: `BLOCKS`): the rows of the block table, the rule of a row, and how a stream is cut into blocks.
-use mathlib.Core.Bool.{Bool, true, false, cond, _&&_, _||_}
+use mathlib.Core.Bool.{Bool, cond, _&&_, _||_}
 use mathlib.Core.List.{List, [], _∷_, _++_}
 use Prim.Native.Nat.{ℕ, zero, suc, _+_, _-_, _*_}
 use lib.Dec.{eqb, ltb, leb}

@@ -2,6 +2,7 @@
 ghost use mathlib.Core.Path.{_≡_};
 ghost use mathlib.Core.List.{[], _∷_};
 ghost use Prim.Native.Nat.{_≤_};
+ghost use lib.ListN.{length, take};
 ghost use Rattle.blocks.specs.Blocks.{totalOf, rowOf, dataModules};
 
 pub mod table;
@@ -42,15 +43,16 @@ fn data_module(kind: u8) -> usize
     0
 }
 
-// How many data modules a layout has.
-pub fn data_modules(kinds: &[u8]) -> usize
-    ensures { λ r. ⌜ r ≡ dataModules (now (kinds .entry)) ⌝ }
+// How many data modules the first n kinds have.
+pub fn data_modules(kinds: &[u8], n: usize) -> usize
+    requires { ⌜ n ≤ length (now kinds) ⌝ }
+    ensures { λ r. ⌜ r ≡ dataModules (take n (now (kinds .entry))) ⌝ }
 {
-    let mut n: usize = 0;
+    let mut count: usize = 0;
     let mut i: usize = 0;
-    while i < kinds.len() {
-        n += data_module(kinds[i]);
+    while i < n {
+        count += data_module(kinds[i]);
         i += 1;
     }
-    n
+    count
 }

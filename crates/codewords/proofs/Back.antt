@@ -1,12 +1,11 @@
 -- From a stream to a square and back.
-use mathlib.Core.Path.{_≡_, refl, ap, ap₂, _∙_, sym}
+use mathlib.Core.Path.{_≡_, ap, ap₂, _∙_, sym}
 use mathlib.Core.List.{List, [], _∷_, _++_, map}
-use Prim.Native.Nat.{ℕ, zero, suc, _+_, _*_, _<_, _≤_}
+use Prim.Native.Nat.{ℕ, _+_, _*_, _<_, _≤_}
 use native.Mathlib.Omega.{arith}
 use lib.ListN.{length, getD, take, drop, take-append-drop}
 use Rattle.symbol.specs.Version.{sideOf}
 use Rattle.symbol.specs.Layout.{layoutOf}
-use Rattle.symbol.proofs.Theorems.{layout-length}
 use Rattle.information.specs.Information.{infoWritten}
 use Rattle.information.proofs.Flips.{info-length, info-else}
 use Rattle.blocks.specs.Blocks.{dataModules}

@@ -1,4 +1,4 @@
--- Interleave: every stream place is reached once, so that either way undoes the other.
+-- Interleave: every stream place is reached, so that a stream that was interleaved is given back.
 use mathlib.Core.Path.{_≡_, refl, ap, ap₂, _∙_, sym, subst}
 use mathlib.Core.Logic.{_≢_, _⊎_, inl, inr}
 use mathlib.Core.List.{List, [], _∷_, _++_, map, append-assoc, append-nil}
@@ -6,7 +6,7 @@ use Prim.Native.Nat.{ℕ, zero, suc, _+_, _-_, _*_, _/_, _%_, _<_, _≤_}
 use native.Mathlib.Omega.{arith}
 use native.Mathlib.Decide.{ℕ-discrete}
 use native.Mathlib.Numerals.{add-one}
-use lib.ListN.{length, getD, set, take, drop, replicate, length-set, length-replicate, length-map, length-append, length-take, take-append-drop}
+use lib.ListN.{length, getD, set, take, drop, replicate, length-set, length-replicate, length-map, length-append, take-append-drop}
 use lib.Seq.{getD-set-same, getD-set-other, ext-getD, drop-cons, take-set-lt, drop-set-lt, take-suc-set, length-take-le, getD-take, take-all}
 use Rattle.codewords.specs.Codewords.{steps, starts, order, storeAt, streamOf, interleaved}
 use Rattle.codewords.specs.Inner.{Storing, Collecting, ToStream, FromStream}

@@ -4,3 +4,4 @@ pub mod Interleave
 pub mod Placement
 pub mod Back
 pub mod Theorems
+pub mod Small

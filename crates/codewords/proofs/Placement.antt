@@ -9,7 +9,7 @@ use native.Mathlib.Numerals.{add-one}
 use native.Mathlib.Decide.{decLt, ℕ-discrete}
 use lib.Dec.{lit<}
 use lib.ListN.{length, getD, take, drop, set, length-set, length-drop, take-append-drop, drop-of-length-le}
-use lib.Seq.{drop-cons, drop-drop, take-suc-set, take-all, length-take-le, drop-set-lt, getD-take}
+use lib.Seq.{drop-cons, take-suc-set, take-all, length-take-le, drop-set-lt, getD-take}
 use lib.Bits.{bitXor, xor-self, xor-zero-r, xor-lt}
 use Rattle.information.proofs.Xor.{xor-assoc}
 use Rattle.blocks.specs.Blocks.{dataModules}

@@ -10,6 +10,7 @@ use Rattle.blocks.specs.Blocks.{dataModules}
 use Rattle.codewords.specs.Codewords.{maskBit, streamOf, interleaved, streamIn, squareOf}
 use Rattle.codewords.proofs.Interleave as interleave
 use Rattle.codewords.proofs.Back as back
+use Rattle.codewords.proofs.Small as small
 
 -- Codewords that are interleaved out of a stream go back to it.
 pub interleave-back : (s : List ℕ) → streamOf (interleaved s) ≡ s
@@ -24,3 +25,10 @@ stream-back = back.stream-back
 pub written-stream : (v mask w : ℕ) (s : List ℕ) → 1 ≤ v → ((i : ℕ) → getD s i 0 < 256) → 8 * length s ≤ dataModules (layoutOf v)
     → streamIn (length s) (maskBit (sideOf v) mask) (layoutOf v) (infoWritten (sideOf v) w (squareOf (maskBit (sideOf v) mask) (layoutOf v) s)) ≡ s
 written-stream = back.written-stream
+
+-- The square of a stream has modules 0 and 1 only, and the stream of such a square has bytes only.
+pub square-bits : (m : ℕ → ℕ) (ks s : List ℕ) → ((i : ℕ) → m i < 2) → (i : ℕ) → getD (squareOf m ks s) i 0 < 2
+square-bits = small.square-below
+
+pub stream-bytes : (total : ℕ) (m : ℕ → ℕ) (ks sq : List ℕ) → ((i : ℕ) → m i < 2) → ((i : ℕ) → getD sq i 0 < 2) → (i : ℕ) → getD (streamIn total m ks sq) i 0 < 256
+stream-bytes = small.stream-below

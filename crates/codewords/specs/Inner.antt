@@ -1,7 +1,7 @@
 -- Records that only the contracts of inner functions cite. Nobody has to believe them: they say where a loop or a call stands.
 use mathlib.Core.Path.{_≡_}
 use mathlib.Core.List.{List, [], _∷_, _++_, map}
-use Prim.Native.Nat.{ℕ, zero, suc, _+_, _-_, _*_, _/_, _^_, _<_, _≤_}
+use Prim.Native.Nat.{ℕ, zero, suc, _+_, _-_, _*_, _^_, _<_, _≤_}
 use lib.ListN.{length, getD, take, drop}
 use lib.Bits.{bitXor}
 use Rattle.codewords.specs.Codewords.{value, dataBits, starts, storeAt, streamOf, interleaved}

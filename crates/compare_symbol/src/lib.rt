@@ -3,7 +3,7 @@ ghost use mathlib.Core.Path.{_≡_};
 ghost use Rattle.symbol.specs.Version.{sideVersion, versionOf};
 ghost use Rattle.symbol.specs.Layout.{layoutRefusal, layoutWritten, refusalOf};
 ghost use Rattle.information.specs.Information.{infoRefusal, infoWord, wordRefusalOf, wordIn, nearestRefusal, nearestLevel, nearestMask, nearestDistance, nearestRefusalOf, levelOf, maskOf, distanceOf};
-ghost use Rattle.compare_symbol.specs.Answers.{totalAnswer, rowAnswer, maskAnswer};
+ghost use Rattle.compare_symbol.specs.Answers.{totalAnswer, rowAnswer, maskAnswer, positionAnswer};
 use information::InfoBits;
 use information::NearestInfo;
 use symbol::FromSide;
@@ -159,4 +159,21 @@ pub extern "C" fn hx_masked(mask: usize, row: usize, column: usize) -> usize
         return 2;
     }
     codewords::masked(mask, row + 1, column + 1)
+}
+
+// The place of information bit n in copy 0 or in the other one, or 0 where the side or n is out of range.
+#[no_mangle]
+pub extern "C" fn hx_info_position(side: usize, copy: usize, n: usize) -> usize
+    ensures { λ r. ⌜ r ≡ positionAnswer side copy n ⌝ }
+{
+    if side < 23 {
+        return 0;
+    }
+    if 189 < side {
+        return 0;
+    }
+    if 34 <= n {
+        return 0;
+    }
+    information::info_position(side, copy != 0, n)
 }

@@ -1,6 +1,6 @@
 -- What the functions on information modules need of numbers.
-use mathlib.Core.Path.{_≡_, refl, sym, ap, ap₂, subst, _∙_}
-use mathlib.Core.Bool.{Bool, true, false, cond}
+use mathlib.Core.Path.{_≡_, sym, ap, ap₂, subst, _∙_}
+use mathlib.Core.Bool.{Bool, true, false}
 use mathlib.Core.List.{List}
 use Prim.Native.Nat.{ℕ, zero, suc, _+_, _-_, _*_, _^_, _<_, _≤_}
 use native.Mathlib.Nat.{mul-le-mul, pow-suc}
@@ -8,9 +8,9 @@ use native.Mathlib.Numerals.{add-one}
 use native.Mathlib.Omega.{arith}
 use lib.Dec.{lit<}
 use lib.Pow.{pow-mono}
-use lib.ListN.{getD, set}
+use lib.ListN.{set}
 use Rattle.information.specs.Information.{positionRow, positionColumn, infoPosition, numberOf, bitOf, bitsWritten}
-use Rattle.information.proofs.Distinct.{row-lt, column-lt, place-lt}
+use Rattle.information.proofs.Distinct.{row-lt, place-lt}
 
 module _ (s n : ℕ) (big : 23 ≤ s) (hi : s ≤ 189) (h : n < 34) {r : ℕ} (d : r ≡ positionRow n) where
   pub row-fits : r * s ≤ 1701
@@ -27,9 +27,6 @@ module _ (s n : ℕ) (big : 23 ≤ s) (hi : s ≤ 189) (h : n < 34) {r : ℕ} (d
 
     pub first-lt : r * s + c < s * s
     first-lt = subst (λ (k : ℕ). k < s * s) (sym first-is) (place-lt s big false n h)
-
-pub square-le : (s : ℕ) → s ≤ 189 → s * s ≤ 35721
-square-le s h = mul-le-mul h h
 
 number-lt : (f : ℕ → ℕ) → ((k : ℕ) → f k < 2) → (n : ℕ) → numberOf f n < 2 ^ n
 unfolding numberOf

@@ -1,21 +1,13 @@
 -- The 68 places are distinct, and lie inside.
-use mathlib.Core.Path.{_≡_, refl, sym, ap, ap₂, subst, _∙_}
+use mathlib.Core.Path.{_≡_, refl, sym, ap, subst, _∙_}
 use mathlib.Core.Bool.{Bool, true, false, cond}
-use Prim.Native.Nat.{ℕ, zero, suc, _+_, _-_, _*_, _/_, _%_, _<_, _≤_}
+use Prim.Native.Nat.{ℕ, _+_, _-_, _*_, _/_, _%_, _<_, _≤_}
 use native.Mathlib.Nat.{mul-le-mul}
 use native.Mathlib.Omega.{arith}
 use lib.Arith.{digits-div, digits-mod, digits-lt}
 use lib.Dec.{ltb}
 use borrow.Author.Tests.{ltb-true, ltb-false}
 use Rattle.information.specs.Information.{positionRow, positionColumn, infoPosition}
-
--- by the test a < b
-by-lt : (P : ℕ → Type 0) (a b x y : ℕ) → (a < b → P x) → (b ≤ a → P y) → P (cond (ltb a b) x y)
-by-lt P a b x y f g = go (ltb a b) refl
-  where
-    go : (t : Bool) → ltb a b ≡ t → P (cond t x y)
-    go true e = f (ltb-true a b e)
-    go false e = g (ltb-false a b e)
 
 -- the arm that a place lies in
 pub data Arm (s n : ℕ) : ℕ → ℕ → Type 0 where
@@ -81,34 +73,34 @@ module _ (s : ℕ) (big : 23 ≤ s) where
       go (south a) (east b d) p q = omega arith
       go (south a) (south b) p q = omega arith
 
-  cell : ℕ → ℕ
-  cell n = positionRow n * s + positionColumn s n
+  firstPlace : ℕ → ℕ
+  firstPlace n = positionRow n * s + positionColumn s n
 
   -- the first copy lies in the upper nine rows, and those are less than half
-  cell-lt : (n : ℕ) → n < 34 → cell n < 9 * s
-  unfolding cell
-  cell-lt n h = digits-lt (row-lt n) (column-lt n h)
+  firstPlace-lt : (n : ℕ) → n < 34 → firstPlace n < 9 * s
+  unfolding firstPlace
+  firstPlace-lt n h = digits-lt (row-lt n) (column-lt n h)
 
   half : 9 * s + 9 * s ≤ s * s
   half = subst (λ (k : ℕ). k ≤ s * s) (let e : 18 * s ≡ 9 * s + 9 * s = omega arith in e) (mul-le-mul (let e : 18 ≤ s = omega arith in e) (let e : s ≤ s = omega arith in e))
 
-  cell-same : (n m : ℕ) → n < 34 → m < 34 → cell n ≡ cell m → n ≡ m
-  unfolding cell
-  cell-same n m h g e =
+  firstPlace-same : (n m : ℕ) → n < 34 → m < 34 → firstPlace n ≡ firstPlace m → n ≡ m
+  unfolding firstPlace
+  firstPlace-same n m h g e =
       same-place n m h g
       (sym (digits-div (positionRow n) (column-lt n h)) ∙ ap (λ (k : ℕ). k / s) e ∙ digits-div (positionRow m) (column-lt m g))
       (sym (digits-mod (positionRow n) (column-lt n h)) ∙ ap (λ (k : ℕ). k % s) e ∙ digits-mod (positionRow m) (column-lt m g))
 
   pub place-lt : (b : Bool) (n : ℕ) → n < 34 → infoPosition s b n < s * s
-  unfolding infoPosition cell
-  place-lt false n h = omega (arith, cell-lt n h, half)
-  place-lt true n h = omega (arith, cell-lt n h, half)
+  unfolding infoPosition firstPlace
+  place-lt false n h = omega (arith, firstPlace-lt n h, half)
+  place-lt true n h = omega (arith, firstPlace-lt n h, half)
 
   pub place-same : (b : Bool) (n m : ℕ) → n < 34 → m < 34 → infoPosition s b n ≡ infoPosition s b m → n ≡ m
-  unfolding infoPosition cell
-  place-same false n m h g e = cell-same n m h g e
-  place-same true n m h g e = cell-same n m h g (omega (arith, cell-lt n h, cell-lt m g, half))
+  unfolding infoPosition firstPlace
+  place-same false n m h g e = firstPlace-same n m h g e
+  place-same true n m h g e = firstPlace-same n m h g (omega (arith, firstPlace-lt n h, firstPlace-lt m g, half))
 
   pub place-other : (n m : ℕ) → n < 34 → m < 34 → infoPosition s false n ≡ infoPosition s true m → ⊥
-  unfolding infoPosition cell
-  place-other n m h g e = omega (arith, cell-lt n h, cell-lt m g, half)
+  unfolding infoPosition firstPlace
+  place-other n m h g e = omega (arith, firstPlace-lt n h, firstPlace-lt m g, half)

@@ -2,10 +2,9 @@
 use mathlib.Core.Path.{_≡_, refl, sym, ap, ap₂, subst, _∙_}
 use mathlib.Core.Bool.{Bool, true, false, cond, not, _&&_}
 use mathlib.Core.List.{List, [], _∷_}
-use Prim.Native.Nat.{ℕ, zero, suc, _+_, _-_, _*_, _/_, _%_, _^_, _<_, _≤_}
-use native.Mathlib.Nat.{mod-lt, not-suc-le-zero}
+use Prim.Native.Nat.{ℕ, zero, suc, _+_, _-_, _*_, _/_, _^_, _<_, _≤_}
+use native.Mathlib.Nat.{mod-lt}
 use native.Mathlib.Omega.{arith}
-use native.Mathlib.Decide.{decLt}
 use lib.Dec.{eqb, ltb, lit<}
 use borrow.Author.Tests.{eqb-true, eqb-false, ltb-true, ltb-false}
 use lib.Seq.{getD-set-same, getD-set-other, set-out}
@@ -16,7 +15,7 @@ use Rattle.symbol.specs.Version.{sideOf}
 use Rattle.symbol.specs.Layout.{layoutOf}
 use Rattle.symbol.proofs.Theorems.{layout-length}
 use Rattle.information.specs.Information.{wordAt, distance, nearest, infoPosition, copyOf, bitOf, bitsWritten, copyWritten, infoWritten, infoFlips}
-use Rattle.information.proofs.Apart.{few-flips, word-lt}
+use Rattle.information.proofs.Apart.{few-flips}
 use Rattle.information.proofs.Read.{differing, distance-is, written-length, written-else, round, round-first}
 use Rattle.information.proofs.Distinct.{place-same, place-other}
 use Rattle.information.proofs.Kind.{info-kind}

@@ -1,10 +1,10 @@
 -- The 68 places are information modules of the layout.
-use mathlib.Core.Path.{_≡_, refl, sym, ap, ap₂, subst, _∙_}
+use mathlib.Core.Path.{_≡_, refl, sym, ap, _∙_}
 use mathlib.Core.Bool.{Bool, true, false, cond}
-use Prim.Native.Nat.{ℕ, zero, suc, _+_, _-_, _*_, _<_, _≤_}
+use Prim.Native.Nat.{ℕ, _+_, _-_, _*_, _<_, _≤_}
 use native.Mathlib.Nat.{add-mul}
 use native.Mathlib.Omega.{arith}
-use lib.Dec.{ltb, eqb}
+use lib.Dec.{ltb}
 use lib.ListN.{getD}
 use borrow.Author.Tests.{lt-ltb, le-ltb, ltb-false}
 use Rattle.symbol.specs.Version.{sideOf}
@@ -53,7 +53,7 @@ module _ (s : ℕ) (big : 23 ≤ s) where
       go (east a b) = ring-column (s - 1 - (n - 17)) (s - 1 - (s - 9)) (omega (arith, far (s - 1 - (n - 17)) (n - 17) (omega arith) (omega arith))) (let e : s - 1 - (s - 9) ≡ 8 = omega arith in rw e (near 8 (omega arith)))
       go (south a) = ring-row (s - 1 - 8) (s - 1 - (s - 9 + (n - 25))) (far (s - 1 - 8) 8 (omega arith) (omega arith)) (let e : s - 1 - (s - 9 + (n - 25)) ≡ 33 - n = omega arith in rw e (omega (arith, near (33 - n) (omega arith))))
 
-  -- a cell turned half round
+  -- a place turned half round
   turned : (r c : ℕ) → r < s → c < s → s * s - 1 - (r * s + c) ≡ (s - 1 - r) * s + (s - 1 - c)
   turned r c h g =
       let a : (s - 1 - r + (r + 1)) * s ≡ s * s = ap (λ (k : ℕ). k * s) (let z : s - 1 - r + (r + 1) ≡ s = omega arith in z) in

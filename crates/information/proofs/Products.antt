@@ -1,17 +1,15 @@
 -- Laws of the gf16Mul in GF(16).
 use mathlib.Core.Path.{_≡_, refl, sym, ap, ap₂, subst, _∙_}
-use Prim.Native.Nat.{ℕ, zero, suc, _+_, _-_, _*_, _/_, _<_, _≤_}
+use Prim.Native.Nat.{ℕ, suc, _+_, _-_, _*_, _/_, _<_, _≤_, _%_}
 use native.Mathlib.Numerals.{add-one}
-use Prim.Native.Nat.{_%_}
-use Rattle.information.specs.Information.{leastOf}
+use Rattle.information.specs.Information.{leastOf, timesX, plusIfOdd, productFrom, generatorTimes, remainder}
 use Rattle.information.specs.Inner.{Found}
 use Rattle.information.specs.declared.Best.{Best}
 use mathlib.Core.Bool.{Bool, true, false, cond}
 use native.Mathlib.Omega.{arith}
 use lib.Dec.{ltb→lt, ltb}
 use lib.Bits.{bitXor}
-use Rattle.information.specs.Information.{timesX, plusIfOdd, productFrom, generatorTimes, remainder}
-use Rattle.symbol.proofs.Finite.{upTo, every}
+use Rattle.symbol.proofs.Finite.{every}
 
 pub eight : (a : ℕ) → 16 ≤ 2 * a → a < 16 → bitXor (2 * a) 0x13 < 16
 eight a l h =

@@ -1,7 +1,7 @@
 -- What only the code of the nearest word uses. Nobody has to believe it.
 use mathlib.Core.Path.{_≡_}
 use mathlib.Core.List.{List, [], _∷_}
-use Prim.Native.Nat.{ℕ, _<_, _≤_}
+use Prim.Native.Nat.{ℕ, _<_}
 use Rattle.information.specs.declared.Best.{Best}
 
 -- by which bits word k of a version differs from its word 0: the same for every version, since the code is linear

@@ -4,14 +4,13 @@ use mathlib.Core.Bool.{Bool, true, false, cond}
 use Prim.Native.Nat.{ℕ, zero, suc, _+_, _-_, _*_, _<_, _≤_, _^_}
 use native.Mathlib.Nat.{mul-le-mul}
 use native.Mathlib.Omega.{arith}
-use lib.Arith.{digits-lt}
 use lib.Dec.{T, ltb, leb}
 use lib.IntN.{ℤ, pos, negsuc, natAbs, negℤ, _+ℤ_, _-ℤ_, subℕ, +ℤ-assoc, negℤ-+ℤ}
 use lib.Signed.{ltZ, leZ, mag, nonNeg}
 use borrow.Author.Tests.{lt-ltb, le-ltb, ltb-true, ltb-false, le-leb, lt-leb}
 use mir.Syntax.{w64}
 use mir.Val.{Fits, SFits, toZ, ofZ}
-use mir.Facts.{toZ-ofZ, fits-natAbs, sfits-lit}
+use mir.Facts.{toZ-ofZ, fits-natAbs}
 use Rattle.symbol.specs.Layout.{placeAt}
 
 true-false : true ≡ false → ⊥
@@ -122,9 +121,6 @@ module _ (s : ℕ) (x y : ℤ) (f : SFits w64 x) (g : SFits w64 y) where
 -- what is said of signed numbers as the machine reads them, of the numbers
 pub read : {A : Type 0} (F : ℤ → A) {x : ℤ} → SFits w64 x → F (toZ w64 (ofZ w64 x)) ≡ F x
 read F f = ap F (toZ-ofZ f)
-
-pub read2 : {A : Type 0} (F : ℤ → ℤ → A) {x y : ℤ} → SFits w64 x → SFits w64 y → F (toZ w64 (ofZ w64 x)) (toZ w64 (ofZ w64 y)) ≡ F x y
-read2 F {x} {y} f g = ap (λ (z : ℤ). F z (toZ w64 (ofZ w64 y))) (toZ-ofZ f) ∙ ap (F x) (toZ-ofZ g)
 
 -- the range of a call's result
 pub ok : (x : ℤ) → mag x < 2 ^ 63 → SFits w64 x

@@ -2,17 +2,17 @@
 use mathlib.Core.Path.{_≡_, refl, sym, ap, subst, _∙_}
 use mathlib.Core.Bool.{Bool, true, false, cond}
 use mathlib.Core.List.{List, []}
-use Prim.Native.Nat.{ℕ, zero, suc, _+_, _-_, _*_, _/_, _%_, _^_, _<_, _≤_}
+use Prim.Native.Nat.{ℕ, suc, _+_, _-_, _*_, _/_, _%_, _^_, _<_, _≤_}
 use native.Mathlib.Omega.{arith}
-use native.Mathlib.Nat.{mul-le-mul-right, mul-div-mul-left, pow-succ', suc-mul, zero-div}
+use native.Mathlib.Nat.{mul-le-mul-right, mul-div-mul-left, pow-succ', suc-mul, zero-div, le-div-iff-mul-le, div-lt-iff-lt-mul}
 use native.Mathlib.Decide.{decLt}
 use native.Mathlib.Numerals.{add-one}
 use lib.Arith.{digits-div, digits-mod}
-use lib.Dec.{T, ltb, eqb, ltb→lt, lit<}
+use lib.Dec.{T, ltb, ltb→lt, lit<}
 use lib.ListN.{getD}
-use borrow.Author.Tests.{lt-ltb, le-ltb, ltb-true, ltb-false, eq-eqb, ne-eqb}
+use borrow.Author.Tests.{lt-ltb, le-ltb, ltb-true, ltb-false, ne-eqb}
 use Rattle.symbol.specs.Layout.{finders, edge, ring, half, within, finderRow, finderAt, cornerAt, cornerKind}
-use Rattle.symbol.specs.Inner.{Stored}
+use Rattle.symbol.specs.Inner.{Stored, Ends, UpTo, Beyond}
 use Rattle.symbol.proofs.Finite.{upTo, every}
 use Rattle.symbol.proofs.Stored.{stored-next, stored-as}
 
@@ -212,26 +212,37 @@ module _ (s r : ℕ) (big : 23 ≤ s) (in-row : r < s) where
               ∙ ap (λ (n : ℕ). 2 + finderRow s 1 r / 2 ^ n % 2) (sym e)
               ∙ sym (in-finder s r c l (omega (arith, d)) ∙ simp (le-ltb c 7 (omega arith)))
 
--- a row of the corners from its stretches
+-- a row of the corners from its ends
 module _ (s r : ℕ) (big : 23 ≤ s) (in-row : r < s) where
+  -- two stretches of nine
+  two-ends : {g g₁ g₂ : List ℕ} → Stored (cornerKind s) (r * s) (r * s + 9) g g₁ → Stored (cornerKind s) (r * s + s - 9) (r * s + s) g₁ g₂ → Ends (cornerKind s) (r * s) (r * s + s) g g₂
+  two-ends a b =
+      record {
+        size = b .size ∙ a .size;
+        left = λ i h k. b .before i (omega arith) ∙ a .here i h k;
+        right = λ i h k. b .here i (omega arith) k;
+        middle = λ i h k. b .before i (omega arith) ∙ a .after i h;
+        before = λ i h. b .before i (omega arith) ∙ a .before i h;
+        after = λ i h. b .after i h ∙ a .after i (omega arith);
+      }
+
   pub finder-row : (left right : ℕ) → edge s r < 8
       → (left < 128) × ((edge s r < 7 → left ≡ finderRow s 0 r) × (edge s r ≡ 7 → left ≡ 0))
       → (right < 128) × ((edge s r < 7 → right ≡ finderRow s 1 r) × (edge s r ≡ 7 → right ≡ 0))
-      → {g g₁ g₂ g₃ g₄ g₅ : List ℕ}
+      → {g g₁ g₂ g₃ g₄ : List ℕ}
       → Stored (λ i. 2 + 2 * left / 2 ^ (7 - (i - r * s)) % 2) (r * s) (r * s + 8) g g₁
       → Stored (λ i. 1) (r * s + 8) (r * s + 9) g₁ g₂
-      → Stored (λ i. 0) (r * s + 9) (r * s + s - 9) g₂ g₃
-      → Stored (λ i. 1) (r * s + s - 9) (r * s + s - 8) g₃ g₄
-      → Stored (λ i. 2 + right / 2 ^ (7 - (i - (r * s + s - 8))) % 2) (r * s + s - 8) (r * s + s - 8 + 8) g₄ g₅
-      → Stored (cornerKind s) (r * s) (r * s + s) g g₅
-  finder-row left right near l q {g} {g₁} {g₂} {g₃} {g₄} {g₅} a b c d e =
+      → Stored (λ i. 1) (r * s + s - 9) (r * s + s - 8) g₂ g₃
+      → Stored (λ i. 2 + right / 2 ^ (7 - (i - (r * s + s - 8))) % 2) (r * s + s - 8) (r * s + s - 8 + 8) g₃ g₄
+      → Ends (cornerKind s) (r * s) (r * s + s) g g₄
+  finder-row left right near l q {g} {g₁} {g₂} {g₃} {g₄} a b d e =
       let end : r * s + s - 8 + 8 ≡ r * s + s = omega arith in
-      let e′ : Stored (λ i. 2 + right / 2 ^ (7 - (i - (r * s + s - 8))) % 2) (r * s + s - 8) (r * s + s) g₄ g₅ = subst (λ (n : ℕ). Stored (λ i. 2 + right / 2 ^ (7 - (i - (r * s + s - 8))) % 2) (r * s + s - 8) n g₄ g₅) end e in
-      stored-next (omega arith) (omega arith) (stored-as (cornerKind s) (along s r (λ i. 2 + 2 * left / 2 ^ (7 - (i - r * s)) % 2) (omega arith) (omega arith) lefts) a)
-      (stored-next (omega arith) (omega arith) (stored-as (cornerKind s) (along s r (λ i. 1) (omega arith) (omega arith) (λ k h j. let z : 8 ≡ k = omega arith in sym (left-information s r big in-row near) ∙ ap (cornerAt s r) z)) b)
-      (stored-next (omega arith) (omega arith) (stored-as (cornerKind s) (along s r (λ i. 0) (omega arith) (omega arith) (λ k h j. sym (data-column s r big in-row k (omega arith) (omega arith)))) c)
+      let e′ : Stored (λ i. 2 + right / 2 ^ (7 - (i - (r * s + s - 8))) % 2) (r * s + s - 8) (r * s + s) g₃ g₄ = subst (λ (n : ℕ). Stored (λ i. 2 + right / 2 ^ (7 - (i - (r * s + s - 8))) % 2) (r * s + s - 8) n g₃ g₄) end e in
+      two-ends
+      (stored-next (omega arith) (omega arith) (stored-as (cornerKind s) (along s r (λ i. 2 + 2 * left / 2 ^ (7 - (i - r * s)) % 2) (omega arith) (omega arith) lefts) a)
+      (stored-as (cornerKind s) (along s r (λ i. 1) (omega arith) (omega arith) (λ k h j. let z : 8 ≡ k = omega arith in sym (left-information s r big in-row near) ∙ ap (cornerAt s r) z)) b))
       (stored-next (omega arith) (omega arith) (stored-as (cornerKind s) (along s r (λ i. 1) (omega arith) (omega arith) (λ k h j. let z : s - 9 ≡ k = omega arith in sym (right-information s r big in-row near) ∙ ap (cornerAt s r) z)) d)
-      (stored-as (cornerKind s) (along s r (λ i. 2 + right / 2 ^ (7 - (i - (r * s + s - 8))) % 2) (omega arith) (omega arith) rights) e′))))
+      (stored-as (cornerKind s) (along s r (λ i. 2 + right / 2 ^ (7 - (i - (r * s + s - 8))) % 2) (omega arith) (omega arith) rights) e′))
     where
       lefts : (k : ℕ) → r * s ≤ r * s + k → r * s + k < r * s + 8 → 2 + 2 * left / 2 ^ (7 - (r * s + k - r * s)) % 2 ≡ cornerAt s r k
       lefts k h j =
@@ -241,16 +252,74 @@ module _ (s r : ℕ) (big : 23 ≤ s) (in-row : r < s) where
       rights : (k : ℕ) → r * s + s - 8 ≤ r * s + k → r * s + k < r * s + s → 2 + right / 2 ^ (7 - (r * s + k - (r * s + s - 8))) % 2 ≡ cornerAt s r k
       rights k h j = right-modules s r big in-row near right 1 (q .0) (q .1 .0) (q .1 .1) refl k (r * s + k - (r * s + s - 8)) (omega arith) (omega arith)
 
-  pub information-row : edge s r ≡ 8 → {g g₁ g₂ g₃ : List ℕ}
-      → Stored (λ i. 1) (r * s) (r * s + 9) g g₁ → Stored (λ i. 0) (r * s + 9) (r * s + s - 9) g₁ g₂ → Stored (λ i. 1) (r * s + s - 9) (r * s + s) g₂ g₃
-      → Stored (cornerKind s) (r * s) (r * s + s) g g₃
-  information-row arm a b c =
-      stored-next (omega arith) (omega arith) (stored-as (cornerKind s) (along s r (λ i. 1) (omega arith) (omega arith) (λ k h j. sym (arm-left s r big in-row arm k (omega arith)))) a)
-      (stored-next (omega arith) (omega arith) (stored-as (cornerKind s) (along s r (λ i. 0) (omega arith) (omega arith) (λ k h j. sym (data-column s r big in-row k (omega arith) (omega arith)))) b)
-      (stored-as (cornerKind s) (along s r (λ i. 1) (omega arith) (omega arith) (λ k h j. sym (arm-right s r big in-row arm k (omega arith) (omega arith)))) c))
+  pub information-row : edge s r ≡ 8 → {g g₁ g₂ : List ℕ} → Stored (λ i. 1) (r * s) (r * s + 9) g g₁ → Stored (λ i. 1) (r * s + s - 9) (r * s + s) g₁ g₂ → Ends (cornerKind s) (r * s) (r * s + s) g g₂
+  information-row arm a b =
+      two-ends (stored-as (cornerKind s) (along s r (λ i. 1) (omega arith) (omega arith) (λ k h j. sym (arm-left s r big in-row arm k (omega arith)))) a)
+      (stored-as (cornerKind s) (along s r (λ i. 1) (omega arith) (omega arith) (λ k h j. sym (arm-right s r big in-row arm k (omega arith) (omega arith)))) b)
 
-  pub data-row : 9 ≤ edge s r → {g g' : List ℕ} → Stored (λ i. 0) (r * s) (r * s + s) g g' → Stored (cornerKind s) (r * s) (r * s + s) g g'
-  data-row h a = stored-as (cornerKind s) (along s r (λ i. 0) (omega arith) (omega arith) (λ k d j. sym (in-data-row s r k h))) a
+  -- the places between the ends of a row are data
+  pub row-done : {g g' : List ℕ} → UpTo (cornerKind s) (s * s) (r * s) g → Ends (cornerKind s) (r * s) (r * s + s) g g' → UpTo (cornerKind s) (s * s) (r * s + s) g'
+  row-done {g} {g'} u e =
+      record {
+        done = λ i h. elim (decLt i (r * s)) [
+          | yes l ↦ e .before i l ∙ u .done i l
+          | no l ↦ elim (decLt i (r * s + 9)) [
+            | yes k ↦ e .left i (omega arith) k
+            | no k ↦ elim (decLt (i + 9) (r * s + s)) [
+              | yes j ↦ e .middle i (omega arith) j ∙ u .blank i (omega arith) (omega (arith, row-end s r in-row)) ∙ along s r (λ n. 0) {from = r * s + 9} {to = r * s + s - 9} (omega arith) (omega arith) (λ c p q. sym (data-column s r big in-row c (omega arith) (omega arith))) i (omega arith) (omega arith)
+              | no j ↦ e .right i (omega arith) h
+            ]
+          ]
+        ];
+        blank = λ i h k. e .after i h ∙ u .blank i (omega arith) k;
+      }
+
+  pub row-beyond : {g g' : List ℕ} → Ends (cornerKind s) (r * s) (r * s + s) g g' → Beyond (s * s) g g'
+  row-beyond e = record { size = e .size; after = λ i h. e .after i (omega (arith, row-end s r in-row)) }
+
+-- rows 9 to s − 10 are data
+pub data-rows : (s : ℕ) → 23 ≤ s → {g : List ℕ} → UpTo (cornerKind s) (s * s) (9 * s) g → UpTo (cornerKind s) (s * s) ((s - 9) * s) g
+data-rows s big {g} u =
+    record {
+      done = λ i h. elim (decLt i (9 * s)) [
+        | yes l ↦ u .done i l
+        | no l ↦ u .blank i (omega arith) (omega (arith, mul-le-mul-right s (let z : s - 9 ≤ s = omega arith in z))) ∙ sym (in-data-row s (i / s) (i % s) (edge-mid s (i / s) 9 (low i (omega arith)) (omega (arith, high i h))))
+      ];
+      blank = λ i h k. u .blank i (omega (arith, mul-le-mul-right s (let z : 9 ≤ s - 9 = omega arith in z))) k;
+    }
+  where
+    pos-side : 0 < s
+    pos-side = omega arith
+
+    low : (i : ℕ) → 9 * s ≤ i → 9 ≤ i / s
+    low i h = le-div-iff-mul-le {k = s} {x = 9} {y = i} pos-side .1 h
+
+    high : (i : ℕ) → i < (s - 9) * s → i / s < s - 9
+    high i h = div-lt-iff-lt-mul {k = s} {x = i} {y = s - 9} pos-side .1 h
+
+pub all-blank : (f : ℕ → ℕ) (n m : ℕ) {g g' : List ℕ} → m ≡ 0 → Stored (λ i. 0) 0 n g g' → UpTo f n m g'
+all-blank f n m e s = record { done = λ i h. absurd (omega arith); blank = λ i h k. s .here i (omega arith) k }
+
+pub near-upper : (s : ℕ) → (r : ℕ) → 0 ≤ r → r < 9 → edge s r < 9
+near-upper s r h k = omega (arith, edge-top s r)
+
+pub near-lower : (s : ℕ) → (r : ℕ) → s - 9 ≤ r → r < s → edge s r < 9
+near-lower s r h k = omega (arith, edge-bottom s r)
+
+pub beyond-none : {n : ℕ} {g : List ℕ} → Beyond n g g
+beyond-none = record { size = refl; after = λ i h. refl }
+
+pub beyond-next : {n : ℕ} {g g' g'' : List ℕ} → Beyond n g g' → Beyond n g' g'' → Beyond n g g''
+beyond-next a b = record { size = b .size ∙ a .size; after = λ i h. b .after i h ∙ a .after i h }
+
+pub corners-stored : {f : ℕ → ℕ} {n : ℕ} {g g₁ g₂ g₃ : List ℕ} → Stored (λ i. 0) 0 n g g₁ → Beyond n g₁ g₂ → Beyond n g₂ g₃ → UpTo f n n g₃ → Stored f 0 n g g₃
+corners-stored a b c u =
+    record {
+      size = c .size ∙ b .size ∙ a .size;
+      here = λ i h k. u .done i k;
+      before = λ i h. absurd (omega arith);
+      after = λ i h. c .after i h ∙ b .after i h ∙ a .after i h;
+    }
 
 -- one row more
 pub row-next : (s r : ℕ) → r * s + s ≡ (r + 1) * s

@@ -1,18 +1,16 @@
 -- Plots one after another.
 use mathlib.Core.Path.{_≡_, refl, sym, ap, subst, _∙_}
 use mathlib.Core.List.{List, [], _∷_, _++_}
-use Prim.Native.Nat.{ℕ, zero, suc, _+_, _*_, _<_, _≤_}
+use Prim.Native.Nat.{ℕ, _+_, _*_, _<_, _≤_, _%_}
 use native.Mathlib.Numerals.{add-one}
 use lib.IntN.{ℤ}
 use mir.Syntax.{w64}
 use mir.Val.{SFits, toZ, ofZ}
 use mir.Facts.{toZ-ofZ}
-use mathlib.Core.Bool.{Bool, true, false, not, _&&_}
-use Prim.Native.Nat.{_%_}
-use borrow.Author.Tests.{eq-eqb, ne-eqb}
+use mathlib.Core.Bool.{Bool}
+use borrow.Author.Tests.{eq-eqb, ne-eqb, lt-ltb, le-ltb}
 use Rattle.symbol.specs.Layout.{when, assistant, lineLeft, lineDown, placeAt, crossing, columnOf, rowOf, stepOf, Plot, plot, plotOne, plotAll, each}
 use lib.ListN.{getD, set}
-use borrow.Author.Tests.{lt-ltb, le-ltb}
 use Rattle.symbol.specs.Inner.{Plotted}
 
 pub plotAll-append : (s : ℕ) (ps qs : List Plot) (g : List ℕ) → plotAll s (ps ++ qs) g ≡ plotAll s qs (plotAll s ps g)

@@ -15,6 +15,25 @@ pub record Stored (f : ℕ → ℕ) (from to : ℕ) (g g' : List ℕ) : Type 0 w
   pub before : (i : ℕ) → i < from → getD g' i 0 ≡ getD g i 0
   pub after : (i : ℕ) → to ≤ i → getD g' i 0 ≡ getD g i 0
 
+-- the first and last nine places from `from` to below `to` were given what f says, and no other byte changed
+pub record Ends (f : ℕ → ℕ) (from to : ℕ) (g g' : List ℕ) : Type 0 where
+  pub size : length g' ≡ length g
+  pub left : (i : ℕ) → from ≤ i → i < from + 9 → getD g' i 0 ≡ f i
+  pub right : (i : ℕ) → to ≤ i + 9 → i < to → getD g' i 0 ≡ f i
+  pub middle : (i : ℕ) → from + 9 ≤ i → i + 9 < to → getD g' i 0 ≡ getD g i 0
+  pub before : (i : ℕ) → i < from → getD g' i 0 ≡ getD g i 0
+  pub after : (i : ℕ) → to ≤ i → getD g' i 0 ≡ getD g i 0
+
+-- of n places, those below k hold what f says, the others 0
+pub record UpTo (f : ℕ → ℕ) (n k : ℕ) (g : List ℕ) : Type 0 where
+  pub done : (i : ℕ) → i < k → getD g i 0 ≡ f i
+  pub blank : (i : ℕ) → k ≤ i → i < n → getD g i 0 ≡ 0
+
+-- no byte from n on changed
+pub record Beyond (n : ℕ) (g g' : List ℕ) : Type 0 where
+  pub size : length g' ≡ length g
+  pub after : (i : ℕ) → n ≤ i → getD g' i 0 ≡ getD g i 0
+
 -- a square before and after the plots of a list
 pub record Plotted (s : ℕ) (ps : List Plot) (g g' : List ℕ) : Type 0 where
   pub is : g' ≡ plotAll s ps g

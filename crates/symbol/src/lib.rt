@@ -3,14 +3,14 @@
 ghost use mathlib.Core.Bool.{true, false};
 ghost use mathlib.Core.Path.{_≡_};
 ghost use mathlib.Core.List.{[], _∷_};
-ghost use Prim.Native.Nat.{_+_, _-_, _*_, _/_, _%_, _^_, _≤_, _<_};
+ghost use Prim.Native.Nat.{ℕ, _+_, _-_, _*_, _/_, _%_, _^_, _≤_, _<_};
 ghost use lib.ListN.{length, getD};
 ghost use lib.IntN.{pos, _+ℤ_, _-ℤ_};
 ghost use lib.Signed.{mag};
 ghost use Rattle.symbol.specs.Version.{sideOf, sideRefusal, sideVersion, versionOf};
 ghost use Rattle.symbol.specs.Version as version;
-ghost use Rattle.symbol.specs.Layout.{finders, edge, half, within, finderRow, cornerKind, placeAt, plot, each, when, stepOf, mOf, rowOf, columnOf, threeAt, assistant, rowEnds, columnEnds, lineModule, lineLeft, lineDown, crossing, crossings, alignment, layoutRefusal, layoutWritten, refusalOf};
-ghost use Rattle.symbol.specs.Inner.{Stored, Plotted, Spaced, Roomy, OnLine};
+ghost use Rattle.symbol.specs.Layout.{finders, edge, half, within, finderRow, cornerKind, plot, each, when, stepOf, mOf, rowOf, columnOf, threeAt, assistant, rowEnds, columnEnds, lineModule, lineLeft, lineDown, crossing, crossings, alignment, layoutRefusal, layoutWritten, refusalOf};
+ghost use Rattle.symbol.specs.Inner.{Stored, Ends, UpTo, Beyond, Plotted, Spaced, Roomy, OnLine};
 
 pub struct Version {
     pub number: usize,
@@ -388,47 +388,52 @@ fn modules(out: &mut [u8], at: usize, bits: u8)
     }
 }
 
-// A row through two finders or their separators.
+// The ends of a row through two finders or their separators.
 fn finder_line(out: &mut [u8], side: usize, row: usize)
     requires { ⌜ (23 ≤ side) × (side ≤ 189) × (side * side ≤ length (now out)) × (row < side) × (edge side row < 8) ⌝ }
-    ensures { λ _. ⌜ Stored (cornerKind side) (row * side) (row * side + side) (now (out .entry)) (now (out .exit)) ⌝ }
+    ensures { λ _. ⌜ Ends (cornerKind side) (row * side) (row * side + side) (now (out .entry)) (now (out .exit)) ⌝ }
 {
     let at = row * side;
     let left = finder_row(side, 0, row);
     let right = finder_row(side, 1, row);
     modules(out, at, 2 * left);
     run(out, at + 8, at + 9, 1);
-    run(out, at + 9, at + side - 9, 0);
     run(out, at + side - 9, at + side - 8, 1);
     modules(out, at + side - 8, right);
 }
 
-// A row with two arms of information modules.
+// The ends of a row with two arms of information modules.
 fn information_line(out: &mut [u8], side: usize, row: usize)
     requires { ⌜ (23 ≤ side) × (side ≤ 189) × (side * side ≤ length (now out)) × (row < side) × (edge side row ≡ 8) ⌝ }
-    ensures { λ _. ⌜ Stored (cornerKind side) (row * side) (row * side + side) (now (out .entry)) (now (out .exit)) ⌝ }
+    ensures { λ _. ⌜ Ends (cornerKind side) (row * side) (row * side + side) (now (out .entry)) (now (out .exit)) ⌝ }
 {
     let at = row * side;
     run(out, at, at + 9, 1);
-    run(out, at + 9, at + side - 9, 0);
     run(out, at + side - 9, at + side, 1);
 }
 
-// A row before the alignment patterns are plotted.
+// The ends of a row near the upper or lower edge.
 fn line(out: &mut [u8], side: usize, row: usize)
-    requires { ⌜ (23 ≤ side) × (side ≤ 189) × (side * side ≤ length (now out)) × (row < side) ⌝ }
-    ensures { λ _. ⌜ Stored (cornerKind side) (row * side) (row * side + side) (now (out .entry)) (now (out .exit)) ⌝ }
+    requires { ⌜ (23 ≤ side) × (side ≤ 189) × (side * side ≤ length (now out)) × (row < side) × (edge side row < 9) ⌝ }
+    ensures { λ _. ⌜ Ends (cornerKind side) (row * side) (row * side + side) (now (out .entry)) (now (out .exit)) ⌝ }
 {
-    let from_edge = edge(side, row);
-    if from_edge < 8 {
+    if edge(side, row) < 8 {
         finder_line(out, side, row);
         return;
     }
-    if from_edge == 8 {
-        information_line(out, side, row);
-        return;
+    information_line(out, side, row);
+}
+
+// The ends of rows from to below to; all that comes later is still data.
+fn line_ends(out: &mut [u8], side: usize, from: usize, to: usize)
+    requires { ⌜ (23 ≤ side) × (side ≤ 189) × (side * side ≤ length (now out)) × (from ≤ to) × (to ≤ side) × ((r : ℕ) → from ≤ r → r < to → edge side r < 9) × UpTo (cornerKind side) (side * side) (from * side) (now out) ⌝ }
+    ensures { λ _. ⌜ UpTo (cornerKind side) (side * side) (to * side) (now (out .exit)) × Beyond (side * side) (now (out .entry)) (now (out .exit)) ⌝ }
+{
+    let mut row = from;
+    while row < to {
+        line(out, side, row);
+        row += 1;
     }
-    run(out, row * side, row * side + side, 0);
 }
 
 // Finders, separators and information modules; all else is data.
@@ -436,11 +441,9 @@ fn corners(out: &mut [u8], side: usize)
     requires { ⌜ (23 ≤ side) × (side ≤ 189) × (side * side ≤ length (now out)) ⌝ }
     ensures { λ _. ⌜ Stored (cornerKind side) 0 (side * side) (now (out .entry)) (now (out .exit)) ⌝ }
 {
-    let mut row: usize = 0;
-    while row < side {
-        line(out, side, row);
-        row += 1;
-    }
+    run(out, 0, side * side, 0);
+    line_ends(out, side, 0, 9);
+    line_ends(out, side, side - 9, side);
 }
 
 // A coordinate moved back and forth.
@@ -466,38 +469,26 @@ fn signed(n: usize) -> i64
     n as i64
 }
 
-// The place of column x and row y, or side * side where it lies outside.
-fn place(side: usize, x: i64, y: i64) -> usize
-    requires { ⌜ side ≤ 189 ⌝ }
-    ensures { λ r. ⌜ r ≡ placeAt side x y ⌝ }
-{
-    let outside = side * side;
-    if x < 0 {
-        return outside;
-    }
-    if y < 0 {
-        return outside;
-    }
-    let column = x as usize;
-    let row = y as usize;
-    if side <= column {
-        return outside;
-    }
-    if side <= row {
-        return outside;
-    }
-    row * side + column
-}
-
 // Gives a place its kind while it is data; outside the square nothing is plotted.
 fn plot(grid: &mut [u8], side: usize, x: i64, y: i64, kind: u8)
     requires { ⌜ (side ≤ 189) × (side * side ≤ length (now grid)) ⌝ }
     ensures { λ _. ⌜ Plotted side (plot x y kind ∷ []) (now (grid .entry)) (now (grid .exit)) ⌝ }
 {
-    let i = place(side, x, y);
-    if side * side <= i {
+    if x < 0 {
         return;
     }
+    if y < 0 {
+        return;
+    }
+    let column = x as usize;
+    let row = y as usize;
+    if side <= column {
+        return;
+    }
+    if side <= row {
+        return;
+    }
+    let i = row * side + column;
     if grid[i] != 0 {
         return;
     }

@@ -2,13 +2,10 @@ use Rattle.blocks.proofs.Rows.{row-copied, copied-more}
 use Rattle.blocks.specs.Table.{blocks}
 use lib.ListN.{length, getD, length-set}
 use Prim.Native.Nat.{ℕ, _+_, _-_, _*_, _<_, _≤_}
-use mathlib.Core.Path.{_≡_, refl, ap, _∙_}
+use mathlib.Core.Path.{_≡_, refl, _∙_}
 use native.Mathlib.Omega.{arith}
-use borrow.Author.Needs.{needs}
 use Rattle.blocks.proofs.block_row.Statement.{statement}
 use Rattle.blocks.proofs.block_row.Tie as tie
-use Rattle.blocks.proofs.block_row.Reads as reads
-use Rattle.blocks.proofs.block_row.Lts as lts
 
 abbrev Inv-loop : tie.InvT-loop
 Inv-loop version level table at row₀ n₀ row n = (n ≤ 9) × (length row ≡ 9) × ((k : ℕ) → k < n → getD row k 0 ≡ getD table (at + k) 0)

@@ -2,8 +2,6 @@ use Rattle.blocks.proofs.Rows.{module-one, module-none}
 use native.Mathlib.Omega.{arith}
 use Rattle.blocks.proofs.data_module.Statement.{statement}
 use Rattle.blocks.proofs.data_module.Tie as tie
-use Rattle.blocks.proofs.data_module.Reads as reads
-use Rattle.blocks.proofs.data_module.Lts as lts
 
 returns : tie.Need-returns
 returns c = (module-one (c .before .args .kind) (c .if1 .taken), omega arith)

@@ -1,13 +1,10 @@
 use native.Mathlib.Omega.{arith}
-use mathlib.Core.Path.{refl}
 use Rattle.blocks.proofs.Rows.{total-small}
 use Rattle.blocks.specs.Blocks.{totalOf}
 use Rattle.blocks.specs.Table.{totals}
 use borrow.Author.Needs.{needs}
 use Rattle.blocks.proofs.total_codewords.Statement.{statement}
 use Rattle.blocks.proofs.total_codewords.Tie as tie
-use Rattle.blocks.proofs.total_codewords.Reads as reads
-use Rattle.blocks.proofs.total_codewords.Lts as lts
 
 sub-result : tie.Need-sub-result
 sub-result c = search needs

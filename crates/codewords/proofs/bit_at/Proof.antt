@@ -1,14 +1,9 @@
 use Rattle.codewords.proofs.Bits.{bit-at}
-use lib.Bits.{bitXor}
-use lib.ListN.{length, getD, take, drop}
-use Prim.Native.Nat.{ℕ, _+_, _-_, _*_, _/_, _%_, _^_, _<_, _≤_}
-use mathlib.Core.Path.{_≡_, refl, sym, ap, ap₂, subst, _∙_}
-use native.Mathlib.Omega.{arith}
+use Prim.Native.Nat.{_-_}
+use mathlib.Core.Path.{sym}
 use borrow.Author.Needs.{needs}
 use Rattle.codewords.proofs.bit_at.Statement.{statement}
 use Rattle.codewords.proofs.bit_at.Tie as tie
-use Rattle.codewords.proofs.bit_at.Reads as reads
-use Rattle.codewords.proofs.bit_at.Lts as lts
 
 shared-slice-read-result : tie.Need-shared-slice-read-result
 shared-slice-read-result c = search needs

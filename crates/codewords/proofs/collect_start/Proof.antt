@@ -1,14 +1,8 @@
 use Rattle.codewords.proofs.Interleave.{CollectStart, collect-enter, collect-place, collect-turn, collect-leave}
-use lib.Bits.{bitXor}
-use lib.ListN.{length, getD, take, drop}
-use Prim.Native.Nat.{ℕ, _+_, _-_, _*_, _/_, _%_, _^_, _<_, _≤_}
-use mathlib.Core.Path.{_≡_, refl, sym, ap, ap₂, subst, _∙_}
+use Prim.Native.Nat.{_-_}
 use native.Mathlib.Omega.{arith}
-use borrow.Author.Needs.{needs}
 use Rattle.codewords.proofs.collect_start.Statement.{statement}
 use Rattle.codewords.proofs.collect_start.Tie as tie
-use Rattle.codewords.proofs.collect_start.Reads as reads
-use Rattle.codewords.proofs.collect_start.Lts as lts
 
 abbrev Inv-loop : tie.InvT-loop
 Inv-loop out₀ stream total start i n₀ p₀ out n p = CollectStart total stream out₀ out start n p

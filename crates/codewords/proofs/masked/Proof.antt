@@ -1,15 +1,10 @@
 use native.Mathlib.Nat.{mod-lt}
 use Rattle.codewords.proofs.Masks.{mask-zero, mask-one, mask-two, mask-three}
-use lib.Bits.{bitXor}
-use lib.ListN.{length, getD, take, drop}
-use Prim.Native.Nat.{ℕ, _+_, _-_, _*_, _/_, _%_, _^_, _<_, _≤_}
-use mathlib.Core.Path.{_≡_, refl, sym, ap, ap₂, subst, _∙_}
+use Prim.Native.Nat.{_-_}
 use native.Mathlib.Omega.{arith}
 use borrow.Author.Needs.{needs}
 use Rattle.codewords.proofs.masked.Statement.{statement}
 use Rattle.codewords.proofs.masked.Tie as tie
-use Rattle.codewords.proofs.masked.Reads as reads
-use Rattle.codewords.proofs.masked.Lts as lts
 
 returns : tie.Need-returns
 returns c = (mask-zero (c .before .args .mask) (c .before .args .i) (c .before .args .j) (omega arith), omega arith)

@@ -1,19 +1,14 @@
 use Rattle.codewords.proofs.Bits.{bit-front, length-front}
 use Rattle.codewords.proofs.Placement.{module-light, module-dark, module-left, module-data}
-use Rattle.codewords.specs.Inner.{moduleOf}
 use Rattle.codewords.specs.Codewords.{maskAt, bitsOf}
 use lib.Bits.{bitXor}
-use lib.ListN.{length, getD, take, drop}
-use Prim.Native.Nat.{ℕ, _+_, _-_, _*_, _/_, _%_, _^_, _<_, _≤_}
-use mathlib.Core.Path.{_≡_, refl, sym, ap, ap₂, subst, _∙_}
+use lib.ListN.{take, drop}
+use Prim.Native.Nat.{_+_, _-_}
+use mathlib.Core.Path.{sym, ap₂, _∙_}
 use native.Mathlib.Omega.{arith}
 use borrow.Author.Needs.{needs}
 use Rattle.codewords.proofs.module_of.Statement.{statement}
 use Rattle.codewords.proofs.module_of.Tie as tie
-use Rattle.codewords.proofs.module_of.Reads as reads
-use Rattle.codewords.proofs.module_of.Lts as lts
-use Rattle.codewords.proofs.bit_at.Reads as bit-at-reads
-use Rattle.codewords.proofs.masked.Reads as masked-reads
 
 returns : tie.Need-returns
 returns c = module-light (maskAt (c .before .before .before .args .mask) (c .before .before .before .args .p .row + 1) (c .before .before .before .args .p .column + 1)) (c .before .before .before .args .kind) (drop (c .before .before .before .args .t) (bitsOf (take (c .before .before .before .args .total) (c .before .before .before .args .codewords .now)))) (c .before .if1 .taken) (c .if2 .taken)

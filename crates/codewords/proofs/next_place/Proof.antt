@@ -1,14 +1,9 @@
 use Rattle.codewords.proofs.Masks.{row-le, next-row}
-use lib.Bits.{bitXor}
-use lib.ListN.{length, getD, take, drop}
-use Prim.Native.Nat.{ℕ, _+_, _-_, _*_, _/_, _%_, _^_, _<_, _≤_}
-use mathlib.Core.Path.{_≡_, refl, sym, ap, ap₂, subst, _∙_}
+use Prim.Native.Nat.{_-_}
+use mathlib.Core.Path.{refl}
 use native.Mathlib.Omega.{arith}
-use borrow.Author.Needs.{needs}
 use Rattle.codewords.proofs.next_place.Statement.{statement}
 use Rattle.codewords.proofs.next_place.Tie as tie
-use Rattle.codewords.proofs.next_place.Reads as reads
-use Rattle.codewords.proofs.next_place.Lts as lts
 
 add-if1 : tie.Need-add-if1
 add-if1 c = omega (arith, c .before .pre .0 .here)

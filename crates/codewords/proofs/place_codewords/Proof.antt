@@ -1,23 +1,14 @@
-use Rattle.codewords.specs.Inner.{moduleOf}
-use mathlib.Core.List.{List}
+use Rattle.codewords.specs.Inner.{moduleOf, OnSide}
 use Rattle.codewords.proofs.Masks.{mask-place, row-le, column-le, first-place}
 use Rattle.codewords.proofs.Bits.{length-front}
 use Rattle.codewords.proofs.Placement.{Placing, placing-begun, placing-more, placing-done, rest-next}
-use Rattle.codewords.specs.Inner.{OnSide}
-use Rattle.codewords.specs.Codewords.{maskAt, maskBit, bitsOf}
-use lib.Bits.{bitXor}
+use Rattle.codewords.specs.Codewords.{maskBit, bitsOf}
 use lib.ListN.{length, getD, take, drop}
-use Prim.Native.Nat.{ℕ, _+_, _-_, _*_, _/_, _%_, _^_, _<_, _≤_}
-use mathlib.Core.Path.{_≡_, refl, sym, ap, ap₂, subst, _∙_}
+use Prim.Native.Nat.{ℕ, _-_, _*_, _≤_}
+use mathlib.Core.Path.{_≡_, refl, sym, ap, _∙_}
 use native.Mathlib.Omega.{arith}
-use borrow.Author.Needs.{needs}
 use Rattle.codewords.proofs.place_codewords.Statement.{statement}
 use Rattle.codewords.proofs.place_codewords.Tie as tie
-use Rattle.codewords.proofs.place_codewords.Reads as reads
-use Rattle.codewords.proofs.place_codewords.Lts as lts
-use Rattle.codewords.proofs.module_of.Reads as module-of-reads
-use Rattle.codewords.proofs.next_bit.Reads as next-bit-reads
-use Rattle.codewords.proofs.next_place.Reads as next-place-reads
 
 abbrev Inv-loop : tie.InvT-loop
 Inv-loop square₀ kinds codewords total side mask place₀ t₀ i₀ square place t i = Placing (maskBit side mask) kinds square₀ square (bitsOf (take total codewords)) (drop t (bitsOf (take total codewords))) i × OnSide side place × (place .at ≡ i) × (t ≤ total * 8)

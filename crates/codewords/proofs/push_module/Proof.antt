@@ -1,16 +1,10 @@
-use lib.Bits.{xor-lt}
-use lib.Bits.{bitXor}
-use lib.ListN.{length, getD, take, drop}
-use Prim.Native.Nat.{ℕ, _+_, _-_, _*_, _/_, _%_, _^_, _<_, _≤_}
-use mathlib.Core.Path.{_≡_, refl, sym, ap, ap₂, subst, _∙_}
+use lib.Bits.{xor-lt, bitXor}
+use Prim.Native.Nat.{ℕ, _+_, _-_, _*_}
+use mathlib.Core.Path.{refl, ap, ap₂}
 use native.Mathlib.Omega.{arith}
 use borrow.Author.Needs.{needs}
 use Rattle.codewords.proofs.push_module.Statement.{statement}
 use Rattle.codewords.proofs.push_module.Tie as tie
-use Rattle.codewords.proofs.push_module.Reads as reads
-use Rattle.codewords.proofs.push_module.Lts as lts
-use Rattle.codewords.proofs.masked.Reads as masked-reads
-use Rattle.codewords.proofs.wide.Reads as wide-reads
 
 returns : tie.Need-returns
 returns c = record { hit = λ e. absurd (c .if1 .taken e); miss = λ n. (refl, refl) }

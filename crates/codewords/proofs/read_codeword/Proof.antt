@@ -1,19 +1,14 @@
 use Rattle.codewords.proofs.Placement.{reading-begun, reading-inside, reading-small, reading-turn, reading-done}
 use Rattle.codewords.proofs.Masks.{mask-place, mask-bit-lt, row-le, column-le}
 use Rattle.codewords.specs.Inner.{OnSide, Reading}
-use Rattle.codewords.specs.Codewords.{maskAt, maskBit}
+use Rattle.codewords.specs.Codewords.{maskBit}
 use lib.Bits.{bitXor}
-use lib.ListN.{length, getD, take, drop}
-use Prim.Native.Nat.{ℕ, _+_, _-_, _*_, _/_, _%_, _^_, _<_, _≤_}
-use mathlib.Core.Path.{_≡_, refl, sym, ap, ap₂, subst, _∙_}
+use lib.ListN.{length, getD}
+use Prim.Native.Nat.{ℕ, _-_}
+use mathlib.Core.Path.{refl, sym, ap, subst}
 use native.Mathlib.Omega.{arith}
-use borrow.Author.Needs.{needs}
 use Rattle.codewords.proofs.read_codeword.Statement.{statement}
 use Rattle.codewords.proofs.read_codeword.Tie as tie
-use Rattle.codewords.proofs.read_codeword.Reads as reads
-use Rattle.codewords.proofs.read_codeword.Lts as lts
-use Rattle.codewords.proofs.next_place.Reads as next-place-reads
-use Rattle.codewords.proofs.push_module.Reads as push-module-reads
 
 abbrev Inv-loop : tie.InvT-loop
 Inv-loop kinds square side mask byte₀ place₀ byte place = Reading (maskBit side mask) kinds square (place₀ .at) (place .at) byte × OnSide side place

@@ -2,16 +2,10 @@ use Rattle.codewords.proofs.Placement.{Codewords, codewords-begun, code
 use Rattle.codewords.proofs.Masks.{first-place}
 use Rattle.codewords.specs.Inner.{OnSide, bitsFrom}
 use Rattle.codewords.specs.Codewords.{maskBit, dataBits}
-use lib.ListN.{length}
-use Prim.Native.Nat.{ℕ, _+_, _-_, _*_, _<_, _≤_}
-use mathlib.Core.Path.{_≡_, refl, sym, ap, _∙_}
+use Prim.Native.Nat.{_-_}
 use native.Mathlib.Omega.{arith}
-use borrow.Author.Needs.{needs}
 use Rattle.codewords.proofs.read_codewords.Statement.{statement}
 use Rattle.codewords.proofs.read_codewords.Tie as tie
-use Rattle.codewords.proofs.read_codewords.Reads as reads
-use Rattle.codewords.proofs.read_codewords.Lts as lts
-use Rattle.codewords.proofs.read_codeword.Reads as read-codeword-reads
 
 abbrev Inv-loop : tie.InvT-loop
 Inv-loop out₀ total kinds square side mask place₀ n₀ out place n = Codewords total (dataBits (maskBit side mask) 0 kinds square) out₀ out (bitsFrom (maskBit side mask) kinds square (place .at)) n × OnSide side place

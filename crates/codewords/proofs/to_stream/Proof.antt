@@ -1,16 +1,11 @@
 use Rattle.codewords.proofs.Interleave.{store-first, store-last}
 use Rattle.codewords.specs.Inner.{ToStream}
-use lib.Bits.{bitXor}
-use lib.ListN.{length, getD, take, drop}
-use Prim.Native.Nat.{ℕ, _+_, _-_, _*_, _/_, _%_, _^_, _<_, _≤_}
-use mathlib.Core.Path.{_≡_, refl, sym, ap, ap₂, subst, _∙_}
+use lib.ListN.{length, drop}
+use Prim.Native.Nat.{_-_, _≤_}
+use mathlib.Core.Path.{_≡_, refl, _∙_}
 use native.Mathlib.Omega.{arith}
-use borrow.Author.Needs.{needs}
 use Rattle.codewords.proofs.to_stream.Statement.{statement}
 use Rattle.codewords.proofs.to_stream.Tie as tie
-use Rattle.codewords.proofs.to_stream.Reads as reads
-use Rattle.codewords.proofs.to_stream.Lts as lts
-use Rattle.codewords.proofs.store_start.Reads as store-start-reads
 
 abbrev Inv-loop : tie.InvT-loop
 Inv-loop out₀ codewords total i₀ start₀ out i start = ToStream total codewords out start i × (drop total out ≡ drop total out₀) × (start ≤ 13) × (length out ≡ length out₀)

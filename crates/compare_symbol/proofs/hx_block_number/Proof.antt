@@ -2,15 +2,12 @@ use Rattle.compare_symbol.specs.Answers.{rowAnswer}
 use mathlib.Core.List.{List}
 use Prim.Native.Nat.{ℕ}
 use lib.ListN.{getD}
-use mathlib.Core.Path.{ap, _∙_}
+use mathlib.Core.Path.{ap}
 use borrow.Author.Tests.{le-leb, lt-leb, lt-ltb, le-ltb}
 use Rattle.symbol.specs.Version.{isVersion}
 use borrow.Author.Needs.{needs}
 use Rattle.compare_symbol.proofs.hx_block_number.Statement.{statement}
 use Rattle.compare_symbol.proofs.hx_block_number.Tie as tie
-use Rattle.compare_symbol.proofs.hx_block_number.Reads as reads
-use Rattle.compare_symbol.proofs.hx_block_number.Lts as lts
-use Rattle.blocks.proofs.block_row.Reads as block-row-reads
 
 returns : tie.Need-returns
 unfolding rowAnswer isVersion

@@ -1,15 +1,8 @@
 use Rattle.compare_symbol.specs.Answers.{maskAnswer}
-use mathlib.Core.List.{List}
-use Prim.Native.Nat.{ℕ}
-use lib.ListN.{getD}
-use mathlib.Core.Path.{ap, _∙_}
-use borrow.Author.Tests.{le-leb, lt-leb, lt-ltb, le-ltb}
+use borrow.Author.Tests.{lt-ltb, le-ltb}
 use borrow.Author.Needs.{needs}
 use Rattle.compare_symbol.proofs.hx_masked.Statement.{statement}
 use Rattle.compare_symbol.proofs.hx_masked.Tie as tie
-use Rattle.compare_symbol.proofs.hx_masked.Reads as reads
-use Rattle.compare_symbol.proofs.hx_masked.Lts as lts
-use Rattle.codewords.proofs.masked.Reads as masked-reads
 
 returns : tie.Need-returns
 unfolding maskAnswer

@@ -1,16 +1,9 @@
 use Rattle.compare_symbol.specs.Answers.{totalAnswer}
-use mathlib.Core.List.{List}
-use Prim.Native.Nat.{ℕ}
-use lib.ListN.{getD}
-use mathlib.Core.Path.{ap, _∙_}
-use borrow.Author.Tests.{le-leb, lt-leb, lt-ltb, le-ltb}
+use borrow.Author.Tests.{le-leb, lt-leb}
 use Rattle.symbol.specs.Version.{isVersion}
 use borrow.Author.Needs.{needs}
 use Rattle.compare_symbol.proofs.hx_total.Statement.{statement}
 use Rattle.compare_symbol.proofs.hx_total.Tie as tie
-use Rattle.compare_symbol.proofs.hx_total.Reads as reads
-use Rattle.compare_symbol.proofs.hx_total.Lts as lts
-use Rattle.blocks.proofs.total_codewords.Reads as total-codewords-reads
 
 returns : tie.Need-returns
 unfolding totalAnswer isVersion

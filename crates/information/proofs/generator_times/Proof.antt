@@ -2,9 +2,6 @@ use Rattle.information.specs.Information.{generatorTimes}
 use borrow.Author.Needs.{needs}
 use Rattle.information.proofs.generator_times.Statement.{statement}
 use Rattle.information.proofs.generator_times.Tie as tie
-use Rattle.information.proofs.generator_times.Reads as reads
-use Rattle.information.proofs.generator_times.Lts as lts
-use Rattle.information.proofs.gf16_mul.Reads as gf16-mul-reads
 
 gf16-mul-requires : tie.Need-gf16-mul-requires
 gf16-mul-requires c κs = search needs

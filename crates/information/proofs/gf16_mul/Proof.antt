@@ -1,16 +1,11 @@
 use Rattle.information.proofs.Products.{one-more}
 use Rattle.information.specs.Information.{productFrom, gf16Mul}
-use Prim.Native.Nat.{ℕ, _+_, _-_, _*_, _/_, _%_, _<_, _≤_}
-use mathlib.Core.Path.{_≡_, refl, sym, ap, ap₂, subst, _∙_}
+use Prim.Native.Nat.{_-_, _<_, _≤_}
+use mathlib.Core.Path.{_≡_, refl, sym, _∙_}
 use borrow.Author.Needs.{needs}
 use native.Mathlib.Omega.{arith}
-use borrow.Author.Tests.{lt-ltb, le-ltb, le-leb, lt-leb, eq-eqb, ne-eqb}
 use Rattle.information.proofs.gf16_mul.Statement.{statement}
 use Rattle.information.proofs.gf16_mul.Tie as tie
-use Rattle.information.proofs.gf16_mul.Reads as reads
-use Rattle.information.proofs.gf16_mul.Lts as lts
-use Rattle.information.proofs.plus_if_odd.Reads as plus-if-odd-reads
-use Rattle.information.proofs.times_x.Reads as times-x-reads
 
 abbrev Inv-loop : tie.InvT-loop
 Inv-loop x y p₀ a₀ b₀ i₀ p a b i = (p < 16) × (a < 16) × (b < 16) × (i ≤ 4) × (productFrom (4 - i) p a b ≡ gf16Mul x y)

@@ -5,10 +5,6 @@ use borrow.Author.Tests.{le-leb, lt-leb}
 use borrow.Author.Needs.{needs}
 use Rattle.information.proofs.info_bits.Statement.{statement}
 use Rattle.information.proofs.info_bits.Tie as tie
-use Rattle.information.proofs.info_bits.Reads as reads
-use Rattle.information.proofs.info_bits.Lts as lts
-use Rattle.information.proofs.wide.Reads as wide-reads
-use Rattle.information.proofs.word_of.Reads as word-of-reads
 
 returns : tie.Need-returns
 unfolding infoRefusal infoWord isInfo isVersion

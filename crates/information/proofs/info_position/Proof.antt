@@ -1,17 +1,11 @@
 use mathlib.Core.Bool.{true, false}
 use Rattle.symbol.proofs.Coordinates.{square-le}
 use Rattle.information.proofs.Copies.{row-fits, first-is, second-is, first-lt, by-copy}
-use Prim.Native.Nat.{ℕ, _+_, _-_, _*_, _/_, _%_, _<_, _≤_}
-use mathlib.Core.Path.{_≡_, refl, sym, ap, ap₂, subst, _∙_}
+use Prim.Native.Nat.{_-_}
 use native.Mathlib.Omega.{arith}
-use borrow.Author.Tests.{lt-ltb, le-ltb, le-leb, lt-leb, eq-eqb, ne-eqb}
 use borrow.Author.Needs.{needs}
 use Rattle.information.proofs.info_position.Statement.{statement}
 use Rattle.information.proofs.info_position.Tie as tie
-use Rattle.information.proofs.info_position.Reads as reads
-use Rattle.information.proofs.info_position.Lts as lts
-use Rattle.information.proofs.position_column.Reads as position-column-reads
-use Rattle.information.proofs.position_row.Reads as position-row-reads
 
 position-row-requires : tie.Need-position-row-requires
 position-row-requires c κs = search needs

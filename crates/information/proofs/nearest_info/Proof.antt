@@ -1,14 +1,11 @@
 use Rattle.information.specs.Information.{nearestRefusal, nearestLevel, nearestMask, nearestDistance}
 use Rattle.symbol.specs.Version.{isVersion}
 use Prim.Native.Nat.{ℕ, _/_, _%_}
-use mathlib.Core.Path.{refl, ap, _∙_}
+use mathlib.Core.Path.{ap}
 use borrow.Author.Tests.{le-leb, lt-leb}
 use borrow.Author.Needs.{needs}
 use Rattle.information.proofs.nearest_info.Statement.{statement}
 use Rattle.information.proofs.nearest_info.Tie as tie
-use Rattle.information.proofs.nearest_info.Reads as reads
-use Rattle.information.proofs.nearest_info.Lts as lts
-use Rattle.information.proofs.nearest_word.Reads as nearest-word-reads
 
 returns : tie.Need-returns
 unfolding nearestRefusal nearestLevel nearestMask nearestDistance isVersion

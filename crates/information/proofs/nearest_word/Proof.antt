@@ -4,18 +4,12 @@ use Rattle.information.proofs.Products.{least-more}
 use Rattle.information.proofs.Apart.{first-word, distance-at}
 use Rattle.information.specs.Inner.{Found, differences}
 use Rattle.information.specs.Information.{distance, leastOf, nearest}
-use Prim.Native.Nat.{ℕ, _+_, _-_, _*_, _<_, _≤_}
-use mathlib.Core.Path.{_≡_, refl, sym, ap, subst, _∙_}
+use Prim.Native.Nat.{ℕ, _+_, _-_, _≤_}
+use mathlib.Core.Path.{_≡_, refl, ap, subst, _∙_}
 use native.Mathlib.Omega.{arith}
 use borrow.Author.Needs.{needs}
 use Rattle.information.proofs.nearest_word.Statement.{statement}
 use Rattle.information.proofs.nearest_word.Tie as tie
-use Rattle.information.proofs.nearest_word.Reads as reads
-use Rattle.information.proofs.nearest_word.Lts as lts
-use Rattle.information.proofs.distance.Reads as distance-reads
-use Rattle.information.proofs.nearer.Reads as nearer-reads
-use Rattle.information.proofs.wide.Reads as wide-reads
-use Rattle.information.proofs.word_of.Reads as word-of-reads
 
 abbrev Inv-loop : tie.InvT-loop
 Inv-loop version first second differences word best₀ k₀ best k = (k ≤ 15) × Found (distance version first second) (leastOf (distance version first second) k) best

@@ -1,14 +1,9 @@
 use lib.Bits.{xor-lt}
 use Rattle.information.specs.Information.{plusIfOdd}
-use Prim.Native.Nat.{ℕ, _+_, _-_, _*_, _/_, _%_, _<_, _≤_}
-use mathlib.Core.Path.{_≡_, refl, sym, ap, ap₂, subst, _∙_}
-use borrow.Author.Needs.{needs}
-use native.Mathlib.Omega.{arith}
-use borrow.Author.Tests.{lt-ltb, le-ltb, le-leb, lt-leb, eq-eqb, ne-eqb}
+use Prim.Native.Nat.{_-_}
+use borrow.Author.Tests.{eq-eqb, ne-eqb}
 use Rattle.information.proofs.plus_if_odd.Statement.{statement}
 use Rattle.information.proofs.plus_if_odd.Tie as tie
-use Rattle.information.proofs.plus_if_odd.Reads as reads
-use Rattle.information.proofs.plus_if_odd.Lts as lts
 
 returns : tie.Need-returns
 unfolding plusIfOdd

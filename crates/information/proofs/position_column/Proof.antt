@@ -1,13 +1,9 @@
 use Rattle.information.specs.Information.{positionColumn}
-use Prim.Native.Nat.{ℕ, _+_, _-_, _*_, _/_, _%_, _<_, _≤_}
-use mathlib.Core.Path.{_≡_, refl, sym, ap, ap₂, subst, _∙_}
-use native.Mathlib.Omega.{arith}
-use borrow.Author.Tests.{lt-ltb, le-ltb, le-leb, lt-leb, eq-eqb, ne-eqb}
+use Prim.Native.Nat.{_-_}
+use borrow.Author.Tests.{lt-ltb, le-ltb}
 use borrow.Author.Needs.{needs}
 use Rattle.information.proofs.position_column.Statement.{statement}
 use Rattle.information.proofs.position_column.Tie as tie
-use Rattle.information.proofs.position_column.Reads as reads
-use Rattle.information.proofs.position_column.Lts as lts
 
 returns : tie.Need-returns
 unfolding positionColumn

@@ -1,13 +1,9 @@
 use Rattle.information.specs.Information.{positionRow}
-use Prim.Native.Nat.{ℕ, _+_, _-_, _*_, _/_, _%_, _<_, _≤_}
-use mathlib.Core.Path.{_≡_, refl, sym, ap, ap₂, subst, _∙_}
-use native.Mathlib.Omega.{arith}
-use borrow.Author.Tests.{lt-ltb, le-ltb, le-leb, lt-leb, eq-eqb, ne-eqb}
+use Prim.Native.Nat.{_-_}
+use borrow.Author.Tests.{lt-ltb, le-ltb}
 use borrow.Author.Needs.{needs}
 use Rattle.information.proofs.position_row.Statement.{statement}
 use Rattle.information.proofs.position_row.Tie as tie
-use Rattle.information.proofs.position_row.Reads as reads
-use Rattle.information.proofs.position_row.Lts as lts
 
 returns : tie.Need-returns
 unfolding positionRow

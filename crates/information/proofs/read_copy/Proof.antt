@@ -1,17 +1,12 @@
-use lib.ListN.{length, getD}
+use lib.ListN.{getD}
 use Rattle.information.proofs.Copies.{number-small, number-more}
 use Rattle.information.specs.Information.{infoPosition, numberOf, copyOf}
-use Prim.Native.Nat.{ℕ, _+_, _-_, _*_, _/_, _%_, _<_, _≤_}
-use mathlib.Core.Path.{_≡_, refl, sym, ap, ap₂, subst, _∙_}
+use Prim.Native.Nat.{ℕ, _-_, _≤_}
+use mathlib.Core.Path.{_≡_, refl, ap, _∙_}
 use borrow.Author.Needs.{needs}
 use native.Mathlib.Omega.{arith}
-use borrow.Author.Tests.{lt-ltb, le-ltb, le-leb, lt-leb, eq-eqb, ne-eqb}
 use Rattle.information.proofs.read_copy.Statement.{statement}
 use Rattle.information.proofs.read_copy.Tie as tie
-use Rattle.information.proofs.read_copy.Reads as reads
-use Rattle.information.proofs.read_copy.Lts as lts
-use Rattle.information.proofs.info_position.Reads as info-position-reads
-use Rattle.information.proofs.wide8.Reads as wide8-reads
 
 abbrev Inv-loop : tie.InvT-loop
 Inv-loop square side second w₀ n₀ w n = (n ≤ 34) × (w ≡ numberOf (λ k. getD square (infoPosition side second k) 0) n)

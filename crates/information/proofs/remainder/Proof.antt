@@ -8,9 +8,6 @@ use Rattle.information.specs.Information.{remainder}
 use borrow.Author.Needs.{needs}
 use Rattle.information.proofs.remainder.Statement.{statement}
 use Rattle.information.proofs.remainder.Tie as tie
-use Rattle.information.proofs.remainder.Reads as reads
-use Rattle.information.proofs.remainder.Lts as lts
-use Rattle.information.proofs.generator_times.Reads as generator-times-reads
 
 mul-result : tie.Need-mul-result
 mul-result c = search needs

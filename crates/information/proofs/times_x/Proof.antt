@@ -1,14 +1,10 @@
 use Rattle.information.proofs.Products.{eight}
 use Rattle.information.specs.Information.{timesX}
-use Prim.Native.Nat.{ℕ, _+_, _-_, _*_, _/_, _%_, _<_, _≤_}
-use mathlib.Core.Path.{_≡_, refl, sym, ap, ap₂, subst, _∙_}
-use native.Mathlib.Omega.{arith}
-use borrow.Author.Tests.{lt-ltb, le-ltb, le-leb, lt-leb, eq-eqb, ne-eqb}
+use Prim.Native.Nat.{_-_}
+use borrow.Author.Tests.{lt-ltb, le-ltb}
 use borrow.Author.Needs.{needs}
 use Rattle.information.proofs.times_x.Statement.{statement}
 use Rattle.information.proofs.times_x.Tie as tie
-use Rattle.information.proofs.times_x.Reads as reads
-use Rattle.information.proofs.times_x.Lts as lts
 
 mul-d : tie.Need-mul-d
 mul-d c = search needs

@@ -2,9 +2,6 @@ use Rattle.information.specs.Information.{wordOf}
 use borrow.Author.Needs.{needs}
 use Rattle.information.proofs.word_of.Statement.{statement}
 use Rattle.information.proofs.word_of.Tie as tie
-use Rattle.information.proofs.word_of.Reads as reads
-use Rattle.information.proofs.word_of.Lts as lts
-use Rattle.information.proofs.remainder.Reads as remainder-reads
 
 remainder-requires : tie.Need-remainder-requires
 remainder-requires c κs = search needs

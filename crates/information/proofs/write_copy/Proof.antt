@@ -1,17 +1,11 @@
-use lib.ListN.{length, getD, length-set}
+use lib.ListN.{length, length-set}
 use Rattle.information.proofs.Copies.{write-more}
-use Rattle.information.specs.Information.{infoPosition, bitsWritten, copyWritten}
-use Prim.Native.Nat.{ℕ, _+_, _-_, _*_, _/_, _%_, _<_, _≤_}
-use mathlib.Core.Path.{_≡_, refl, sym, ap, ap₂, subst, _∙_}
-use borrow.Author.Needs.{needs}
+use Rattle.information.specs.Information.{bitsWritten, copyWritten}
+use Prim.Native.Nat.{ℕ, _-_, _≤_}
+use mathlib.Core.Path.{_≡_, refl, ap, _∙_}
 use native.Mathlib.Omega.{arith}
-use borrow.Author.Tests.{lt-ltb, le-ltb, le-leb, lt-leb, eq-eqb, ne-eqb}
 use Rattle.information.proofs.write_copy.Statement.{statement}
 use Rattle.information.proofs.write_copy.Tie as tie
-use Rattle.information.proofs.write_copy.Reads as reads
-use Rattle.information.proofs.write_copy.Lts as lts
-use Rattle.information.proofs.bit.Reads as bit-reads
-use Rattle.information.proofs.info_position.Reads as info-position-reads
 
 abbrev Inv-loop : tie.InvT-loop
 Inv-loop square₀ side second word n₀ square n = (n ≤ 34) × (square ≡ bitsWritten side second word n square₀) × (length square ≡ length square₀)

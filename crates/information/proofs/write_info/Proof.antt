@@ -6,9 +6,6 @@ use Rattle.information.specs.Information.{copyWritten, infoWritten}
 use borrow.Author.Needs.{needs}
 use Rattle.information.proofs.write_info.Statement.{statement}
 use Rattle.information.proofs.write_info.Tie as tie
-use Rattle.information.proofs.write_info.Reads as reads
-use Rattle.information.proofs.write_info.Lts as lts
-use Rattle.information.proofs.write_copy.Reads as write-copy-reads
 
 write-copy-requires : tie.Need-write-copy-requires
 write-copy-requires c κs = search needs

@@ -3,11 +3,6 @@ use Rattle.symbol.specs.Layout.{alignment}
 use borrow.Author.Needs.{needs}
 use Rattle.symbol.proofs.alignment.Statement.{statement}
 use Rattle.symbol.proofs.alignment.Tie as tie
-use Rattle.symbol.proofs.alignment.Reads as reads
-use Rattle.symbol.proofs.alignment.Lts as lts
-use Rattle.symbol.proofs.columns_ends.Reads as columns-ends-reads
-use Rattle.symbol.proofs.crossings.Reads as crossings-reads
-use Rattle.symbol.proofs.rows_ends.Reads as rows-ends-reads
 
 rows-ends-requires : tie.Need-rows-ends-requires
 rows-ends-requires c κs = search needs

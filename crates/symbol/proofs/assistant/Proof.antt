@@ -1,17 +1,11 @@
-use Rattle.symbol.specs.Layout.{threeAt, assistant, plot, light, dark}
-use lib.IntN.{ℤ, pos, _+ℤ_, _-ℤ_}
-use mathlib.Core.List.{List, [], _∷_, _++_}
+use Rattle.symbol.specs.Layout.{threeAt, assistant, light, dark}
+use lib.IntN.{pos, _+ℤ_, _-ℤ_}
 use mathlib.Core.Path.{refl, _∙_}
 use Rattle.symbol.proofs.Coordinates.{read, ok}
 use Rattle.symbol.proofs.Plots.{next, heard}
 use borrow.Author.Needs.{needs}
 use Rattle.symbol.proofs.assistant.Statement.{statement}
 use Rattle.symbol.proofs.assistant.Tie as tie
-use Rattle.symbol.proofs.assistant.Reads as reads
-use Rattle.symbol.proofs.assistant.Lts as lts
-use Rattle.symbol.proofs.back.Reads as back-reads
-use Rattle.symbol.proofs.forth.Reads as forth-reads
-use Rattle.symbol.proofs.three.Reads as three-reads
 
 back-requires : tie.Need-back-requires
 back-requires c κs = search needs

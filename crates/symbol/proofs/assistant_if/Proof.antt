@@ -6,9 +6,6 @@ use mathlib.Core.Path.{refl, sym, subst}
 use borrow.Author.Needs.{needs}
 use Rattle.symbol.proofs.assistant_if.Statement.{statement}
 use Rattle.symbol.proofs.assistant_if.Tie as tie
-use Rattle.symbol.proofs.assistant_if.Reads as reads
-use Rattle.symbol.proofs.assistant_if.Lts as lts
-use Rattle.symbol.proofs.assistant.Reads as assistant-reads
 
 assistant-requires : tie.Need-assistant-requires
 assistant-requires c κs = search needs

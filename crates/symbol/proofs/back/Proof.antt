@@ -2,8 +2,6 @@ use Rattle.symbol.proofs.Coordinates.{back-fits, back-is}
 use borrow.Author.Needs.{needs}
 use Rattle.symbol.proofs.back.Statement.{statement}
 use Rattle.symbol.proofs.back.Tie as tie
-use Rattle.symbol.proofs.back.Reads as reads
-use Rattle.symbol.proofs.back.Lts as lts
 
 cast-result : tie.Need-cast-result
 cast-result c = search needs

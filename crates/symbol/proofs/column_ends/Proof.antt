@@ -1,23 +1,15 @@
-use mathlib.Core.Bool.{Bool}
-use Rattle.symbol.specs.Layout.{odd, rowEnds, columnEnds}
+use Rattle.symbol.specs.Layout.{odd, columnEnds}
 use Rattle.symbol.proofs.Plots.{next, assisted}
 use Rattle.symbol.proofs.Walk.{column-near}
 use Rattle.symbol.proofs.Lines.{tabled}
 use Rattle.symbol.proofs.Coordinates.{ok, near, whole-near, room-of}
-use mir.Syntax.{w64}
-use mir.Val.{toZ}
-use mir.Facts.{toZ-ofZ}
-use lib.IntN.{ℤ, pos}
-use mathlib.Core.Path.{_≡_, refl, sym, ap, _∙_}
+use lib.IntN.{pos}
+use mathlib.Core.Path.{refl, ap, _∙_}
 use Prim.Native.Nat.{ℕ, _+_, _-_}
 use native.Mathlib.Omega.{arith}
 use borrow.Author.Needs.{needs}
 use Rattle.symbol.proofs.column_ends.Statement.{statement}
 use Rattle.symbol.proofs.column_ends.Tie as tie
-use Rattle.symbol.proofs.column_ends.Reads as reads
-use Rattle.symbol.proofs.column_ends.Lts as lts
-use Rattle.symbol.proofs.assistant_if.Reads as assistant-if-reads
-use Rattle.symbol.proofs.signed.Reads as signed-reads
 
 sub-signed : tie.Need-sub-signed
 sub-signed c = search needs

@@ -1,55 +1,41 @@
-use Rattle.symbol.proofs.CornerRows.{row-next}
-use Rattle.symbol.proofs.Stored.{stored-none, stored-next}
+use Rattle.symbol.proofs.CornerRows.{all-blank, data-rows, near-upper, near-lower, corners-stored}
 use Rattle.symbol.specs.Layout.{cornerKind}
-use Rattle.symbol.specs.Inner.{Stored}
-use mathlib.Core.Path.{_≡_, refl, sym, subst}
+use Prim.Native.Nat.{_-_, _*_}
 use native.Mathlib.Nat.{zero-mul}
-use Prim.Native.Nat.{ℕ, _+_, _-_, _*_, _≤_}
 use native.Mathlib.Omega.{arith}
 use borrow.Author.Needs.{needs}
 use Rattle.symbol.proofs.corners.Statement.{statement}
 use Rattle.symbol.proofs.corners.Tie as tie
-use Rattle.symbol.proofs.corners.Reads as reads
-use Rattle.symbol.proofs.corners.Lts as lts
-use Rattle.symbol.proofs.line.Reads as line-reads
 
-abbrev Inv-loop : tie.InvT-loop
-Inv-loop out₀ side row₀ out row = Stored (cornerKind side) 0 (row * side) out₀ out × (row ≤ side)
+mul-run : tie.Need-mul-run
+mul-run c = search needs
 
-abbrev μ-loop : tie.MeasureT-loop
-μ-loop out₀ side row₀ out row = side - row
+run-requires : tie.Need-run-requires
+run-requires c κs = search needs
 
-loop-holds : tie.Need-loop-holds Inv-loop μ-loop
-loop-holds c = (subst (λ (n : ℕ). Stored (cornerKind (c .before .args .side)) 0 n (c .before .args .out .now) (c .before .args .out .now)) (sym (zero-mul (c .before .args .side))) (stored-none _ _ _), omega arith)
+line-ends-requires : tie.Need-line-ends-requires
+line-ends-requires c κs = (c .before .before .before .before .before .before .pre .0, c .before .before .before .before .before .before .pre .1, omega (arith, c .before .before .before .before .before .before .pre .2, c .before .before .before .run .kept .0), omega arith, omega (arith, c .before .before .before .before .before .before .pre .0), near-upper (c .before .before .before .before .before .before .args .side), all-blank (cornerKind (c .before .before .before .before .before .before .args .side)) (c .before .before .before .before .before .before .args .side * c .before .before .before .before .before .before .args .side) (0 * c .before .before .before .before .before .before .args .side) (zero-mul (c .before .before .before .before .before .before .args .side)) (c .before .before .before .run .ensures))
 
-line-requires : tie.Need-line-requires Inv-loop μ-loop
-line-requires c κs = (c .before .before .before .before .pre .0, c .before .before .before .before .pre .1, omega (arith, c .before .before .before .before .pre .2, c .before .before .loop .inv .0 .size), c .before .loop-test .taken)
+sub-line-ends : tie.Need-sub-line-ends
+sub-line-ends c = search needs
 
-add-row : tie.Need-add-row Inv-loop μ-loop
-add-row c = omega (arith, c .before .before .before .before .before .before .before .pre .1, c .before .before .before .before .loop-test .taken)
+line-ends-requires-2 : tie.Need-line-ends-requires-2
+line-ends-requires-2 c κs = (c .before .before .before .before .before .before .before .before .before .before .pre .0, c .before .before .before .before .before .before .before .before .before .before .pre .1, omega (arith, c .before .before .before .before .before .before .before .before .before .before .pre .2, c .before .before .before .line-ends .kept .0, c .before .before .before .before .before .before .before .run .kept .0), omega arith, omega arith, near-lower (c .before .before .before .before .before .before .before .before .before .before .args .side), data-rows (c .before .before .before .before .before .before .before .before .before .before .args .side) (c .before .before .before .before .before .before .before .before .before .before .pre .0) (c .before .before .before .line-ends .ensures .0))
 
-loop-less : tie.Need-loop-less Inv-loop μ-loop
-loop-less c = omega arith
+same-length : tie.Need-same-length
+same-length c = search needs
 
-loop-again : tie.Need-loop-again Inv-loop μ-loop
-loop-again c = (subst (λ (n : ℕ). Stored (cornerKind (c .before .before .before .before .before .before .before .args .side)) 0 n (c .before .before .before .before .before .before .before .args .out .now) (c .before .before .line .last .0)) (row-next (c .before .before .before .before .before .before .before .args .side) (c .before .before .before .before .before .loop .row)) (stored-next (omega arith) (omega arith) (c .before .before .before .before .before .loop .inv .0) (c .before .before .line .ensures)), omega (arith, c .before .before .before .before .loop-test .taken))
-
-same-length : tie.Need-same-length Inv-loop μ-loop
-same-length c = c .before .loop .inv .0 .size
-
-returns : tie.Need-returns Inv-loop μ-loop
-returns c = let e : c .before .loop .row ≡ c .before .before .before .args .side = omega (arith, c .loop-test .left, c .before .loop .inv .1) in subst (λ (n : ℕ). Stored (cornerKind (c .before .before .before .args .side)) 0 (n * c .before .before .before .args .side) (c .before .before .before .args .out .now) (c .before .loop .out)) e (c .before .loop .inv .0)
+returns : tie.Need-returns
+returns c = corners-stored (c .before .before .before .before .before .before .before .before .before .before .run .ensures) (c .before .before .before .before .before .before .line-ends .ensures .1) (c .before .before .line-ends2 .ensures .1) (c .before .before .line-ends2 .ensures .0)
 
 pub corners-spec : {M : Type 1} → statement M
 corners-spec =
     tie.close
     (tie.spec
-    Inv-loop
-    μ-loop
-    loop-holds
-    line-requires
-    add-row
-    loop-less
-    loop-again
+    mul-run
+    run-requires
+    line-ends-requires
+    sub-line-ends
+    line-ends-requires-2
     same-length
     returns)

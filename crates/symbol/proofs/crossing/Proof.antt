@@ -2,22 +2,13 @@ use Rattle.symbol.specs.Layout.{lineLeft, lineDown, rowOf, columnOf}
 use Rattle.symbol.proofs.Plots.{none, next, exactly, heard, crossing-odd, crossing-first, crossing-on}
 use Rattle.symbol.proofs.Walk.{row-near, column-near}
 use Rattle.symbol.proofs.Lines.{tabled}
-use Rattle.symbol.proofs.Coordinates.{ok, near, whole-near, room-of}
-use mir.Syntax.{w64}
-use mir.Val.{toZ}
-use mir.Facts.{toZ-ofZ}
-use lib.IntN.{ℤ, pos}
-use mathlib.Core.Path.{_≡_, refl, sym, ap, _∙_}
-use Prim.Native.Nat.{ℕ, _+_, _-_}
+use Rattle.symbol.proofs.Coordinates.{near, room-of}
+use mathlib.Core.Path.{refl, ap}
+use Prim.Native.Nat.{_-_}
 use native.Mathlib.Omega.{arith}
 use borrow.Author.Needs.{needs}
 use Rattle.symbol.proofs.crossing.Statement.{statement}
 use Rattle.symbol.proofs.crossing.Tie as tie
-use Rattle.symbol.proofs.crossing.Reads as reads
-use Rattle.symbol.proofs.crossing.Lts as lts
-use Rattle.symbol.proofs.line_down.Reads as line-down-reads
-use Rattle.symbol.proofs.line_left.Reads as line-left-reads
-use Rattle.symbol.proofs.step.Reads as step-reads
 
 add-if1 : tie.Need-add-if1
 add-if1 c = omega (arith, tabled (c .before .args .p .version) (c .before .pre .0 .spaced .low) (c .before .pre .0 .spaced .high) .m-le, c .before .pre .1 .inside, c .before .pre .2 .inside)

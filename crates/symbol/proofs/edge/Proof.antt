@@ -1,10 +1,8 @@
 use borrow.Author.Tests.{lt-ltb, le-ltb}
-use Rattle.symbol.specs.Layout.{edge, ring}
+use Rattle.symbol.specs.Layout.{edge}
 use borrow.Author.Needs.{needs}
 use Rattle.symbol.proofs.edge.Statement.{statement}
 use Rattle.symbol.proofs.edge.Tie as tie
-use Rattle.symbol.proofs.edge.Reads as reads
-use Rattle.symbol.proofs.edge.Lts as lts
 
 sub-far : tie.Need-sub-far
 sub-far c = search needs

@@ -3,8 +3,6 @@ use Rattle.symbol.specs.Layout.{finders}
 use borrow.Author.Needs.{needs}
 use Rattle.symbol.proofs.finder_at.Statement.{statement}
 use Rattle.symbol.proofs.finder_at.Tie as tie
-use Rattle.symbol.proofs.finder_at.Reads as reads
-use Rattle.symbol.proofs.finder_at.Lts as lts
 
 mul-result : tie.Need-mul-result
 mul-result c = search needs

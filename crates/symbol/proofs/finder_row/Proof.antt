@@ -1,16 +1,9 @@
-use mathlib.Core.Path.{refl}
-use mathlib.Core.Path.{sym, _∙_}
+use mathlib.Core.Path.{refl, sym, _∙_}
 use Rattle.symbol.proofs.CornerRows.{edge-low, edge-top, edge-bottom, upper-row, lower-row}
 use native.Mathlib.Omega.{arith}
-use borrow.Author.Tests.{lt-ltb, le-ltb}
-use Rattle.symbol.proofs.CornerRows.{edge-low, edge-top, edge-mid}
-use Rattle.symbol.specs.Layout.{finderRow, half, within}
 use borrow.Author.Needs.{needs}
 use Rattle.symbol.proofs.finder_row.Statement.{statement}
 use Rattle.symbol.proofs.finder_row.Tie as tie
-use Rattle.symbol.proofs.finder_row.Reads as reads
-use Rattle.symbol.proofs.finder_row.Lts as lts
-use Rattle.symbol.proofs.finder_at.Reads as finder-at-reads
 
 mul-finder-at : tie.Need-mul-finder-at
 mul-finder-at c = search needs

@@ -2,8 +2,6 @@ use Rattle.symbol.proofs.Coordinates.{forth-fits, forth-is}
 use borrow.Author.Needs.{needs}
 use Rattle.symbol.proofs.forth.Statement.{statement}
 use Rattle.symbol.proofs.forth.Tie as tie
-use Rattle.symbol.proofs.forth.Reads as reads
-use Rattle.symbol.proofs.forth.Lts as lts
 
 cast-result : tie.Need-cast-result
 cast-result c = search needs

@@ -2,18 +2,12 @@ use Rattle.symbol.proofs.Answer.{too-low, too-high, too-short, small, l
 use Rattle.symbol.proofs.Coordinates.{square-le}
 use Rattle.symbol.specs.Version.{sideOf}
 use lib.ListN.{length}
-use mathlib.Core.Path.{sym, subst, ap, _∙_}
+use mathlib.Core.Path.{sym, subst}
 use Prim.Native.Nat.{ℕ, _*_, _<_, _≤_}
 use native.Mathlib.Omega.{arith}
 use borrow.Author.Needs.{needs}
 use Rattle.symbol.proofs.layout.Statement.{statement}
 use Rattle.symbol.proofs.layout.Tie as tie
-use Rattle.symbol.proofs.layout.Reads as reads
-use Rattle.symbol.proofs.layout.Lts as lts
-use Rattle.symbol.proofs.Version.side.Reads as side-reads
-use Rattle.symbol.proofs.alignment.Reads as alignment-reads
-use Rattle.symbol.proofs.corners.Reads as corners-reads
-use Rattle.symbol.proofs.spacing_of.Reads as spacing-of-reads
 
 returns : tie.Need-returns
 returns c = too-low (c .before .before .args .version) (c .before .before .args .out .now) (c .if1 .taken)

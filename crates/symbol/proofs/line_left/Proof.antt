@@ -7,18 +7,13 @@ use mir.Facts.{toZ-ofZ}
 use mir.Val.{toZ, ofZ}
 use mir.Syntax.{w64}
 use lib.ListN.{length}
-use lib.IntN.{ℤ, pos, _+ℤ_, _-ℤ_}
+use lib.IntN.{ℤ, pos, _-ℤ_}
 use Prim.Native.Nat.{ℕ, _+_, _-_, _≤_, _<_}
-use mathlib.Core.List.{List}
-use mathlib.Core.Path.{_≡_, refl, sym, ap, subst, _∙_}
-use Rattle.symbol.proofs.Coordinates.{read, ok, near, mag-back, mag-forth}
+use mathlib.Core.Path.{_≡_, refl, sym, subst, _∙_}
+use Rattle.symbol.proofs.Coordinates.{read, ok, near, mag-back}
 use Rattle.symbol.proofs.Plots.{start, turn, heard}
 use Rattle.symbol.proofs.line_left.Statement.{statement}
 use Rattle.symbol.proofs.line_left.Tie as tie
-use Rattle.symbol.proofs.line_left.Reads as reads
-use Rattle.symbol.proofs.line_left.Lts as lts
-use Rattle.symbol.proofs.back.Reads as back-reads
-use Rattle.symbol.proofs.line_module.Reads as line-module-reads
 
 abbrev Inv-loop : tie.InvT-loop
 Inv-loop grid₀ side x y width i₀ grid i = Plotted side (each i (λ n. lineModule (toZ w64 x -ℤ pos n) (toZ w64 y))) grid₀ grid × (i ≤ width + 1) × (length grid ≡ length grid₀)

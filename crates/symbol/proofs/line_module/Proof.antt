@@ -1,17 +1,12 @@
 use Rattle.symbol.specs.Layout.{lineModule, plot, light, dark}
-use lib.IntN.{ℤ, pos, _+ℤ_, _-ℤ_}
-use mathlib.Core.List.{List, [], _∷_}
+use lib.IntN.{pos, _+ℤ_, _-ℤ_}
+use mathlib.Core.List.{[], _∷_}
 use mathlib.Core.Path.{refl, _∙_}
 use Rattle.symbol.proofs.Coordinates.{read, ok}
 use Rattle.symbol.proofs.Plots.{next, heard}
 use borrow.Author.Needs.{needs}
 use Rattle.symbol.proofs.line_module.Statement.{statement}
 use Rattle.symbol.proofs.line_module.Tie as tie
-use Rattle.symbol.proofs.line_module.Reads as reads
-use Rattle.symbol.proofs.line_module.Lts as lts
-use Rattle.symbol.proofs.back.Reads as back-reads
-use Rattle.symbol.proofs.forth.Reads as forth-reads
-use Rattle.symbol.proofs.plot.Reads as plot-reads
 
 plot-requires : tie.Need-plot-requires
 plot-requires c κs = search needs

@@ -1,14 +1,11 @@
 use mathlib.Core.Path.{_≡_, refl, subst}
 use Rattle.symbol.proofs.Stored.{stored-none, stored-more}
 use Rattle.symbol.specs.Inner.{Stored}
-use lib.ListN.{length}
 use Prim.Native.Nat.{ℕ, _+_, _-_, _/_, _%_, _^_, _≤_}
 use native.Mathlib.Omega.{arith}
 use borrow.Author.Needs.{needs}
 use Rattle.symbol.proofs.modules.Statement.{statement}
 use Rattle.symbol.proofs.modules.Tie as tie
-use Rattle.symbol.proofs.modules.Reads as reads
-use Rattle.symbol.proofs.modules.Lts as lts
 
 abbrev Inv-loop : tie.InvT-loop
 Inv-loop out₀ at bits i₀ out i = Stored (λ k. 2 + bits / 2 ^ (7 - (k - at)) % 2) at i out₀ out × (at ≤ i) × (i ≤ at + 8)

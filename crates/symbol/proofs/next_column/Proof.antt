@@ -1,16 +1,12 @@
 use native.Mathlib.Omega.{arith}
 use mathlib.Core.Path.{_∙_}
-use lib.IntN.{ℤ, pos, _-ℤ_}
+use lib.IntN.{pos, _-ℤ_}
 use mir.Facts.{toZ-ofZ}
 use Rattle.symbol.proofs.Coordinates.{near, ok, read}
 use Rattle.symbol.proofs.Walk.{column-near, column-more}
 use borrow.Author.Needs.{needs}
 use Rattle.symbol.proofs.next_column.Statement.{statement}
 use Rattle.symbol.proofs.next_column.Tie as tie
-use Rattle.symbol.proofs.next_column.Reads as reads
-use Rattle.symbol.proofs.next_column.Lts as lts
-use Rattle.symbol.proofs.back.Reads as back-reads
-use Rattle.symbol.proofs.step.Reads as step-reads
 
 step-requires : tie.Need-step-requires
 step-requires c κs = search needs

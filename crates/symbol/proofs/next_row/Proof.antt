@@ -1,16 +1,12 @@
 use native.Mathlib.Omega.{arith}
 use mathlib.Core.Path.{_∙_}
-use lib.IntN.{ℤ, pos, _+ℤ_}
+use lib.IntN.{pos, _+ℤ_}
 use mir.Facts.{toZ-ofZ}
 use Rattle.symbol.proofs.Coordinates.{near, ok, read}
 use Rattle.symbol.proofs.Walk.{row-near, row-more}
 use borrow.Author.Needs.{needs}
 use Rattle.symbol.proofs.next_row.Statement.{statement}
 use Rattle.symbol.proofs.next_row.Tie as tie
-use Rattle.symbol.proofs.next_row.Reads as reads
-use Rattle.symbol.proofs.next_row.Lts as lts
-use Rattle.symbol.proofs.forth.Reads as forth-reads
-use Rattle.symbol.proofs.step.Reads as step-reads
 
 step-requires : tie.Need-step-requires
 step-requires c κs = search needs

@@ -1,21 +1,15 @@
-use Rattle.symbol.specs.Layout.{mOf, lineOf, rowOf, columnOf, rowEnds, columnEnds, crossing, crossings, each}
-use Rattle.symbol.proofs.Walk.{Walk, begin, roomy, on, small, further, done, row-inside, row-last, column-inside, column-last, column-start}
-use Rattle.symbol.proofs.Coordinates.{ok, near, whole-near, room-of}
+use Rattle.symbol.specs.Layout.{mOf, columnOf, crossing}
+use Rattle.symbol.proofs.Walk.{Walk, begin, roomy, on, small, further, done, column-inside, column-last, column-start}
+use Rattle.symbol.proofs.Coordinates.{ok}
 use mir.Syntax.{w64}
 use mir.Val.{toZ}
 use mir.Facts.{toZ-ofZ}
-use lib.IntN.{ℤ, pos}
-use mathlib.Core.Path.{_≡_, refl, sym, ap, _∙_}
+use lib.IntN.{pos}
+use mathlib.Core.Path.{ap, _∙_}
 use Prim.Native.Nat.{ℕ, _+_, _-_}
 use native.Mathlib.Omega.{arith}
-use borrow.Author.Needs.{needs}
 use Rattle.symbol.proofs.row_crossings.Statement.{statement}
 use Rattle.symbol.proofs.row_crossings.Tie as tie
-use Rattle.symbol.proofs.row_crossings.Reads as reads
-use Rattle.symbol.proofs.row_crossings.Lts as lts
-use Rattle.symbol.proofs.crossing.Reads as crossing-reads
-use Rattle.symbol.proofs.next_column.Reads as next-column-reads
-use Rattle.symbol.proofs.signed.Reads as signed-reads
 
 abbrev Inv-loop : tie.InvT-loop
 Inv-loop grid₀ p n y x₀ j₀ grid x j = Walk p columnOf (crossing (p .version) (n)) grid₀ grid (toZ w64 x) j

@@ -1,15 +1,10 @@
-use Prim.Native.Nat.{ℕ}
+use Prim.Native.Nat.{ℕ, _-_, _≤_}
 use mathlib.Core.Path.{_≡_, refl, subst}
 use Rattle.symbol.proofs.Stored.{stored-none, stored-more}
 use Rattle.symbol.specs.Inner.{Stored}
-use lib.ListN.{length}
-use Prim.Native.Nat.{_-_, _≤_}
 use native.Mathlib.Omega.{arith}
-use borrow.Author.Needs.{needs}
 use Rattle.symbol.proofs.run.Statement.{statement}
 use Rattle.symbol.proofs.run.Tie as tie
-use Rattle.symbol.proofs.run.Reads as reads
-use Rattle.symbol.proofs.run.Lts as lts
 
 abbrev Inv-loop : tie.InvT-loop
 Inv-loop out₀ from to kind i₀ out i = Stored (λ i. kind) from i out₀ out × (from ≤ i) × (i ≤ to)

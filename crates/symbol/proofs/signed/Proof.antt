@@ -2,8 +2,6 @@ use Rattle.symbol.proofs.Coordinates.{unsigned}
 use borrow.Author.Needs.{needs}
 use Rattle.symbol.proofs.signed.Statement.{statement}
 use Rattle.symbol.proofs.signed.Tie as tie
-use Rattle.symbol.proofs.signed.Reads as reads
-use Rattle.symbol.proofs.signed.Lts as lts
 
 cast-result : tie.Need-cast-result
 cast-result c = search needs

@@ -3,10 +3,6 @@ use Rattle.symbol.specs.Layout.{kOf, rOf, mOf, ks, rs, ms}
 use borrow.Author.Needs.{needs}
 use Rattle.symbol.proofs.spacing_of.Statement.{statement}
 use Rattle.symbol.proofs.spacing_of.Tie as tie
-use Rattle.symbol.proofs.spacing_of.Reads as reads
-use Rattle.symbol.proofs.spacing_of.Lts as lts
-use Rattle.symbol.proofs.Version.side.Reads as side-reads
-use Rattle.symbol.proofs.wide.Reads as wide-reads
 
 side-requires : tie.Need-side-requires
 side-requires c κs = search needs

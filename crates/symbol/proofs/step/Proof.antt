@@ -1,14 +1,10 @@
 use Prim.Native.Nat.{ℕ, _-_}
 use mathlib.Core.Path.{_≡_, sym, ap, _∙_}
-use Rattle.symbol.proofs.Lines.{near-step, far-step}
+use Rattle.symbol.proofs.Lines.{near-step, far-step, tabled, step-in}
 use native.Mathlib.Omega.{arith}
-use borrow.Author.Tests.{lt-ltb, le-ltb}
-use Rattle.symbol.proofs.Lines.{tabled, step-in}
 use Rattle.symbol.specs.Layout.{stepOf}
 use Rattle.symbol.proofs.step.Statement.{statement}
 use Rattle.symbol.proofs.step.Tie as tie
-use Rattle.symbol.proofs.step.Reads as reads
-use Rattle.symbol.proofs.step.Lts as lts
 
 returns : tie.Need-returns
 returns c = let q = c .before .before .pre in let e : c .before .before .args .p .k ≡ stepOf (c .before .before .args .p .version) (c .before .before .args .n) = q .k-is ∙ sym (near-step (c .before .before .args .p .version) (q .low) (q .high) (c .before .before .args .n) (omega (arith, q .m-is, c .if1 .taken))) in (e, (omega (arith, e, step-in (c .before .before .args .p .version) (q .low) (q .high) (c .before .before .args .n) .0), omega (arith, e, step-in (c .before .before .args .p .version) (q .low) (q .high) (c .before .before .args .n) .1)))

@@ -5,8 +5,6 @@ use borrow.Author.Tests.{le-leb, lt-leb, eq-eqb, ne-eqb}
 use borrow.Author.Needs.{needs}
 use Rattle.symbol.proofs.Version.from_side.Statement.{statement}
 use Rattle.symbol.proofs.Version.from_side.Tie as tie
-use Rattle.symbol.proofs.Version.from_side.Reads as reads
-use Rattle.symbol.proofs.Version.from_side.Lts as lts
 
 returns : tie.Need-returns
 unfolding isSide sideRefusal sideVersion

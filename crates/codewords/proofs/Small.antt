@@ -1,0 +1,100 @@
+-- Bits stay bits and bytes stay bytes on the way from a square to its stream and back.
+use mathlib.Core.Path.{_≡_, sym, ap, subst, _∙_}
+use mathlib.Core.List.{List, [], _∷_}
+use Prim.Native.Nat.{ℕ, zero, suc, _+_, _*_, _/_, _%_, _^_, _-_, _<_}
+use native.Mathlib.Nat.{pow-suc, pow-le-pow-right, mod-lt}
+use native.Mathlib.Omega.{arith}
+use native.Mathlib.Decide.{decLt, ℕ-discrete}
+use lib.Bits.{xor-lt}
+use lib.Dec.{lit<}
+use lib.ListN.{length, getD, set, take, drop, replicate, length-take, getD-replicate, length-replicate, List·getD-eq-default}
+use lib.Seq.{getD-set-same, getD-set-other, set-out, getD-take, getD-drop}
+use Rattle.codewords.specs.Codewords.{bitsOf, value, codewordsOf, dataBits, placed, order, storeAt, streamOf, interleaved, streamIn, squareOf}
+use Rattle.codewords.proofs.Bits.{bit-at}
+
+-- every element of a list is below n
+abbrev pub Below : ℕ → List ℕ → Type 0
+Below n xs = (i : ℕ) → getD xs i 0 < n
+
+module _ (m : ℕ → ℕ) (small : (i : ℕ) → m i < 2) where
+  pub data-below : (i : ℕ) (ks sq : List ℕ) → Below 2 sq → Below 2 (dataBits m i ks sq)
+  unfolding dataBits
+  data-below i [] sq h j = omega arith
+  data-below i (k ∷ ks) [] h j = omega arith
+  data-below i (zero ∷ ks) (b ∷ sq) h zero = xor-lt 1 b (m i) (h 0) (small i)
+  data-below i (zero ∷ ks) (b ∷ sq) h (suc j) = data-below (suc i) ks sq (λ n. h (suc n)) j
+  data-below i (suc k ∷ ks) (b ∷ sq) h j = data-below (suc i) ks sq (λ n. h (suc n)) j
+
+  pub placed-below : (i : ℕ) (ks ds : List ℕ) → Below 2 ds → Below 2 (placed m i ks ds)
+  unfolding placed
+  placed-below i [] ds h j = omega arith
+  placed-below i (zero ∷ ks) [] h zero = omega arith
+  placed-below i (zero ∷ ks) [] h (suc j) = placed-below (suc i) ks [] h j
+  placed-below i (zero ∷ ks) (d ∷ ds) h zero = xor-lt 1 d (m i) (h 0) (small i)
+  placed-below i (zero ∷ ks) (d ∷ ds) h (suc j) = placed-below (suc i) ks ds (λ n. h (suc n)) j
+  placed-below i (suc zero ∷ ks) ds h zero = omega arith
+  placed-below i (suc zero ∷ ks) ds h (suc j) = placed-below (suc i) ks ds h j
+  placed-below i (suc (suc zero) ∷ ks) ds h zero = omega arith
+  placed-below i (suc (suc zero) ∷ ks) ds h (suc j) = placed-below (suc i) ks ds h j
+  placed-below i (suc (suc (suc k)) ∷ ks) ds h zero = omega arith
+  placed-below i (suc (suc (suc k)) ∷ ks) ds h (suc j) = placed-below (suc i) ks ds h j
+
+-- the number that bits say
+value-below : (n a : ℕ) (bs : List ℕ) → a < 2 ^ n → Below 2 bs → value a bs < 2 ^ (n + length bs)
+unfolding value
+value-below n a [] h b = subst (λ (k : ℕ). a < 2 ^ k) (let e : n ≡ n + 0 = omega arith in e) h
+value-below n a (x ∷ bs) h b =
+    let e : suc n + length bs ≡ n + suc (length bs) = omega arith in
+    subst (λ (k : ℕ). value (a * 2 + x) bs < 2 ^ k) e (value-below (suc n) (a * 2 + x) bs (omega (arith, b 0, pow-suc 2 n)) (λ i. b (suc i)))
+
+take-below : (n k : ℕ) (xs : List ℕ) → Below n xs → 0 < n → Below n (take k xs)
+take-below n k xs h p i = elim (decLt i k) [
+  | yes l ↦ subst (λ (x : ℕ). x < n) (sym (getD-take k xs i 0 l)) (h i)
+  | no l ↦ subst (λ (x : ℕ). x < n) (sym (List·getD-eq-default (take k xs) 0 (omega (arith, length-take k xs)))) p
+]
+
+drop-below : (n k : ℕ) (xs : List ℕ) → Below n xs → Below n (drop k xs)
+drop-below n k xs h i = subst (λ (x : ℕ). x < n) (sym (getD-drop k xs i 0)) (h (k + i))
+
+pub codewords-below : (n : ℕ) (bs : List ℕ) → Below 2 bs → Below 256 (codewordsOf n bs)
+unfolding codewordsOf
+codewords-below zero bs h j = omega arith
+codewords-below (suc n) bs h zero =
+    omega (arith, value-below 0 0 (take 8 bs) (lit< tt) (take-below 2 8 bs h (lit< tt)), pow-le-pow-right {n = 2} (lit< tt) {i = 0 + length (take 8 bs)} {j = 8} (omega (arith, length-take 8 bs)))
+codewords-below (suc n) bs h (suc j) = codewords-below n (drop 8 bs) (drop-below 2 8 bs h) j
+
+set-below : (n : ℕ) (xs : List ℕ) (p x : ℕ) → x < n → Below n xs → Below n (set xs p x)
+set-below n xs p x a h i = elim (ℕ-discrete i p) [
+  | yes e ↦ elim (decLt p (length xs)) [
+    | yes l ↦ subst (λ (y : ℕ). y < n) (sym (ap (λ (j : ℕ). getD (set xs p x) j 0) e ∙ getD-set-same xs p x 0 l)) a
+    | no l ↦ subst (λ (ys : List ℕ). getD ys i 0 < n) (sym (set-out xs p x (omega arith))) (h i)
+  ]
+  | no e ↦ subst (λ (y : ℕ). y < n) (sym (getD-set-other xs p i x 0 e)) (h i)
+]
+
+store-below : (n : ℕ) (ps cs s : List ℕ) → Below n cs → Below n s → Below n (storeAt ps cs s)
+unfolding storeAt
+store-below n [] cs s h g = g
+store-below n (p ∷ ps) [] s h g = g
+store-below n (p ∷ ps) (c ∷ cs) s h g = store-below n ps cs (set s p c) (λ i. h (suc i)) (set-below n s p c (h 0) g)
+
+zeros-below : (k : ℕ) → Below 256 (replicate k 0)
+zeros-below k i = elim (decLt i k) [
+  | yes l ↦ subst (λ (x : ℕ). x < 256) (sym (getD-replicate k i 0 0 l)) (lit< tt)
+  | no l ↦ subst (λ (x : ℕ). x < 256) (sym (List·getD-eq-default (replicate k 0) 0 (omega (arith, length-replicate {A = ℕ} k 0)))) (lit< tt)
+]
+
+-- the stream of a square of bits has bytes
+pub stream-below : (total : ℕ) (m : ℕ → ℕ) (ks sq : List ℕ) → ((i : ℕ) → m i < 2) → Below 2 sq → Below 256 (streamIn total m ks sq)
+unfolding streamIn streamOf
+stream-below total m ks sq small h =
+    let cs = codewordsOf total (dataBits m 0 ks sq) in
+    store-below 256 (order (length cs)) cs (replicate (length cs) 0) (codewords-below total (dataBits m 0 ks sq) (data-below m small 0 ks sq h)) (zeros-below (length cs))
+
+bits-below : (cs : List ℕ) → Below 2 (bitsOf cs)
+bits-below cs i = subst (λ (x : ℕ). x < 2) (sym (bit-at cs i)) (mod-lt (getD cs (i / 8) 0 / 2 ^ (7 - i % 8)) (lit< tt))
+
+-- the square of a stream has bits
+pub square-below : (m : ℕ → ℕ) (ks s : List ℕ) → ((i : ℕ) → m i < 2) → Below 2 (squareOf m ks s)
+unfolding squareOf
+square-below m ks s small = placed-below m small 0 ks (bitsOf (interleaved s)) (bits-below (interleaved s))
