@@ -9,7 +9,8 @@ use Rattle.symbol.specs.Layout.{layoutOf}
 use Rattle.information.specs.Information.{infoWritten}
 use Rattle.information.proofs.Flips.{info-length, info-else}
 use Rattle.blocks.specs.Blocks.{dataModules}
-use Rattle.codewords.specs.Codewords.{maskBit, bitsOf, codewordsOf, dataBits, placed, order, interleaved, streamOf, streamIn, squareOf}
+use Rattle.bits.specs.Bits.{bitsOf}
+use Rattle.codewords.specs.Codewords.{maskBit, codewordsOf, dataBits, placed, order, interleaved, streamOf, streamIn, squareOf}
 use Rattle.codewords.proofs.Bits.{Bytes, length-bits, codewords-back}
 use Rattle.codewords.proofs.Interleave.{interleave-back, length-interleaved}
 use Rattle.codewords.proofs.Placement.{data-placed, length-placed, data-agree}

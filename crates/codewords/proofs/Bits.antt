@@ -8,15 +8,16 @@ use native.Mathlib.Omega.{arith}
 use lib.ListN.{length, take, drop, getD}
 use lib.Pow.{mod-pow-add}
 use lib.Seq.{getD-take, length-take-le}
-use Rattle.codewords.specs.Codewords.{numBits, bitsOf, value, codewordsOf}
+use Rattle.bits.specs.Bits.{lowBits, bitsOf, value, firstWords}
+use Rattle.codewords.specs.Codewords.{codewordsOf}
 
 pub length-bits : (s : List ℕ) → length (bitsOf s) ≡ 8 * length s
-unfolding bitsOf numBits
+unfolding bitsOf lowBits
 length-bits [] = refl
 length-bits (b ∷ s) = let h = length-bits s in omega arith
 
 pub bit-at : (s : List ℕ) (i : ℕ) → getD (bitsOf s) i 0 ≡ getD s (i / 8) 0 / 2 ^ (7 - i % 8) % 2
-unfolding bitsOf numBits
+unfolding bitsOf lowBits
 bit-at [] i = rw (zero-div, zero-mod)
 bit-at (b ∷ s) zero = refl
 bit-at (b ∷ s) (suc zero) = refl
@@ -37,19 +38,19 @@ Bytes [] = Unit {0}
 Bytes (b ∷ bs) = (b < 256) × Bytes bs
 
 pub length-codewords : (n : ℕ) (bs : List ℕ) → length (codewordsOf n bs) ≡ n
-unfolding codewordsOf
+unfolding firstWords
 length-codewords zero bs = refl
 length-codewords (suc n) bs = ap suc (length-codewords n (drop 8 bs))
 
-value-num : (n a v : ℕ) → value a (numBits n v) ≡ a * 2 ^ n + v % 2 ^ n
-unfolding numBits value
+value-num : (n a v : ℕ) → value a (lowBits n v) ≡ a * 2 ^ n + v % 2 ^ n
+unfolding lowBits value
 value-num zero a v = omega (arith, mod-one v)
 value-num (suc n) a v = value-num n (a * 2 + v / 2 ^ n % 2) v ∙
     rw (← one-add n, mod-pow-add v 1 n, one-add, pow-succ' 2 n, add-mul (a * 2) (v / 2 ^ n % 2) (2 ^ n), mul-assoc a 2 (2 ^ n)) (add-assoc (a * (2 * 2 ^ n)) ((v / 2 ^ n % 2) * 2 ^ n) (v % 2 ^ n))
 
 -- bytes that were written as bits are read back, whatever follows
 pub codewords-back : (cs rest : List ℕ) → Bytes cs → codewordsOf (length cs) (bitsOf cs ++ rest) ≡ cs
-unfolding bitsOf codewordsOf numBits
+unfolding bitsOf firstWords lowBits
 codewords-back [] rest h = refl
 codewords-back (c ∷ cs) rest h = ap₂ _∷_ (let e = value-num 8 0 c in omega (arith, h .0)) (codewords-back cs rest (h .1))
 

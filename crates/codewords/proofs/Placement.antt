@@ -13,7 +13,8 @@ use lib.Seq.{drop-cons, take-suc-set, take-all, length-take-le, drop-set-lt, get
 use lib.Bits.{bitXor, xor-self, xor-zero-r, xor-lt}
 use Rattle.information.proofs.Xor.{xor-assoc}
 use Rattle.blocks.specs.Blocks.{dataModules}
-use Rattle.codewords.specs.Codewords.{value, codewordsOf, dataBits, placed}
+use Rattle.bits.specs.Bits.{value, firstWords}
+use Rattle.codewords.specs.Codewords.{codewordsOf, dataBits, placed}
 use Rattle.codewords.specs.Inner.{Pushed, bitsFrom, Reading, moduleOf, restOf}
 use Rattle.codewords.specs.declared.Byte.{Byte}
 
@@ -177,7 +178,7 @@ module _ {total : ℕ} {all out₀ out left : List ℕ} {n : ℕ} (c : Codewords
   codewords-eight h = omega (arith, c .enough)
 
   pub codewords-more : {x : ℕ} {rest : List ℕ} → n < total → total ≤ length out₀ → x ≡ value 0 (take 8 left) → rest ≡ drop 8 left → Codewords total all out₀ (set out n x) rest (n + 1)
-  unfolding codewordsOf
+  unfolding firstWords
   codewords-more {x} {rest} h room e r =
       let k : total - n ≡ suc (total - (n + 1)) = omega arith in
       let y : take (n + 1) (set out n x) ≡ take n out ++ (x ∷ []) = ap (λ (i : ℕ). take i (set out n x)) (add-one n) ∙ take-suc-set out n x (omega (arith, c .size)) in
@@ -191,7 +192,7 @@ module _ {total : ℕ} {all out₀ out left : List ℕ} {n : ℕ} (c : Codewords
       }
 
   pub codewords-done : total ≤ n → out ≡ codewordsOf total all ++ drop total out₀
-  unfolding codewordsOf
+  unfolding firstWords
   codewords-done h =
       let e : n ≡ total = omega (arith, c .few) in
       let z : total - n ≡ 0 = omega arith in

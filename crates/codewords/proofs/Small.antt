@@ -9,7 +9,8 @@ use lib.Bits.{xor-lt}
 use lib.Dec.{lit<}
 use lib.ListN.{length, getD, set, take, drop, replicate, length-take, getD-replicate, length-replicate, List·getD-eq-default}
 use lib.Seq.{getD-set-same, getD-set-other, set-out, getD-take, getD-drop}
-use Rattle.codewords.specs.Codewords.{bitsOf, value, codewordsOf, dataBits, placed, order, storeAt, streamOf, interleaved, streamIn, squareOf}
+use Rattle.bits.specs.Bits.{bitsOf, value, firstWords}
+use Rattle.codewords.specs.Codewords.{codewordsOf, dataBits, placed, order, storeAt, streamOf, interleaved, streamIn, squareOf}
 use Rattle.codewords.proofs.Bits.{bit-at}
 
 -- every element of a list is below n
@@ -57,7 +58,7 @@ drop-below : (n k : ℕ) (xs : List ℕ) → Below n xs → Below n (drop k xs)
 drop-below n k xs h i = subst (λ (x : ℕ). x < n) (sym (getD-drop k xs i 0)) (h (k + i))
 
 pub codewords-below : (n : ℕ) (bs : List ℕ) → Below 2 bs → Below 256 (codewordsOf n bs)
-unfolding codewordsOf
+unfolding firstWords
 codewords-below zero bs h j = omega arith
 codewords-below (suc n) bs h zero =
     omega (arith, value-below 0 0 (take 8 bs) (lit< tt) (take-below 2 8 bs h (lit< tt)), pow-le-pow-right {n = 2} (lit< tt) {i = 0 + length (take 8 bs)} {j = 8} (omega (arith, length-take 8 bs)))

@@ -2,6 +2,7 @@
 use mathlib.Core.List.{List, [], _∷_, _++_, map}
 use Prim.Native.Nat.{ℕ, zero, suc, _+_, _-_, _*_, _/_, _%_, _^_}
 use lib.Bits.{bitXor}
+use Rattle.bits.specs.Bits.{bitsOf, firstWords}
 use lib.ListN.{length, getD, set, take, drop, replicate}
 
 -- Masks: 1 where the module is inverted.
@@ -17,27 +18,9 @@ maskAt (suc (suc (suc mask))) i j = 1 - (i % j + j % i + i % 3 + j % 3) % 2
 unfoldable pub maskBit : ℕ → ℕ → ℕ → ℕ
 maskBit s mask at = maskAt mask (at / s + 1) (at % s + 1)
 
--- Bits, high bit first.
-
--- the n low bits of a number
-unfoldable pub numBits : ℕ → ℕ → List ℕ
-numBits zero v = []
-numBits (suc n) v = (v / 2 ^ n % 2) ∷ numBits n v
-
--- the bits of codewords
-unfoldable pub bitsOf : List ℕ → List ℕ
-bitsOf [] = []
-bitsOf (c ∷ cs) = numBits 8 c ++ bitsOf cs
-
--- the number that bits say behind the number a
-unfoldable pub value : ℕ → List ℕ → ℕ
-value a [] = a
-value a (b ∷ bs) = value (a * 2 + b) bs
-
--- the first n codewords of bits
-unfoldable pub codewordsOf : ℕ → List ℕ → List ℕ
-codewordsOf zero bs = []
-codewordsOf (suc n) bs = value 0 (take 8 bs) ∷ codewordsOf n (drop 8 bs)
+-- the first n codewords of bits, high bit first
+abbrev pub codewordsOf : ℕ → List ℕ → List ℕ
+codewordsOf n bs = firstWords 8 n bs
 
 -- Placement: kinds are those of the layout, 0 data, 1 information, 2 light, 3 dark; m is the mask by place, i the first place.
 

@@ -4,7 +4,8 @@ use mathlib.Core.List.{List, [], _∷_, _++_, map}
 use Prim.Native.Nat.{ℕ, zero, suc, _+_, _-_, _*_, _^_, _<_, _≤_}
 use lib.ListN.{length, getD, take, drop}
 use lib.Bits.{bitXor}
-use Rattle.codewords.specs.Codewords.{value, dataBits, starts, storeAt, streamOf, interleaved}
+use Rattle.bits.specs.Bits.{value}
+use Rattle.codewords.specs.Codewords.{dataBits, starts, storeAt, streamOf, interleaved}
 use Rattle.codewords.specs.declared.Place.{Place}
 use Rattle.codewords.specs.declared.Byte.{Byte}
 

@@ -5,7 +5,8 @@ ghost use mathlib.Core.List.{_++_};
 ghost use Prim.Native.Nat.{_+_, _*_, _≤_, _<_};
 ghost use lib.ListN.{length, getD, take, drop};
 ghost use lib.Bits.{bitXor};
-ghost use Rattle.codewords.specs.Codewords.{maskAt, maskBit, bitsOf, value, codewordsOf, dataBits, placed, streamOf, interleaved};
+ghost use Rattle.bits.specs.Bits.{bitsOf, value};
+ghost use Rattle.codewords.specs.Codewords.{maskAt, maskBit, codewordsOf, dataBits, placed, streamOf, interleaved};
 ghost use Rattle.codewords.specs.Inner.{OnSide, Pushed, bitsFrom, Reading, Legible, moduleOf, restOf, ToStream, FromStream};
 
 // A place of a square, with its row and column.

@@ -25,7 +25,8 @@ use Rattle.han_xin.specs.Receipt.{receiptOf}
 use Rattle.han_xin.specs.Read.{Reading, refused, firstRefusal, unless, areModules, levelIn, maskIn, distanceIn, streamFrom, blocksIn, readRefusal, knownRefusal, told, bodyOf, withReceipt, readOf, readKnownOf}
 use Rattle.han_xin.specs.Write.{roomOf, markOf, writeOf}
 use Rattle.han_xin.proofs.Refusals.{unless-true, first-skips, both-true, leb-fact}
-use Rattle.han_xin.proofs.Modules.{Below, below-modules, stream-length}
+use Rattle.han_xin.proofs.Modules.{below-modules, stream-length}
+use Rattle.codewords.proofs.Small.{Below}
 use Rattle.han_xin.proofs.Data.{data-below}
 use Rattle.han_xin.proofs.Marks.{Ranges, Written, info-is, side-is, side-version, mark-length, level-is, mask-is, distance-le}
 

@@ -25,7 +25,8 @@ use Rattle.script.specs.Check.{refusalOf as checkRefusal}
 use Rattle.han_xin.specs.Read.{firstRefusal, unless, levelIn, maskIn, distanceIn}
 use Rattle.han_xin.specs.Write.{Writing, roomOf, writeRefusal, markOf, writeOf}
 use Rattle.han_xin.proofs.Refusals.{true-unless, first-none, both-true, true-both, leb-fact, eqb-fact}
-use Rattle.han_xin.proofs.Modules.{Below, square-below}
+use Rattle.codewords.proofs.Masks.{mask-bit-lt}
+use Rattle.codewords.proofs.Small.{Below, square-below}
 
 -- ---- version, level and mask in their ranges
 
@@ -133,7 +134,7 @@ module _ (v l k : ℕ) (s p : List ℕ) (R : Ranges v l k) where
 
   pub mark-below : Below 2 mark
   unfolding markOf
-  mark-below = info-bits (sideOf v) (infoBits v l k) base (square-below (sideOf v) k (layoutOf v) stream)
+  mark-below = info-bits (sideOf v) (infoBits v l k) base (square-below (maskBit (sideOf v) k) (layoutOf v) stream (mask-bit-lt (sideOf v) k))
 
   -- its word, among the sixteen of its version
   word-is : infoBits v l k ≡ wordAt v (4 * l + k)

@@ -68,7 +68,7 @@ module _ (v l k d : ℕ) (sq p s : List ℕ) (low : 1 ≤ v) (high : v ≤ 84) (
 
   body-refused : refusalOf (corrected bs stream) ≡ 6 → bodyOf v l k d sq p s ≡ refused 6 p s
   unfolding bodyOf
-  body-refused e = simp (ne-eqb (refusalOf (corrected bs stream)) 0 (λ z. omega arith), e)
+  body-refused e = simp e
 
   -- 6 where some block has no codeword in reach, and only there
   pub lost-six : (j : ℕ) → j < length bs → nearest 0x163 1 (parityAt bs j) (blockAt (blocksIn v l k sq) j) ≡ none → bodyOf v l k d sq p s ≡ refused 6 p s

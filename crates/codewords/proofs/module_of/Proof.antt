@@ -1,6 +1,7 @@
 use Rattle.codewords.proofs.Bits.{bit-front, length-front}
 use Rattle.codewords.proofs.Placement.{module-light, module-dark, module-left, module-data}
-use Rattle.codewords.specs.Codewords.{maskAt, bitsOf}
+use Rattle.bits.specs.Bits.{bitsOf}
+use Rattle.codewords.specs.Codewords.{maskAt}
 use lib.Bits.{bitXor}
 use lib.ListN.{take, drop}
 use Prim.Native.Nat.{_+_, _-_}

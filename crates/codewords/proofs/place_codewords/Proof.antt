@@ -2,7 +2,8 @@ use Rattle.codewords.specs.Inner.{moduleOf, OnSide}
 use Rattle.codewords.proofs.Masks.{mask-place, row-le, column-le, first-place}
 use Rattle.codewords.proofs.Bits.{length-front}
 use Rattle.codewords.proofs.Placement.{Placing, placing-begun, placing-more, placing-done, rest-next}
-use Rattle.codewords.specs.Codewords.{maskBit, bitsOf}
+use Rattle.bits.specs.Bits.{bitsOf}
+use Rattle.codewords.specs.Codewords.{maskBit}
 use lib.ListN.{length, getD, take, drop}
 use Prim.Native.Nat.{ℕ, _-_, _*_, _≤_}
 use mathlib.Core.Path.{_≡_, refl, sym, ap, _∙_}
