@@ -58,6 +58,15 @@ row-batch r total t k h =
     go (suc (suc zero)) h x y z = z
     go (suc (suc (suc k))) h x y z = absurd (omega arith)
 
+pub row-holds-own : (r : List ℕ) (total : ℕ) → T (rowHolds r total) → (rowLength r ≡ total) × T (rowHolds r (rowLength r))
+unfolding rowHolds
+row-holds-own r total t =
+    let u = T-and (batchHolds (getD r 0 0) (getD r 1 0) (getD r 2 0)) (batchHolds (getD r 3 0) (getD r 4 0) (getD r 5 0) && (batchHolds (getD r 6 0) (getD r 7 0) (getD r 8 0) && eqb (rowLength r) total)) t in
+    let v = T-and (batchHolds (getD r 3 0) (getD r 4 0) (getD r 5 0)) (batchHolds (getD r 6 0) (getD r 7 0) (getD r 8 0) && eqb (rowLength r) total) (u .1) in
+    let w = T-and (batchHolds (getD r 6 0) (getD r 7 0) (getD r 8 0)) (eqb (rowLength r) total) (v .1) in
+    let e : rowLength r ≡ total = eqb→eq (rowLength r) total (w .1) in
+    (e, subst (λ (n : ℕ). T (rowHolds r n)) (sym e) t)
+
 pub batches-all : (r : List ℕ) → batches 3 r ≡ shapes r
 unfolding batches shapes
 batches-all r = append-assoc (batchAt r 0) (batchAt r 1) (batchAt r 2)

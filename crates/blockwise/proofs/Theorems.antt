@@ -3,22 +3,29 @@
 use mathlib.Core.Path.{_≡_, refl, sym, ap, subst, _∙_}
 use mathlib.Core.Logic.{_⊎_, inl, inr}
 use mathlib.Core.Option.{none, some}
-use mathlib.Core.List.{List}
+use mathlib.Core.List.{List, _++_}
 use Prim.Native.Nat.{ℕ, _/_, _≤_, _<_}
 use native.Mathlib.Omega.{arith}
+use lib.Dec.{T}
 use lib.ListN.{length}
 use Rattle.field.proofs.Field.{passes}
 use Rattle.field.proofs.Instances.{passes-163}
 use Rattle.reed_solomon.specs.Block.{distance, nearest}
 use Rattle.reed_solomon.proofs.Search.{Bytes}
 use Rattle.reed_solomon.proofs.Nearest.{Near, near-one}
-use Rattle.blocks.specs.Blocks.{Shape, totalSize, totalData, cut, joined, dataParts, cutData}
+use Rattle.blocks.specs.Blocks.{rowLength, rowHolds, Shape, totalSize, totalData, cut, joined, dataParts, cutData}
 use Rattle.blocks.proofs.Rows.{Sound}
 use Rattle.blocks.proofs.Cuts.{Shaped, cut-shaped, cut-joined, length-joined, data-back}
 use Rattle.blockwise.specs.Blockwise.{refusalOf, countOf, blocksOf, corrected, dataOf, encoded, streamOf, differences, blockAt, parityAt}
-use Rattle.blockwise.proofs.Corrects.{blocks-shaped}
+use Rattle.blockwise.proofs.Corrects.{blocks-shaped, joined-size}
+use Rattle.blockwise.proofs.Batches as batches
+use Rattle.blockwise.proofs.Batches.{cut-front}
 use Rattle.blockwise.proofs.Settle.{Coded, Lost, Each, lost-refused, each-settled, either, coded-shaped, coded-each, block-small}
 use Rattle.blockwise.proofs.Written.{encoded-coded, joined-bytes}
+
+-- The length of a row that holds the rule for a total is that total, so that the row holds it for its own length.
+pub row-holds-own : (r : List ℕ) (total : ℕ) → T (rowHolds r total) → (rowLength r ≡ total) × T (rowHolds r (rowLength r))
+row-holds-own = batches.row-holds-own
 
 module _ (bs : List Shape) (sound : Sound bs) where
   -- ---- any stream
@@ -71,6 +78,12 @@ module _ (bs : List Shape) (sound : Sound bs) where
     -- The blocks as they are left, joined, are a stream with these blocks.
     pub cut-corrected : cut bs (joined (blocksOf (corrected bs s))) ≡ blocksOf (corrected bs s)
     cut-corrected = cut-joined bs (blocksOf (corrected bs s)) (blocks-shaped bs (cut bs s) shaped)
+
+    -- The data parts of the stream that is left, whatever stands behind it, are the data of the corrected blocks.
+    pub data-left : (rest : List ℕ) → dataParts bs (cut bs (joined (blocksOf (corrected bs s)) ++ rest)) ≡ dataOf bs s
+    data-left rest =
+        ap (dataParts bs)
+        (cut-front bs (joined (blocksOf (corrected bs s))) rest (omega (arith, joined-size bs s (omega arith))) ∙ cut-corrected)
 
   -- ---- a stream that is written
 

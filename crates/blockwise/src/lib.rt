@@ -93,19 +93,19 @@ pub fn correct_blocks(field: &[u16; 1280], stream: &mut [u8], row: &[u8]) -> Blo
     requires { ⌜ (length (now row) ≡ 9) × T (rowHolds (now row) (rowLength (now row))) × (rowLength (now row) ≤ length (now stream)) ⌝ }
     ensures { λ r. ⌜ (numberOf r ≡ refusalOf (corrected (shapes (now (row .entry))) (take (rowLength (now (row .entry))) (now (stream .entry))))) × (numberOf r ≡ 0 → (correctionsOf r ≡ countOf (corrected (shapes (now (row .entry))) (take (rowLength (now (row .entry))) (now (stream .entry))))) × (now (stream .exit) ≡ joined (blocksOf (corrected (shapes (now (row .entry))) (take (rowLength (now (row .entry))) (now (stream .entry))))) ++ drop (rowLength (now (row .entry))) (now (stream .entry)))) ⌝ }
 {
-    let mut n: usize = 0;
+    let mut total: usize = 0;
     let mut at: usize = 0;
     let mut k: usize = 0;
     while k < 3 {
         let r = correct_batch(field, stream, at, row, k);
-        let Blocks::Corrected(m) = r else {
+        let Blocks::Corrected(n) = r else {
             return Blocks::Refused;
         };
-        n += m;
+        total += n;
         at += batch_length(row, k);
         k += 1;
     }
-    Blocks::Corrected(n)
+    Blocks::Corrected(total)
 }
 
 // How many data codewords batch k of the row has.

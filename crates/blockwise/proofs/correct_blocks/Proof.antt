@@ -13,10 +13,10 @@ use Rattle.blockwise.proofs.correct_blocks.Statement.{statement}
 use Rattle.blockwise.proofs.correct_blocks.Tie as tie
 
 abbrev Inv-loop : tie.InvT-loop
-Inv-loop field stream₀ row n₀ at₀ k₀ stream n at k = (k ≤ 3) × (at ≡ totalSize (batches k row)) × (length stream ≡ length stream₀) × Done (batches k row) 0 stream₀ stream n
+Inv-loop field stream₀ row total₀ at₀ k₀ stream total at k = (k ≤ 3) × (at ≡ totalSize (batches k row)) × (length stream ≡ length stream₀) × Done (batches k row) 0 stream₀ stream total
 
 abbrev μ-loop : tie.MeasureT-loop
-μ-loop field stream₀ row n₀ at₀ k₀ stream n at k = 3 - k
+μ-loop field stream₀ row total₀ at₀ k₀ stream total at k = 3 - k
 
 loop-holds : tie.Need-loop-holds Inv-loop μ-loop
 unfolding batches totalSize
@@ -24,7 +24,7 @@ loop-holds c = (omega arith, refl, refl, done-none _ _)
 
 correct-batch-requires : tie.Need-correct-batch-requires Inv-loop μ-loop
 correct-batch-requires c κs =
-    (c .before .before .before .before .before .pre .0, (c .before .before .before .before .before .pre .1 .0, c .before .loop-test .taken, row-batch _ _ (c .before .before .before .before .before .pre .1 .1) (c .before .before .loop .k) (c .before .loop-test .taken), omega (arith, c .before .before .loop .inv .2, batch-in (c .before .before .before .before .before .args .row .now) (c .before .before .before .before .before .args .stream .now) (c .before .before .before .before .before .pre .1 .2) (c .before .before .loop .k) (c .before .before .loop .at) (c .before .before .loop .n) (c .before .before .loop .stream) (c .before .loop-test .taken) (c .before .before .loop .inv .1) (c .before .before .loop .inv .3))))
+    (c .before .before .before .before .before .pre .0, (c .before .before .before .before .before .pre .1 .0, c .before .loop-test .taken, row-batch _ _ (c .before .before .before .before .before .pre .1 .1) (c .before .before .loop .k) (c .before .loop-test .taken), omega (arith, c .before .before .loop .inv .2, batch-in (c .before .before .before .before .before .args .row .now) (c .before .before .before .before .before .args .stream .now) (c .before .before .before .before .before .pre .1 .2) (c .before .before .loop .k) (c .before .before .loop .at) (c .before .before .loop .total) (c .before .before .loop .stream) (c .before .loop-test .taken) (c .before .before .loop .inv .1) (c .before .before .loop .inv .3))))
 
 enum-known-r : tie.Need-enum-known-r Inv-loop μ-loop
 enum-known-r c = search needs
@@ -38,18 +38,18 @@ same-length c = search needs
 returns : tie.Need-returns Inv-loop μ-loop
 unfolding numberOf
 returns c = (
-  sym (ap refusalOf (corrected-front (c .before .before .before .before .before .before .before .before .before .before .args .row .now) (c .before .before .before .before .before .before .before .before .before .before .args .stream .now) (c .before .before .before .before .before .before .before .before .before .before .pre .1 .2)) ∙ batch-refused (c .before .before .before .before .before .before .before .before .before .before .args .row .now) (c .before .before .before .before .before .before .before .before .before .before .args .stream .now) (c .before .before .before .before .before .before .before .before .before .before .pre .1 .2) (c .before .before .before .before .before .before .before .loop .k) (c .before .before .before .before .before .before .before .loop .at) (c .before .before .before .before .before .before .before .loop .n) (c .before .before .before .before .before .before .before .loop .stream) (c .before .before .before .before .before .before .loop-test .taken) (c .before .before .before .before .before .before .before .loop .inv .1) (c .before .before .before .before .before .before .before .loop .inv .3) (stopped (batchAt (c .before .before .before .before .before .before .before .before .before .before .args .row .now) (c .before .before .before .before .before .before .before .loop .k)) (c .before .before .before .before .before .before .before .loop .at) (c .before .before .before .before .before .before .before .loop .stream) (c .before .before .before .before .correct-batch .last .1 .0) (c .before .before .before .before .correct-batch .result) (c .enum-told .given .1) (c .before .before .before .before .correct-batch .ensures))),
+  sym (ap refusalOf (corrected-front (c .before .before .before .before .before .before .before .before .before .before .args .row .now) (c .before .before .before .before .before .before .before .before .before .before .args .stream .now) (c .before .before .before .before .before .before .before .before .before .before .pre .1 .2)) ∙ batch-refused (c .before .before .before .before .before .before .before .before .before .before .args .row .now) (c .before .before .before .before .before .before .before .before .before .before .args .stream .now) (c .before .before .before .before .before .before .before .before .before .before .pre .1 .2) (c .before .before .before .before .before .before .before .loop .k) (c .before .before .before .before .before .before .before .loop .at) (c .before .before .before .before .before .before .before .loop .total) (c .before .before .before .before .before .before .before .loop .stream) (c .before .before .before .before .before .before .loop-test .taken) (c .before .before .before .before .before .before .before .loop .inv .1) (c .before .before .before .before .before .before .before .loop .inv .3) (stopped (batchAt (c .before .before .before .before .before .before .before .before .before .before .args .row .now) (c .before .before .before .before .before .before .before .loop .k)) (c .before .before .before .before .before .before .before .loop .at) (c .before .before .before .before .before .before .before .loop .stream) (c .before .before .before .before .correct-batch .last .1 .0) (c .before .before .before .before .correct-batch .result) (c .enum-told .given .1) (c .before .before .before .before .correct-batch .ensures))),
   λ e. absurd (omega (arith, e)),
 )
 
-add-n : tie.Need-add-n Inv-loop μ-loop
-add-n c = omega (arith, batch-count (c .before .before .before .before .before .before .before .before .before .before .before .args .row .now) (c .before .before .before .before .before .before .before .before .before .before .before .args .stream .now) (c .before .before .before .before .before .before .before .before .before .before .before .pre .1 .2) (c .before .before .before .before .before .before .before .before .loop .k) (c .before .before .before .before .before .before .before .before .loop .at) (c .before .before .before .before .before .before .before .before .loop .n) (c .before .before .before .before .before .before .before .before .loop .stream) (c .before .before .before .before .before .before .before .loop-test .taken) (c .before .before .before .before .before .before .before .before .loop .inv .1) (c .before .before .before .before .before .before .before .before .loop .inv .3) _ _ (accepted (batchAt (c .before .before .before .before .before .before .before .before .before .before .before .args .row .now) (c .before .before .before .before .before .before .before .before .loop .k)) (c .before .before .before .before .before .before .before .before .loop .at) (c .before .before .before .before .before .before .before .before .loop .stream) (c .before .before .before .before .before .correct-batch .last .1 .0) (c .before .before .before .before .before .correct-batch .result) _ (c .before .r .given .1) (c .before .before .before .before .before .correct-batch .ensures)))
+add-total : tie.Need-add-total Inv-loop μ-loop
+add-total c = omega (arith, batch-count (c .before .before .before .before .before .before .before .before .before .before .before .args .row .now) (c .before .before .before .before .before .before .before .before .before .before .before .args .stream .now) (c .before .before .before .before .before .before .before .before .before .before .before .pre .1 .2) (c .before .before .before .before .before .before .before .before .loop .k) (c .before .before .before .before .before .before .before .before .loop .at) (c .before .before .before .before .before .before .before .before .loop .total) (c .before .before .before .before .before .before .before .before .loop .stream) (c .before .before .before .before .before .before .before .loop-test .taken) (c .before .before .before .before .before .before .before .before .loop .inv .1) (c .before .before .before .before .before .before .before .before .loop .inv .3) _ _ (accepted (batchAt (c .before .before .before .before .before .before .before .before .before .before .before .args .row .now) (c .before .before .before .before .before .before .before .before .loop .k)) (c .before .before .before .before .before .before .before .before .loop .at) (c .before .before .before .before .before .before .before .before .loop .stream) (c .before .before .before .before .before .correct-batch .last .1 .0) (c .before .before .before .before .before .correct-batch .result) _ (c .before .r .given .1) (c .before .before .before .before .before .correct-batch .ensures)))
 
 batch-length-requires : tie.Need-batch-length-requires Inv-loop μ-loop
 batch-length-requires c κs = search needs
 
 add-at : tie.Need-add-at Inv-loop μ-loop
-add-at c = omega (arith, c .batch-length .ensures .0, batch-in (c .before .before .before .before .before .before .before .before .before .before .before .before .args .row .now) (c .before .before .before .before .before .before .before .before .before .before .before .before .args .stream .now) (c .before .before .before .before .before .before .before .before .before .before .before .before .pre .1 .2) (c .before .before .before .before .before .before .before .before .before .loop .k) (c .before .before .before .before .before .before .before .before .before .loop .at) (c .before .before .before .before .before .before .before .before .before .loop .n) (c .before .before .before .before .before .before .before .before .before .loop .stream) (c .before .before .before .before .before .before .before .before .loop-test .taken) (c .before .before .before .before .before .before .before .before .before .loop .inv .1) (c .before .before .before .before .before .before .before .before .before .loop .inv .3))
+add-at c = omega (arith, c .batch-length .ensures .0, batch-in (c .before .before .before .before .before .before .before .before .before .before .before .before .args .row .now) (c .before .before .before .before .before .before .before .before .before .before .before .before .args .stream .now) (c .before .before .before .before .before .before .before .before .before .before .before .before .pre .1 .2) (c .before .before .before .before .before .before .before .before .before .loop .k) (c .before .before .before .before .before .before .before .before .before .loop .at) (c .before .before .before .before .before .before .before .before .before .loop .total) (c .before .before .before .before .before .before .before .before .before .loop .stream) (c .before .before .before .before .before .before .before .before .loop-test .taken) (c .before .before .before .before .before .before .before .before .before .loop .inv .1) (c .before .before .before .before .before .before .before .before .before .loop .inv .3))
 
 add-k : tie.Need-add-k Inv-loop μ-loop
 add-k c = search needs
@@ -62,7 +62,7 @@ loop-again c = (
   omega arith,
   batch-place _ _ _ _ (c .before .before .before .before .before .before .before .before .before .loop .inv .1) (c .batch-length .ensures .0),
   c .before .before .before .before .before .before .correct-batch .kept .1 .0 ∙ c .before .before .before .before .before .before .before .before .before .loop .inv .2,
-  batch-done (c .before .before .before .before .before .before .before .before .before .before .before .before .args .row .now) (c .before .before .before .before .before .before .before .before .before .before .before .before .args .stream .now) (c .before .before .before .before .before .before .before .before .before .before .before .before .pre .1 .2) (c .before .before .before .before .before .before .before .before .before .loop .k) (c .before .before .before .before .before .before .before .before .before .loop .at) (c .before .before .before .before .before .before .before .before .before .loop .n) (c .before .before .before .before .before .before .before .before .before .loop .stream) (c .before .before .before .before .before .before .before .before .loop-test .taken) (c .before .before .before .before .before .before .before .before .before .loop .inv .1) (c .before .before .before .before .before .before .before .before .before .loop .inv .3) _ _ (accepted (batchAt (c .before .before .before .before .before .before .before .before .before .before .before .before .args .row .now) (c .before .before .before .before .before .before .before .before .before .loop .k)) (c .before .before .before .before .before .before .before .before .before .loop .at) (c .before .before .before .before .before .before .before .before .before .loop .stream) (c .before .before .before .before .before .before .correct-batch .last .1 .0) (c .before .before .before .before .before .before .correct-batch .result) _ (c .before .before .r .given .1) (c .before .before .before .before .before .before .correct-batch .ensures)),
+  batch-done (c .before .before .before .before .before .before .before .before .before .before .before .before .args .row .now) (c .before .before .before .before .before .before .before .before .before .before .before .before .args .stream .now) (c .before .before .before .before .before .before .before .before .before .before .before .before .pre .1 .2) (c .before .before .before .before .before .before .before .before .before .loop .k) (c .before .before .before .before .before .before .before .before .before .loop .at) (c .before .before .before .before .before .before .before .before .before .loop .total) (c .before .before .before .before .before .before .before .before .before .loop .stream) (c .before .before .before .before .before .before .before .before .loop-test .taken) (c .before .before .before .before .before .before .before .before .before .loop .inv .1) (c .before .before .before .before .before .before .before .before .before .loop .inv .3) _ _ (accepted (batchAt (c .before .before .before .before .before .before .before .before .before .before .before .before .args .row .now) (c .before .before .before .before .before .before .before .before .before .loop .k)) (c .before .before .before .before .before .before .before .before .before .loop .at) (c .before .before .before .before .before .before .before .before .before .loop .stream) (c .before .before .before .before .before .before .correct-batch .last .1 .0) (c .before .before .before .before .before .before .correct-batch .result) _ (c .before .before .r .given .1) (c .before .before .before .before .before .before .correct-batch .ensures)),
 )
 
 same-length-2 : tie.Need-same-length-2 Inv-loop μ-loop
@@ -84,7 +84,7 @@ correct-blocks-spec =
     enum-told
     same-length
     returns
-    add-n
+    add-total
     batch-length-requires
     add-at
     add-k
