@@ -243,7 +243,7 @@ pub fn compare() {
     tally.say("all data of up to 2 bytes");
     values(&mut tally);
     let mut random = Random::new(4);
-    for _ in 0..400_000 {
+    for _ in 0..1_500_000 {
         let mut data = vec![0; random.below(60)];
         random.fill(&mut data);
         tally.one(&data);
@@ -345,7 +345,7 @@ fn written(tally: &mut Tally, random: &mut Random) {
                 tally.one(&short);
             }
         }
-        for _ in 0..4 {
+        for _ in 0..12 {
             let mut other = data.clone();
             if other.is_empty() {
                 break;

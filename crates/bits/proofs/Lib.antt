@@ -3,3 +3,4 @@ pub mod Writing
 pub mod Words
 pub mod Bytes
 pub mod Window
+pub mod Tests

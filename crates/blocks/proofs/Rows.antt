@@ -143,7 +143,7 @@ sound-batch (suc n) d p t = all (suc n)
     all zero = none
     all (suc m) = more {b = record { info = d; parity = p }} (omega (arith, ltb→lt p (d + p) (and-left (ltb p (d + p)) (leb (d + p) 255) two))) one three (all m)
 
-total-append : (bs cs : List Shape) → totalSize (bs ++ cs) ≡ totalSize bs + totalSize cs
+pub total-append : (bs cs : List Shape) → totalSize (bs ++ cs) ≡ totalSize bs + totalSize cs
 unfolding totalSize
 total-append [] cs = omega arith
 total-append (b ∷ bs) cs = let e = total-append bs cs in omega arith
@@ -153,7 +153,7 @@ unfolding totalSize batch
 total-batch zero d p = omega arith
 total-batch (suc n) d p = let e = total-batch n d p in omega arith
 
-total-shapes : (r : List ℕ) → totalSize (shapes r) ≡ rowLength r
+pub total-shapes : (r : List ℕ) → totalSize (shapes r) ≡ rowLength r
 unfolding shapes rowLength
 total-shapes r =
     total-append (batch (getD r 0 0) (getD r 1 0) (getD r 2 0)) _

@@ -12,13 +12,13 @@ use lib.Seq.{take-append-le, drop-append-le, length-take-le}
 use borrow.Author.Tests.{eqb-true}
 use Rattle.corrector.specs.Correct.{Outcome}
 use Rattle.blocks.specs.Blocks.{batchHolds, rowLength, rowHolds, Shape, size, batch, shapes, totalSize, cut, joined}
-use Rattle.blocks.proofs.Rows.{total-batch}
+use Rattle.blocks.proofs.Rows.{total-append, total-batch, total-shapes}
 use Rattle.field.proofs.Field.{T-and}
 use Rattle.blockwise.specs.Blockwise.{outcomes, corrected, refusalOf, countOf, blocksOf}
 use Rattle.blockwise.specs.Inner.{batchAt, batches, spliced, Done, Corrects}
 use Rattle.blockwise.specs.declared.Blocks.{Blocks}
 use Rattle.blockwise.specs.declared.Blocks.the-variants.{Corrected, Refused}
-use Rattle.blockwise.proofs.Corrects.{total-append, refused-behind, refused-before, done-behind, count-le}
+use Rattle.blockwise.proofs.Corrects.{refused-behind, refused-before, done-behind, count-le}
 
 -- ---- the rule of a row
 
@@ -71,14 +71,6 @@ pub batches-all : (r : List ℕ) → batches 3 r ≡ shapes r
 unfolding batches shapes
 batches-all r = append-assoc (batchAt r 0) (batchAt r 1) (batchAt r 2)
 
-pub row-total : (r : List ℕ) → totalSize (shapes r) ≡ rowLength r
-unfolding shapes rowLength
-row-total r =
-    total-append (batchAt r 0) (batchAt r 1 ++ batchAt r 2)
-    ∙ ap₂ _+_ (total-batch (getD r 0 0) (getD r 1 0) (getD r 2 0))
-    (total-append (batchAt r 1) (batchAt r 2) ∙ ap₂ _+_ (total-batch (getD r 3 0) (getD r 4 0) (getD r 5 0)) (total-batch (getD r 6 0) (getD r 7 0) (getD r 8 0)))
-    ∙ omega arith
-
 -- whatever adds up over blocks, batch k has room behind those before it
 pub batch-room : (f : List Shape → ℕ) → ((bs cs : List Shape) → f (bs ++ cs) ≡ f bs + f cs) → (r : List ℕ) (k : ℕ) → k < 3 → f (batches k r) + f (batchAt r k) ≤ f (shapes r)
 unfolding batches
@@ -94,7 +86,7 @@ batch-room f add r k h = go k h
     go (suc (suc (suc k))) h = absurd (omega arith)
 
 row-room : (r : List ℕ) (k : ℕ) → k < 3 → totalSize (batches k r) + totalSize (batchAt r k) ≤ rowLength r
-row-room r k h = omega (arith, batch-room totalSize total-append r k h, row-total r)
+row-room r k h = omega (arith, batch-room totalSize total-append r k h, total-shapes r)
 
 -- the two cases of an answer
 pub accepted : (bs : List Shape) (a : ℕ) (s s′ : List ℕ) (r : Blocks) (n : ℕ) → r ≡ Corrected n → Corrects bs a s s′ r → Done bs a s s′ n
@@ -202,7 +194,7 @@ cut-front (b ∷ bs) t u h =
 pub corrected-front : (r s : List ℕ) → rowLength r ≤ length s → corrected (shapes r) (take (rowLength r) s) ≡ corrected (shapes r) s
 corrected-front r s h =
     ap (outcomes (shapes r))
-    (sym (cut-front (shapes r) (take (rowLength r) s) (drop (rowLength r) s) (omega (arith, row-total r, length-take-le (rowLength r) s h)))
+    (sym (cut-front (shapes r) (take (rowLength r) s) (drop (rowLength r) s) (omega (arith, total-shapes r, length-take-le (rowLength r) s h)))
     ∙ ap (cut (shapes r)) (take-append-drop (rowLength r) s))
 
 -- all batches are done
@@ -214,5 +206,5 @@ row-done r s s′ k n room lo hi D =
     let e : batches k r ≡ shapes r = (let z : k ≡ 3 = omega arith in ap (λ (x : ℕ). batches x r) z) ∙ batches-all r in
     let E : Done (shapes r) 0 s s′ n = subst (λ (bs : List Shape). Done bs 0 s s′ n) e D in
     let f = sym (corrected-front r s room) in
-    let t : 0 + totalSize (shapes r) ≡ rowLength r = omega (arith, row-total r) in
+    let t : 0 + totalSize (shapes r) ≡ rowLength r = omega (arith, total-shapes r) in
     (sym (E .accepted) ∙ ap refusalOf f, E .count ∙ ap countOf f, E .stream ∙ ap₂ (λ (os : List Outcome) (x : ℕ). joined (blocksOf os) ++ drop x s) f t)

@@ -10,12 +10,14 @@ use native.Mathlib.Omega.{arith}
 use lib.Dec.{eqb, eqb·suc-zero}
 use lib.ListN.{length, take, drop, length-take, length-drop, take-append-drop}
 use lib.Seq.{drop-drop, length-take-le}
-use Rattle.reed_solomon.specs.Block.{orOneMore, distance, nearest, unfit}
+use Rattle.reed_solomon.specs.Block.{nearest, unfit}
 use Rattle.reed_solomon.proofs.Nearest.{some-near}
 use Rattle.reed_solomon.proofs.Fit.{fit}
 use Rattle.corrector.specs.Correct.{Outcome, refused, settled, orOutcome, correctOf, outcome}
 use Rattle.corrector.proofs.Settle.{fit-settled}
+use Rattle.parity.proofs.Followed.{distance-le}
 use Rattle.blocks.specs.Blocks.{Shape, size, totalSize, batch, cut, joined}
+use Rattle.blocks.proofs.Rows.{total-append}
 use Rattle.blocks.proofs.Cuts.{Shaped, cut-shaped, length-joined}
 use Rattle.blockwise.specs.Blockwise.{outcomes, refusalOf, countOf, blocksOf, corrected}
 use Rattle.blockwise.specs.Inner.{spliced, Done}
@@ -38,16 +40,6 @@ block-length p w = go (unfit p w)
     go false = settled-length w p (nearest 0x163 1 p w) refl
 
 -- no more corrections than codewords
-one-more-le : (t : Bool) (m n : ℕ) → m ≤ n → orOneMore t m ≤ suc n
-one-more-le true m n h = omega arith
-one-more-le false m n h = omega arith
-
-distance-le : (us vs : List ℕ) → distance us vs ≤ length us
-unfolding distance
-distance-le [] vs = zero-le
-distance-le (u ∷ us) [] = zero-le
-distance-le (u ∷ us) (v ∷ vs) = one-more-le (eqb u v) (distance us vs) (length us) (distance-le us vs)
-
 settled-count : (w : List ℕ) (o : Option (List ℕ)) → settled w o .count ≤ length w
 unfolding settled refused
 settled-count w none = zero-le
@@ -97,11 +89,6 @@ pub joined-append : (us vs : List (List ℕ)) → joined (us ++ vs) ≡ joined u
 unfolding joined
 joined-append [] vs = refl
 joined-append (u ∷ us) vs = ap (λ (l : List ℕ). u ++ l) (joined-append us vs) ∙ sym (append-assoc u (joined us) (joined vs))
-
-pub total-append : (bs cs : List Shape) → totalSize (bs ++ cs) ≡ totalSize bs + totalSize cs
-unfolding totalSize
-total-append [] cs = omega arith
-total-append (b ∷ bs) cs = let e = total-append bs cs in omega arith
 
 -- ---- refusals
 

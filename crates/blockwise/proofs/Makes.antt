@@ -11,12 +11,12 @@ use Rattle.reed_solomon.specs.Block.{parityOf}
 use Rattle.parity.specs.Encode.{withParity, writtenOf}
 use Rattle.parity.specs.Inner.{Generator}
 use Rattle.blocks.specs.Blocks.{rowLength, Shape, size, batch, shapes, totalSize, totalData, cut, joined, dataParts, cutData}
-use Rattle.blocks.proofs.Rows.{total-batch}
+use Rattle.blocks.proofs.Rows.{total-append, total-batch, total-shapes}
 use Rattle.blockwise.specs.Blockwise.{encoded, streamOf}
 use Rattle.blockwise.specs.Inner.{batchAt, batches, spliced, Writes, Gathers}
 use Rattle.blockwise.proofs.Splice.{part-back, spliced-more}
-use Rattle.blockwise.proofs.Corrects.{joined-append, total-append}
-use Rattle.blockwise.proofs.Batches.{batch-split, batches-all, batch-is, batch-room, row-total, room}
+use Rattle.blockwise.proofs.Corrects.{joined-append}
+use Rattle.blockwise.proofs.Batches.{batch-split, batches-all, batch-is, batch-room, room}
 
 -- ---- sums of data
 
@@ -107,7 +107,7 @@ gathers-behind bs cs a t s s₁ s₂ room W U =
 module _ (r : List ℕ) (k c d p : ℕ) (few : k < 3) (ec : c ≡ getD r (3 * k) 0) (ed : d ≡ getD r (3 * k + 1) 0) (ep : p ≡ getD r (3 * k + 2) 0) (i : ℕ) (l : i < c) where
   pub stream-room : totalSize (batches k r) + (i * (d + p) + (d + p)) ≤ rowLength r
   stream-room =
-      omega (arith, batch-room totalSize total-append r k few, row-total r, ap totalSize (batch-is r k c d p ec ed ep), total-batch c d p, room i c (d + p) l)
+      omega (arith, batch-room totalSize total-append r k few, total-shapes r, ap totalSize (batch-is r k c d p ec ed ep), total-batch c d p, room i c (d + p) l)
 
   pub data-room : totalData (batches k r) + (i * d + d) ≤ totalData (shapes r)
   data-room = omega (arith, batch-room totalData data-append r k few, ap totalData (batch-is r k c d p ec ed ep), data-batch c d p, room i c d l)
@@ -198,7 +198,7 @@ module _ (r : List ℕ) (k : ℕ) (few : k < 3) (t s s₁ s₂ : List ℕ) where
   writes-batch h W U =
       let z : totalSize (batches k r) ≡ 0 + totalSize (batches k r) = omega arith in
       subst (λ (x : ℕ). Writes (batches x r) 0 t s s₂) (sym (add-one k))
-      (writes-behind (batches k r) (batchAt r k) 0 t s s₁ s₂ (omega (arith, batch-room totalSize total-append r k few, row-total r)) W
+      (writes-behind (batches k r) (batchAt r k) 0 t s s₁ s₂ (omega (arith, batch-room totalSize total-append r k few, total-shapes r)) W
       (subst (λ (n : ℕ). Writes (batchAt r k) n (drop (totalData (batches k r)) t) s₁ s₂) z U))
 
   pub gathers-batch : totalData (shapes r) ≤ length s → Gathers (batches k r) 0 t s s₁ → Gathers (batchAt r k) (totalData (batches k r)) (drop (totalSize (batches k r)) t) s₁ s₂
@@ -219,7 +219,7 @@ module _ (r : List ℕ) (k : ℕ) (lo : k ≤ 3) (hi : 3 ≤ k) (t s s₁ : List
   pub writes-row : Writes (batches k r) 0 t s s₁ → s₁ ≡ streamOf (shapes r) t ++ drop (rowLength r) s
   unfolding spliced
   writes-row W =
-      let n : 0 + totalSize (shapes r) ≡ rowLength r = omega (arith, row-total r) in
+      let n : 0 + totalSize (shapes r) ≡ rowLength r = omega (arith, total-shapes r) in
       subst (λ (bs : List Shape). Writes bs 0 t s s₁) three W .stream ∙ ap (λ (x : ℕ). streamOf (shapes r) t ++ drop x s) n
 
   pub gathers-row : (m : ℕ) → m ≡ totalData (batches 3 r) → Gathers (batches k r) 0 t s s₁ → (m ≡ totalData (shapes r)) × (s₁ ≡ dataParts (shapes r) (cut (shapes r) t) ++ drop m s)

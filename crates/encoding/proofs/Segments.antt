@@ -10,6 +10,7 @@ use lib.Dec.{ltb, eqb}
 use lib.ListN.{length, getD, take, drop, replicate, length-append, length-drop}
 use lib.Seq.{sets, drop-drop}
 use Rattle.bits.specs.Bits.{bitsOf, words}
+use Rattle.bits.proofs.Tests.{never}
 use Rattle.bits.proofs.Words.{sets-append}
 use Rattle.bits.proofs.Bytes.{words-bits}
 use Rattle.segments.specs.Script.{Segment, run, eci}
@@ -23,9 +24,6 @@ use Rattle.script.proofs.Theorems.{accepted, uncapped}
 use Rattle.encoding.specs.Written.{Written}
 use Rattle.encoding.specs.Fits.{Fits}
 use Rattle.encoding.proofs.Zeros.{zero-bits, into-zeros}
-
-never : {A : Type 0} → _≡_ {A = ℕ} 0 1 → A
-never z = absurd (omega arith)
 
 -- to write the segments hs of the rest of script and payload into the bytes t from the position a on is what is left of the whole
 pub record Left (s p : List ℕ) (n : ℕ) (t : List ℕ) (i j a : ℕ) : Type 0 where

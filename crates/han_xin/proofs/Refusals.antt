@@ -7,10 +7,8 @@ use native.Mathlib.Omega.{arith}
 use native.Mathlib.Decide.{ℕ-discrete}
 use borrow.Author.Tests.{eq-eqb, ne-eqb}
 use lib.Dec.{T, eqb, leb, eqb→eq, leb→le}
+use Rattle.bits.proofs.Tests.{never}
 use Rattle.han_xin.specs.Read.{firstRefusal, unless}
-
-never : {A : Type 0} → _≡_ {A = ℕ} 0 1 → A
-never z = absurd (omega arith)
 
 -- a test that holds gives no refusal, and only such a test
 pub unless-true : (b : Bool) (n : ℕ) → b ≡ true → unless b n ≡ 0

@@ -40,7 +40,7 @@ one-more-le : (t : Bool) (a b : ℕ) → a ≤ b → orOneMore t a ≤ suc b
 one-more-le true a b h = omega arith
 one-more-le false a b h = omega arith
 
-distance-le : (p q : List ℕ) → distance p q ≤ length p
+pub distance-le : (p q : List ℕ) → distance p q ≤ length p
 unfolding distance
 distance-le [] q = omega arith
 distance-le (x ∷ p) [] = omega arith

@@ -9,6 +9,7 @@ use borrow.Author.Tests.{eq-eqb, ne-eqb, lt-ltb, le-ltb, lt-leb, le-leb, ltb-fal
 use lib.Dec.{ltb, eqb, leb}
 use lib.ListN.{length, getD, take, drop, length-drop}
 use lib.Seq.{getD-drop, drop-drop}
+use Rattle.bits.proofs.Tests.{never}
 use Rattle.segments.specs.Script.{Segment, run, eci}
 use Rattle.script.specs.declared.Command.{Command}
 use Rattle.script.specs.declared.Command.the-variants.{Run, Eci, Wrong}
@@ -19,9 +20,6 @@ use Rattle.script.specs.Writer.{modeHas, modeLength, eciLength, has, bit
 use Rattle.script.specs.Check.{allowed, runAt, eciAt, commandAt, commandSize, Commands, none, these, with, taking, commands, most, capped, checkedOf}
 use Rattle.script.specs.Glyphs.{costOf, Limited, settled}
 use Rattle.script.proofs.Tests.{both}
-
-never : {A : Type 0} → _≡_ {A = ℕ} 0 1 → A
-never z = absurd (omega arith)
 
 -- ---- the command at a place
 

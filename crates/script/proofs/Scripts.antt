@@ -8,15 +8,13 @@ use borrow.Author.Tests.{eqb-true, eqb-false, ltb-false, ltb-true, leb-true, eq-
 use lib.Dec.{ltb, eqb, leb}
 use lib.ListN.{length, getD, take, drop, take-append-drop}
 use lib.Seq.{getD-drop, length-take-le}
+use Rattle.bits.proofs.Tests.{never}
 use Rattle.segments.specs.Script.{Segment, run, eci, runCommand, commandOf, payloadOf, scriptOf}
 use Rattle.script.specs.declared.Command.{Command}
 use Rattle.script.specs.declared.Command.the-variants.{Run, Eci, Wrong}
 use Rattle.script.specs.Check.{allowed, lengthOperand, valueOperand, runAt, eciAt, commandAt, commandSize, Commands, none, these, with, taking, commands}
 use Rattle.script.proofs.Tests.{both}
 use Rattle.script.proofs.Back.{AllLegal}
-
-never : {A : Type 0} → _≡_ {A = ℕ} 0 1 → A
-never z = absurd (omega arith)
 
 -- ---- the command at the front
 

@@ -7,6 +7,7 @@ use native.Mathlib.Omega.{arith}
 use borrow.Author.Tests.{eqb-false, ne-eqb, le-ltb}
 use lib.Dec.{ltb, eqb}
 use lib.ListN.{length, getD, drop}
+use Rattle.bits.proofs.Tests.{never}
 use Rattle.segments.specs.Script.{Segment, payloadOf, scriptOf}
 use Rattle.segments.specs.Segments.{got, parse, segmentsOf}
 use Rattle.segments.specs.FromData.{fromData}
@@ -16,9 +17,6 @@ use Rattle.script.specs.Check.{Commands, none, these, commandsOf, most, 
 use Rattle.script.proofs.Back.{AllLegal, round, encodings-length}
 use Rattle.script.proofs.Data.{data-bits, data-length, count-bits}
 use Rattle.script.proofs.Scripts.{Again, commands-again}
-
-never : {A : Type 0} → _≡_ {A = ℕ} 0 1 → A
-never z = absurd (omega arith)
 
 -- what an accepted script and payload come to: segments with this script and payload, each with its bytes, and so many bits
 pub record Accepted (s p : List ℕ) (b : ℕ) : Type 0 where

@@ -7,6 +7,7 @@ use native.Mathlib.Omega.{arith}
 use borrow.Author.Tests.{eq-eqb, ne-eqb, lt-ltb, le-ltb}
 use lib.ListN.{length, drop}
 use lib.Seq.{sets-eq}
+use Rattle.bits.proofs.Tests.{never}
 use Rattle.segments.specs.declared.Answer.the-variants.{Read, TooLong, Broken, Empty, PayloadFull, ScriptFull}
 use Rattle.segments.specs.declared.Count.{Count}
 use Rattle.segments.specs.declared.Count.the-variants.{Done, Cut, Lacking}
@@ -18,9 +19,6 @@ use Rattle.segments.specs.FromData.{Outcome, fromData, givenOr7, told}
 same : {n n′ m m′ : ℕ} {u u′ v v′ : List ℕ} → n ≡ n′ → m ≡ m′ → u ≡ u′ → v ≡ v′
     → _≡_ {A = Outcome} (record { refusal = 0; payloadLength = n; scriptLength = m; payload = u; script = v }) (record { refusal = 0; payloadLength = n′; scriptLength = m′; payload = u′; script = v′ })
 same p q r t = λ i. record { refusal = 0; payloadLength = p i; scriptLength = q i; payload = r i; script = t i }
-
-never : {A : Type 0} → _≡_ {A = ℕ} 0 1 → A
-never z = absurd (omega arith)
 
 module _ (s p c : List ℕ) where
   pub too-long : 3886 < length s → told TooLong p c ≡ fromData s p c

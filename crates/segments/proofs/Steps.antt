@@ -10,6 +10,7 @@ use lib.Dec.{eqb}
 use lib.ListN.{length, drop, length-append}
 use lib.Seq.{sets, drop-drop}
 use Rattle.bits.specs.Bits.{bitsOf}
+use Rattle.bits.proofs.Tests.{never}
 use Rattle.bits.proofs.Reading.{length-left}
 use Rattle.bits.proofs.Words.{WordAt, sets-append}
 use Rattle.segments.specs.declared.Count.{Count}
@@ -57,9 +58,6 @@ module _ (s : List ℕ) (i n : ℕ) (o : List ℕ) (mode : ℕ) where
   run-none a b c d e f g = rw (ne-eqb mode 1 a, ne-eqb mode 2 b, ne-eqb mode 3 c, ne-eqb mode 4 d, ne-eqb mode 5 e, ne-eqb mode 6 f, ne-eqb mode 7 g)
 
 -- ---- one segment
-
-never : {A : Type 0} → _≡_ {A = ℕ} 0 1 → A
-never z = absurd (omega arith)
 
 pub command-length : (mode n : ℕ) → length (runCommand mode n) ≤ 3
 unfolding runCommand
