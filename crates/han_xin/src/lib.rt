@@ -1,14 +1,13 @@
-// Read a square, Read with known version, level, mask, and Write a square (000: `decode_matrix`, `decode_data`).
+// What the operations on a square are made of: its first refusals, its stream, and the receipt (000: `decode_matrix`, `decode_data`).
 ghost use mathlib.Core.Path.{_≡_};
-ghost use mathlib.Core.List.{[], _∷_};
+ghost use mathlib.Core.List.{[], _∷_, _++_};
 ghost use Prim.Native.Nat.{ℕ, _*_, _%_, _<_, _≤_};
 ghost use lib.Dec.{eqb};
 ghost use lib.ListN.{length, getD, drop};
-ghost use mathlib.Core.List.{_++_};
 ghost use Rattle.codewords.specs.Codewords.{maskBit, streamIn, dataBits};
 ghost use Rattle.codewords.specs.Inner.{Legible};
 ghost use Rattle.han_xin.specs.Read.{firstRefusal, unless, areModules};
-ghost use Rattle.han_xin.specs.Inner.{Greater, Greatest, Fitting, receiptIn, readingOf, Small};
+ghost use Rattle.han_xin.specs.Inner.{Greater, Greatest, receiptIn, Small};
 ghost use Rattle.han_xin.specs.Receipt.{receiptOf, refusalReceipt};
 
 // What a square is read with: its version, level and mask, and how far the information was from theirs.
