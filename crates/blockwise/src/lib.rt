@@ -175,6 +175,14 @@ fn gather_batch(out: &mut [u8], stream: &[u8], row: &[u8], k: usize)
     }
 }
 
+// How many data codewords all blocks of the row have.
+pub fn data_length(row: &[u8]) -> usize
+    requires { ⌜ length (now row) ≡ 9 ⌝ }
+    ensures { λ r. ⌜ r ≡ totalData (shapes (now (row .entry))) ⌝ }
+{
+    data_before(row, 3)
+}
+
 // The data parts of all blocks of the stream, joined in block order at the front of out; the answer is their number.
 pub fn gather_data(out: &mut [u8], stream: &[u8], row: &[u8]) -> usize
     requires { ⌜ (length (now row) ≡ 9) × (rowLength (now row) ≤ length (now stream)) × (totalData (shapes (now row)) ≤ length (now out)) ⌝ }

@@ -1,6 +1,0 @@
--- Document 01, "Records" (receipt) and "Operations": Read a square, Read with known version, level, mask, and Write a square. `Inner` is for
--- inner functions: nobody has to believe it.
-pub mod Receipt
-pub mod Read
-pub mod Write
-pub mod Inner

@@ -1,0 +1,77 @@
+-- The greatest byte of a square says whether all are modules. Assumes nothing.
+use mathlib.Core.Path.{_≡_, refl, sym, ap, _∙_}
+use mathlib.Core.Logic.{_⊎_, inl, inr, _≢_}
+use mathlib.Core.Bool.{Bool, true, false}
+use mathlib.Core.List.{List, [], _∷_}
+use Prim.Native.Nat.{ℕ, _+_, _*_, _≤_, _<_}
+use native.Mathlib.Omega.{arith}
+use native.Mathlib.Decide.{ℕ-discrete, decLt}
+use borrow.Author.Tests.{eq-eqb, ne-eqb}
+use lib.Dec.{eqb}
+use lib.ListN.{length, getD, List·getD-eq-default}
+use Rattle.squares.specs.Read.{firstRefusal, unless, areModules}
+use Rattle.reader.specs.Inner.{Greater, Greatest}
+use Rattle.squares.proofs.Refusals.{unless-true, first-skips, first-takes}
+use Rattle.squares.proofs.Modules.{modules-below, below-modules}
+
+-- the greatest of the first n bytes
+pub record Greatest-to (sq : List ℕ) (n r : ℕ) : Type 0 where
+  pub all : (i : ℕ) → i < n → getD sq i 0 ≤ r
+  pub some : 0 < r → (i : ℕ) × (getD sq i 0 ≡ r)
+
+pub greatest-start : (sq : List ℕ) → Greatest-to sq 0 0
+greatest-start sq = record { all = λ i h. absurd (omega arith); some = λ h. absurd (omega arith) }
+
+pub greatest-next : (sq : List ℕ) (n r r′ : ℕ) → Greatest-to sq n r → Greater r (getD sq n 0) r′ → Greatest-to sq (n + 1) r′
+greatest-next sq n r r′ G H = record {
+  all = λ i h. elim (ℕ-discrete i n) [
+    | yes e ↦ omega (arith, ap (λ (x : ℕ). getD sq x 0) e, H .right)
+    | no d ↦ omega (arith, G .all i (omega arith), H .left)
+  ];
+  some = λ p. elim (H .one) [
+    | inl e ↦ (let f = G .some (omega arith) in (f .0, f .1 ∙ sym e))
+    | inr e ↦ (n, sym e)
+  ];
+}
+
+pub greatest-end : (sq : List ℕ) (n r : ℕ) → Greatest-to sq n r → length sq ≤ n → Greatest sq r
+greatest-end sq n r G h = record {
+  all = λ i. elim (decLt i n) [
+    | yes l ↦ G .all i l
+    | no l ↦ omega (arith, List·getD-eq-default sq 0 {n = i} (omega arith))
+  ];
+  some = G .some;
+}
+
+pub all-modules : (sq : List ℕ) (r : ℕ) → Greatest sq r → r ≤ 1 → areModules sq ≡ true
+all-modules sq r G h = below-modules sq (λ i. omega (arith, G .all i))
+
+pub not-modules : (sq : List ℕ) (r : ℕ) → Greatest sq r → 1 < r → areModules sq ≡ false
+not-modules sq r G h = go (areModules sq) refl
+  where
+    go : (b : Bool) → areModules sq ≡ b → b ≡ false
+    go false e = refl
+    go true e = (let f = G .some (omega arith) in absurd (omega (arith, modules-below sq e (f .0), f .1)))
+
+-- ---- the refusals 2 and 3
+
+module _ (sq : List ℕ) (side : ℕ) where
+  abbrev rest : List ℕ
+  rest = unless (areModules sq) 3 ∷ []
+
+  pub wrong-size : length sq ≢ side * side → 2 ≡ firstRefusal (unless (eqb (length sq) (side * side)) 2 ∷ rest)
+  wrong-size d =
+      let e : unless (eqb (length sq) (side * side)) 2 ≡ 2 = simp (ne-eqb (length sq) (side * side) d) in
+      sym (first-takes (unless (eqb (length sq) (side * side)) 2) rest (λ z. omega arith) ∙ e)
+
+  sized : length sq ≡ side * side → firstRefusal (unless (eqb (length sq) (side * side)) 2 ∷ rest) ≡ firstRefusal rest
+  sized e = first-skips (unless (eqb (length sq) (side * side)) 2) rest (simp (eq-eqb (length sq) (side * side) e))
+
+  pub wrong-byte : length sq ≡ side * side → areModules sq ≡ false → 3 ≡ firstRefusal (unless (eqb (length sq) (side * side)) 2 ∷ rest)
+  wrong-byte e f =
+      let g : unless (areModules sq) 3 ≡ 3 = ap (λ (b : Bool). unless b 3) f in
+      sym (sized e ∙ first-takes (unless (areModules sq) 3) [] (λ z. omega arith) ∙ g)
+
+  pub right-square : length sq ≡ side * side → areModules sq ≡ true → 0 ≡ firstRefusal (unless (eqb (length sq) (side * side)) 2 ∷ rest)
+  unfolding firstRefusal
+  right-square e f = sym (sized e ∙ first-skips (unless (areModules sq) 3) [] (unless-true (areModules sq) 3 f))

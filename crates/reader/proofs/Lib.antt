@@ -1,0 +1,3 @@
+-- Laws of the readings' inner functions.
+pub mod Bytes
+pub mod Receipts

@@ -1,0 +1,304 @@
+// Document 01, "Operations": Read a square, and Read with known version, level, mask (000: `decode_matrix`, `decode_data`).
+ghost use mathlib.Core.Path.{_≡_};
+ghost use mathlib.Core.List.{[], _∷_, _++_};
+ghost use Prim.Native.Nat.{ℕ, _*_, _%_, _<_, _≤_};
+ghost use lib.Dec.{eqb};
+ghost use lib.ListN.{length, getD, drop};
+ghost use Rattle.codewords.specs.Codewords.{maskBit, streamIn, dataBits};
+ghost use Rattle.codewords.specs.Inner.{Legible};
+ghost use Rattle.squares.specs.Read.{firstRefusal, unless, areModules, readingOf, readOf, readKnownOf};
+ghost use Rattle.reader.specs.Inner.{Greater, Greatest, receiptIn, Small};
+ghost use Rattle.squares.specs.Receipt.{receiptOf, refusalReceipt};
+use blockwise::Blocks;
+use information::InfoBits;
+use information::NearestInfo;
+use segments::Answer;
+use symbol::FromSide;
+use symbol::Version;
+
+// What a square is read with: its version, level and mask, and how far the information was from theirs.
+pub struct Mark {
+    pub version: usize,
+    pub level: usize,
+    pub mask: usize,
+    pub distance: usize,
+}
+
+// What is told of a square: the refusal number or 0, the count of corrections, and the lengths of payload and script.
+pub struct Told {
+    pub number: usize,
+    pub count: usize,
+    pub payload: usize,
+    pub script: usize,
+}
+
+fn greater(a: u8, b: u8) -> u8
+    ensures { λ r. ⌜ Greater a b r ⌝ }
+{
+    if a < b { b } else { a }
+}
+
+// The greatest byte, with no early exit: a test of each byte would be slower.
+fn greatest(square: &[u8]) -> u8
+    ensures { λ r. ⌜ Greatest (now (square .entry)) r ⌝ }
+{
+    let mut top = 0;
+    let mut i = 0;
+    while i < square.len() {
+        top = greater(top, square[i]);
+        i += 1;
+    }
+    top
+}
+
+// 2 if the square has not side × side bytes, 3 if a byte is above 1, else 0.
+fn square_refusal(square: &[u8], side: usize) -> usize
+    requires { ⌜ side ≤ 189 ⌝ }
+    ensures { λ r. ⌜ r ≡ firstRefusal (unless (eqb (length (now (square .entry))) (side * side)) 2 ∷ unless (areModules (now (square .entry))) 3 ∷ []) ⌝ }
+{
+    if square.len() != side * side {
+        return 2;
+    }
+    if 1 < greatest(square) {
+        return 3;
+    }
+    0
+}
+
+// The stream of a square.
+fn read_stream(
+    stream: &mut [u8],
+    kinds: &[u8],
+    square: &[u8],
+    side: usize,
+    mask: usize,
+    total: usize,
+)
+    requires { ⌜ Legible (now kinds) (now square) × (0 < side) × (total ≤ 3886) × (total ≤ length (now stream)) × (8 * total ≤ length (dataBits (maskBit side mask) 0 (now kinds) (now square))) ⌝ }
+    ensures { λ _. ⌜ now (stream .exit) ≡ streamIn total (maskBit side mask) (now (kinds .entry)) (now (square .entry)) ++ drop total (now (stream .entry)) ⌝ }
+{
+    let mut found = [0u8; 3886];
+    codewords::read_codewords(&mut found, total, kinds, square, side, mask);
+    codewords::to_stream(stream, &found, total);
+}
+
+fn low(n: usize) -> u8
+    ensures { λ r. ⌜ r ≡ n % 256 ⌝ }
+{
+    (n % 256) as u8
+}
+
+fn accepted(m: Mark, t: Told) -> [u8; 12]
+    requires { ⌜ (m .version < 256) × (m .level < 256) × (m .mask < 256) × (m .distance < 256) ⌝ }
+    requires { ⌜ Small t ⌝ }
+    ensures { λ r. ⌜ r ≡ receiptOf (m .version) (m .level) (m .mask) (t .count) (m .distance) (t .payload) (t .script) ⌝ }
+{
+    [
+        0,
+        low(m.version),
+        low(m.level),
+        low(m.mask),
+        low(t.count / 256),
+        low(t.count),
+        low(m.distance),
+        low(t.payload / 256),
+        low(t.payload),
+        low(t.script / 256),
+        low(t.script),
+        0,
+    ]
+}
+
+fn refusal(number: usize) -> [u8; 12]
+    requires { ⌜ number < 256 ⌝ }
+    ensures { λ r. ⌜ r ≡ refusalReceipt number ⌝ }
+{
+    [low(number), 0, 0, 0, 0, 0, 0, 0, 0, 0, 0, 0]
+}
+
+fn put(receipt: &mut [u8], bytes: &[u8; 12])
+    requires { ⌜ (length (now receipt) ≡ 12) × (length (now bytes) ≡ 12) ⌝ }
+    ensures { λ _. ⌜ now (receipt .exit) ≡ now (bytes .entry) ⌝ }
+{
+    let mut i = 0;
+    while i < 12 {
+        receipt[i] = bytes[i];
+        i += 1;
+    }
+}
+
+// The receipt of what is told.
+fn write_receipt(receipt: &mut [u8], m: Mark, t: Told)
+    requires { ⌜ length (now receipt) ≡ 12 ⌝ }
+    requires { ⌜ (m .version < 256) × (m .level < 256) × (m .mask < 256) × (m .distance < 256) ⌝ }
+    requires { ⌜ Small t ⌝ }
+    ensures { λ _. ⌜ now (receipt .exit) ≡ receiptIn m t ⌝ }
+{
+    let number = t.number;
+    if number == 0 {
+        let bytes = accepted(m, t);
+        put(receipt, &bytes);
+        return;
+    }
+    let bytes = refusal(number);
+    put(receipt, &bytes);
+}
+
+// What is told of a refusal.
+fn refused(number: usize) -> Told {
+    Told {
+        number: number,
+        count: 0,
+        payload: 0,
+        script: 0,
+    }
+}
+
+// Script and payload of the corrected blocks, of which `count` codewords were changed.
+fn tell_segments(
+    stream: &[u8],
+    row: &[u8],
+    count: usize,
+    payload: &mut [u8],
+    script: &mut [u8],
+) -> Told {
+    let mut data = [0u8; 3886];
+    let n = blockwise::gather_data(&mut data, stream, row);
+    match segments::from_data(&data[..n], payload, script) {
+        Answer::Read(p, s) => Told {
+            number: 0,
+            count: count,
+            payload: p,
+            script: s,
+        },
+        Answer::TooLong => refused(2),
+        Answer::Broken => refused(7),
+        Answer::Empty => refused(8),
+        Answer::PayloadFull => refused(9),
+        Answer::ScriptFull => refused(10),
+    }
+}
+
+// The stream of a square corrected, and its segments.
+fn tell_blocks(
+    kinds: &[u8],
+    square: &[u8],
+    m: Mark,
+    payload: &mut [u8],
+    script: &mut [u8],
+) -> Told {
+    let mut stream = [0u8; 3886];
+    let side = Version { number: m.version }.side();
+    let total = blocks::total_codewords(m.version);
+    read_stream(&mut stream, kinds, square, side, m.mask, total);
+    let field = field::han_xin();
+    let row = blocks::block_row(m.version, m.level);
+    match blockwise::correct_blocks(&field, &mut stream, &row) {
+        Blocks::Corrected(count) => tell_segments(&stream, &row, count, payload, script),
+        Blocks::Refused => refused(6),
+    }
+}
+
+// The same, or 1 for a version with too few data modules: the rows of the table hold their rule.
+fn tell(kinds: &[u8], square: &[u8], m: Mark, payload: &mut [u8], script: &mut [u8]) -> Told {
+    if blocks::data_modules(kinds, kinds.len()) < 8 * blocks::total_codewords(m.version) {
+        return refused(1);
+    }
+    tell_blocks(kinds, square, m, payload, script)
+}
+
+// A square that has passed the first refusals is read, and the receipt written.
+fn finish(
+    square: &[u8],
+    m: Mark,
+    payload: &mut [u8],
+    script: &mut [u8],
+    receipt: &mut [u8],
+) -> usize {
+    let mut kinds = [0u8; 35721];
+    symbol::layout(m.version, &mut kinds);
+    let side = Version { number: m.version }.side();
+    let t = tell(&kinds[..side * side], square, m, payload, script);
+    let number = t.number;
+    write_receipt(receipt, m, t);
+    number
+}
+
+// A refusal with its receipt.
+fn refuse(receipt: &mut [u8], number: usize) -> usize {
+    let bytes = refusal(number);
+    put(receipt, &bytes);
+    number
+}
+
+pub fn read_square(
+    square: &[u8],
+    side: usize,
+    payload: &mut [u8],
+    script: &mut [u8],
+    receipt: &mut [u8],
+) -> usize
+    ensures { λ r. ⌜ readingOf r (now (receipt .exit)) (now (payload .exit)) (now (script .exit)) ≡ readOf (now (square .entry)) side (now (payload .entry)) (now (script .entry)) (now (receipt .entry)) ⌝ }
+{
+    if receipt.len() != 12 {
+        return 2;
+    }
+    let FromSide::Found(v) = Version::from_side(side) else {
+        return refuse(receipt, 1);
+    };
+    let early = square_refusal(square, side);
+    if early != 0 {
+        return refuse(receipt, early);
+    }
+    let first = information::read_copy(square, side, false);
+    let second = information::read_copy(square, side, true);
+    match information::nearest_info(v.number, first, second) {
+        NearestInfo::Nearest {
+            level,
+            mask,
+            distance,
+        } => {
+            if 10 < distance {
+                return refuse(receipt, 4);
+            }
+            let m = Mark {
+                version: v.number,
+                level: level,
+                mask: mask,
+                distance: distance as usize,
+            };
+            finish(square, m, payload, script, receipt)
+        }
+        NearestInfo::NoVersion => refuse(receipt, 1),
+    }
+}
+
+pub fn read_known(
+    square: &[u8],
+    version: usize,
+    level: usize,
+    mask: usize,
+    payload: &mut [u8],
+    script: &mut [u8],
+    receipt: &mut [u8],
+) -> usize
+    ensures { λ r. ⌜ readingOf r (now (receipt .exit)) (now (payload .exit)) (now (script .exit)) ≡ readKnownOf (now (square .entry)) version level mask (now (payload .entry)) (now (script .entry)) (now (receipt .entry)) ⌝ }
+{
+    if receipt.len() != 12 {
+        return 2;
+    }
+    let InfoBits::Word(_) = information::info_bits(version, level, mask) else {
+        return refuse(receipt, 1);
+    };
+    let early = square_refusal(square, Version { number: version }.side());
+    if early != 0 {
+        return refuse(receipt, early);
+    }
+    let m = Mark {
+        version: version,
+        level: level,
+        mask: mask,
+        distance: 0,
+    };
+    finish(square, m, payload, script, receipt)
+}

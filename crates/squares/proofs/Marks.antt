@@ -1,0 +1,185 @@
+-- A mark made by the writer: what its making says, and what is read of its information. Assumes nothing.
+use mathlib.Core.Path.{_≡_, refl, sym, ap, ap₂, _∙_, subst}
+use mathlib.Core.Bool.{Bool, true, false, cond, _&&_}
+use mathlib.Core.List.{List, [], _∷_}
+use Prim.Native.Nat.{ℕ, suc, _+_, _*_, _/_, _%_, _^_, _-_, _<_, _≤_}
+use native.Mathlib.Omega.{arith}
+use native.Mathlib.Decide.{ℕ-discrete}
+use borrow.Author.Tests.{eq-eqb, ne-eqb, le-leb}
+use lib.Dec.{eqb, leb}
+use lib.ListN.{length, getD}
+use Rattle.symbol.specs.Version.{sideOf, isVersion, isSide, sideVersion}
+use Rattle.symbol.specs.Layout.{layoutOf}
+use Rattle.symbol.proofs.Theorems.{layout-length}
+use Rattle.information.specs.Information.{isInfo, infoBits, wordAt, infoWritten, copyOf, infoFlips, nearest, distance, nearestLevel, nearestMask, nearestDistance}
+use Rattle.information.proofs.Apart.{word-lt}
+use Rattle.information.proofs.Flips.{flips-nearest, write-then-first, write-then-second, info-length, info-bits}
+use Rattle.blocks.specs.Blocks.{totalOf, shapesOf, hasBlocks, rowHolds, rowOf, dataModules}
+use Rattle.codewords.specs.Codewords.{maskBit, squareOf}
+use Rattle.codewords.proofs.Back.{length-square}
+use Rattle.blockwise.specs.Blockwise.{streamOf}
+use Rattle.script.specs.declared.Check.{Check}
+use Rattle.script.specs.declared.Check.the-variants.{Bits, Malformed, Lacking, Empty}
+use Rattle.script.specs.Check.{commandsOf, checkOf, bitsOfCheck, encoded}
+use Rattle.script.specs.Check.{refusalOf as checkRefusal}
+use Rattle.squares.specs.Read.{firstRefusal, unless, levelIn, maskIn, distanceIn}
+use Rattle.squares.specs.Write.{Writing, roomOf, writeRefusal, markOf, writeOf}
+use Rattle.squares.proofs.Refusals.{true-unless, first-none, both-true, true-both, leb-fact, eqb-fact}
+use Rattle.codewords.proofs.Masks.{mask-bit-lt}
+use Rattle.codewords.proofs.Small.{Below, square-below}
+
+-- ---- version, level and mask in their ranges
+
+pub record Ranges (v l k : ℕ) : Type 0 where
+  pub low : 1 ≤ v
+  pub high : v ≤ 84
+  pub level : l ≤ 3
+  pub mask : k ≤ 3
+
+pub ranges : (v l k : ℕ) → isInfo v l k ≡ true → Ranges v l k
+unfolding isInfo isVersion
+ranges v l k e =
+    let a = both-true (leb 1 v && leb v 84) (leb l 3 && leb k 3) e in
+    let b = both-true (leb 1 v) (leb v 84) (a .0) in
+    let c = both-true (leb l 3) (leb k 3) (a .1) in
+    record { low = leb-fact 1 v (b .0); high = leb-fact v 84 (b .1); level = leb-fact l 3 (c .0); mask = leb-fact k 3 (c .1) }
+
+pub version-is : (v : ℕ) → 1 ≤ v → v ≤ 84 → isVersion v ≡ true
+unfolding isVersion
+version-is v a b = true-both (leb 1 v) (leb v 84) (le-leb 1 v a) (le-leb v 84 b)
+
+pub info-is : (v l k : ℕ) → Ranges v l k → isInfo v l k ≡ true
+unfolding isInfo
+info-is v l k R =
+    true-both (isVersion v) (leb l 3 && leb k 3) (version-is v (R .low) (R .high))
+    (true-both (leb l 3) (leb k 3) (le-leb l 3 (R .level)) (le-leb k 3 (R .mask)))
+
+-- a version's side is one, and says the version
+pub side-is : (v : ℕ) → 1 ≤ v → v ≤ 84 → isSide (sideOf v) ≡ true
+unfolding isSide
+side-is v a b =
+    true-both (leb 23 (sideOf v)) (leb (sideOf v) 189 && eqb (sideOf v % 2) 1) (le-leb 23 (sideOf v) (omega arith))
+    (true-both (leb (sideOf v) 189) (eqb (sideOf v % 2) 1) (le-leb (sideOf v) 189 (omega arith)) (eq-eqb (sideOf v % 2) 1 (omega arith)))
+
+pub side-version : (v : ℕ) → 1 ≤ v → v ≤ 84 → sideVersion (sideOf v) ≡ v
+unfolding sideVersion
+side-version v a b = ap (λ (t : Bool). cond t ((sideOf v - 21) / 2) 0) (side-is v a b) ∙ (let e : (sideOf v - 21) / 2 ≡ v = omega arith in e)
+
+-- ---- what an accepted writing says
+
+pub record Written (v l k : ℕ) (s p sq : List ℕ) : Type 0 where
+  pub ranged : Ranges v l k
+  pub blocked : hasBlocks v l ≡ true
+  pub size : length sq ≡ sideOf v * sideOf v
+  pub bits : ℕ
+  pub check : checkOf s p ≡ Bits bits
+  pub fits : bits ≤ 8 * roomOf v l
+
+bits-of : (c : Check) (n : ℕ) → checkRefusal c ≡ 0 → unless (leb (bitsOfCheck c) n) 13 ≡ 0 → (b : ℕ) × (c ≡ Bits b) × (b ≤ n)
+bits-of (Bits b) n e f = (b, refl, leb-fact b n (true-unless (leb b n) 12 f))
+bits-of Malformed n e f = absurd (omega arith)
+bits-of Lacking n e f = absurd (omega arith)
+bits-of Empty n e f = absurd (omega arith)
+
+module _ (v l k : ℕ) (s p sq : List ℕ) where
+  abbrev four : ℕ
+  four = unless (leb (bitsOfCheck (checkOf s p)) (8 * roomOf v l)) 13
+
+  abbrev sized : Bool
+  sized = eqb (length sq) (sideOf v * sideOf v)
+
+  pub no-refusal : writeRefusal v l k s p sq ≡ 0 → Written v l k s p sq
+  unfolding writeRefusal
+  no-refusal e =
+      let a = first-none (unless (isInfo v l k) 1) (unless (hasBlocks v l) 1 ∷ unless sized 2 ∷ checkRefusal (checkOf s p) ∷ four ∷ []) e in
+      let b = first-none (unless (hasBlocks v l) 1) (unless sized 2 ∷ checkRefusal (checkOf s p) ∷ four ∷ []) (a .1) in
+      let c = first-none (unless sized 2) (checkRefusal (checkOf s p) ∷ four ∷ []) (b .1) in
+      let d = first-none (checkRefusal (checkOf s p)) (four ∷ []) (c .1) in
+      let f = first-none four [] (d .1) in
+      let g = bits-of (checkOf s p) (8 * roomOf v l) (d .0) (f .0) in
+      record {
+        ranged = ranges v l k (true-unless (isInfo v l k) 0 (a .0));
+        blocked = true-unless (hasBlocks v l) 0 (b .0);
+        size = eqb-fact (length sq) (sideOf v * sideOf v) (true-unless sized 1 (c .0));
+        bits = g .0;
+        check = g .1;
+        fits = g .2;
+      }
+
+  pub written : (m : List ℕ) → writeOf v l k s p sq ≡ record { number = 0; square = m } → Written v l k s p sq × (m ≡ markOf v l k s p)
+  unfolding writeOf
+  written m e = elim (ℕ-discrete (writeRefusal v l k s p sq) 0) [
+    | yes z ↦ (no-refusal z, sym (ap (λ (w : Writing). w .square) e) ∙ simp (eq-eqb (writeRefusal v l k s p sq) 0 z))
+    | no d ↦ absurd (d (sym (simp (ne-eqb (writeRefusal v l k s p sq) 0 d)) ∙ ap (λ (w : Writing). w .number) e))
+  ]
+
+-- ---- the mark as a square
+
+module _ (v l k : ℕ) (s p : List ℕ) (R : Ranges v l k) where
+  abbrev mark : List ℕ
+  mark = markOf v l k s p
+
+  abbrev stream : List ℕ
+  stream = streamOf (shapesOf v l) (encoded (roomOf v l) (commandsOf s p))
+
+  abbrev base : List ℕ
+  base = squareOf (maskBit (sideOf v) k) (layoutOf v) stream
+
+  base-length : length base ≡ sideOf v * sideOf v
+  base-length = length-square (maskBit (sideOf v) k) (layoutOf v) stream ∙ layout-length v
+
+  pub mark-length : length mark ≡ sideOf v * sideOf v
+  unfolding markOf
+  mark-length = info-length (sideOf v) (infoBits v l k) base (omega (arith, R .low)) ∙ base-length
+
+  pub mark-below : Below 2 mark
+  unfolding markOf
+  mark-below = info-bits (sideOf v) (infoBits v l k) base (square-below (maskBit (sideOf v) k) (layoutOf v) stream (mask-bit-lt (sideOf v) k))
+
+  -- its word, among the sixteen of its version
+  word-is : infoBits v l k ≡ wordAt v (4 * l + k)
+  unfolding wordAt
+  word-is =
+      let a : l ≡ (4 * l + k) / 4 = omega (arith, R .mask) in
+      let b : k ≡ (4 * l + k) % 4 = omega (arith, R .mask) in
+      ap₂ (infoBits v) a b
+
+  word-small : infoBits v l k < 2 ^ 34
+  word-small = subst (λ (w : ℕ). w < 2 ^ 34) (sym word-is) (word-lt v (4 * l + k) (R .high) (omega (arith, R .level, R .mask)))
+
+  -- with at most 8 information modules flipped, level and mask are those written
+  module _ (h : List ℕ) (size : length h ≡ sideOf v * sideOf v) (b : Below 2 h) (few : infoFlips (layoutOf v) mark h ≤ 8) where
+    abbrev copy : Bool → ℕ
+    copy second = copyOf (sideOf v) second h
+
+    near : (nearest v (copy false) (copy true) ≡ 4 * l + k) × (distance v (copy false) (copy true) (4 * l + k) ≤ infoFlips (layoutOf v) mark h)
+    unfolding markOf
+    near =
+        flips-nearest v (4 * l + k) mark h (R .low) (R .high) (omega (arith, R .level, R .mask)) mark-length size mark-below b
+        (write-then-first v (R .low) (infoBits v l k) base (omega (arith, base-length)) word-small ∙ word-is)
+        (write-then-second v (R .low) (infoBits v l k) base (omega (arith, base-length)) word-small ∙ word-is) few
+
+    versioned : isVersion v ≡ true
+    versioned = version-is v (R .low) (R .high)
+
+    pub level-is : levelIn v h ≡ l
+    unfolding levelIn nearestLevel
+    level-is =
+        ap (λ (t : Bool). cond t (nearest v (copy false) (copy true) / 4) 0) versioned
+        ∙ ap (λ (n : ℕ). n / 4) (near .0) ∙ (let e : (4 * l + k) / 4 ≡ l = omega (arith, R .mask) in e)
+
+    pub mask-is : maskIn v h ≡ k
+    unfolding maskIn nearestMask
+    mask-is =
+        ap (λ (t : Bool). cond t (nearest v (copy false) (copy true) % 4) 0) versioned
+        ∙ ap (λ (n : ℕ). n % 4) (near .0) ∙ (let e : (4 * l + k) % 4 ≡ k = omega (arith, R .mask) in e)
+
+    pub distance-le : distanceIn v h ≤ 8
+    unfolding distanceIn nearestDistance
+    distance-le =
+        omega (
+          arith,
+          ap (λ (t : Bool). cond t (distance v (copy false) (copy true) (nearest v (copy false) (copy true))) 0) versioned,
+          ap (distance v (copy false) (copy true)) (near .0),
+          near .1,
+        )

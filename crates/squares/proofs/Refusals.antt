@@ -1,0 +1,55 @@
+-- The first refusal of a list of tests: 0 exactly where every test holds. Assumes nothing.
+use mathlib.Core.Path.{_≡_, refl, sym, ap, ap₂, _∙_}
+use mathlib.Core.Bool.{Bool, true, false, cond, _&&_}
+use mathlib.Core.List.{List, [], _∷_}
+use Prim.Native.Nat.{ℕ, suc, _≤_, _<_}
+use native.Mathlib.Omega.{arith}
+use native.Mathlib.Decide.{ℕ-discrete}
+use borrow.Author.Tests.{eq-eqb, ne-eqb}
+use lib.Dec.{T, eqb, leb, eqb→eq, leb→le}
+use Rattle.bits.proofs.Tests.{never}
+use Rattle.squares.specs.Read.{firstRefusal, unless}
+
+-- a test that holds gives no refusal, and only such a test
+pub unless-true : (b : Bool) (n : ℕ) → b ≡ true → unless b n ≡ 0
+unless-true true n e = refl
+unless-true false n e = never cc
+
+pub true-unless : (b : Bool) (n : ℕ) → unless b (suc n) ≡ 0 → b ≡ true
+true-unless true n e = refl
+true-unless false n e = absurd (omega arith)
+
+pub first-skips : (n : ℕ) (ns : List ℕ) → n ≡ 0 → firstRefusal (n ∷ ns) ≡ firstRefusal ns
+unfolding firstRefusal
+first-skips n ns e = simp (eq-eqb n 0 e)
+
+pub first-takes : (n : ℕ) (ns : List ℕ) → (n ≡ 0 → ⊥) → firstRefusal (n ∷ ns) ≡ n
+unfolding firstRefusal
+first-takes n ns d = simp (ne-eqb n 0 d)
+
+-- no refusal: none of the first, and none of the others
+pub first-none : (n : ℕ) (ns : List ℕ) → firstRefusal (n ∷ ns) ≡ 0 → (n ≡ 0) × (firstRefusal ns ≡ 0)
+first-none n ns e = elim (ℕ-discrete n 0) [
+  | yes z ↦ (z, sym (first-skips n ns z) ∙ e)
+  | no d ↦ absurd (d (sym (first-takes n ns d) ∙ e))
+]
+
+-- ---- tests as facts
+
+pub both-true : (a b : Bool) → (a && b) ≡ true → (a ≡ true) × (b ≡ true)
+both-true true b e = (refl, e)
+both-true false b e = never cc
+
+pub true-both : (a b : Bool) → a ≡ true → b ≡ true → (a && b) ≡ true
+true-both true b p q = q
+true-both false b p q = never cc
+
+T-of : (b : Bool) → b ≡ true → T b
+T-of true e = tt
+T-of false e = never cc
+
+pub leb-fact : (m n : ℕ) → leb m n ≡ true → m ≤ n
+leb-fact m n e = leb→le m n (T-of (leb m n) e)
+
+pub eqb-fact : (m n : ℕ) → eqb m n ≡ true → m ≡ n
+eqb-fact m n e = eqb→eq m n (T-of (eqb m n) e)

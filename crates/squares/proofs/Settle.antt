@@ -1,0 +1,98 @@
+-- What a reading answers for any square that passes the first refusals. Assumes nothing.
+use mathlib.Core.Path.{_≡_, refl, sym, ap, ap₂, _∙_, subst}
+use mathlib.Core.Logic.{_⊎_, inl, inr, _≢_}
+use mathlib.Core.Bool.{Bool, true, false, cond, _&&_}
+use mathlib.Core.Option.{none, some}
+use mathlib.Core.List.{List, [], _∷_, _++_}
+use Prim.Native.Nat.{ℕ, _+_, _*_, _/_, _≤_, _<_}
+use native.Mathlib.Omega.{arith}
+use native.Mathlib.Decide.{ℕ-discrete}
+use borrow.Author.Tests.{eq-eqb, ne-eqb}
+use lib.Dec.{eqb, ltb}
+use lib.ListN.{length, getD}
+use Rattle.reed_solomon.specs.Block.{nearest}
+use Rattle.reed_solomon.proofs.Nearest.{Near}
+use Rattle.blocks.specs.Blocks.{Shape, totalOf, shapesOf, totalSize, cut, dataParts}
+use Rattle.blocks.proofs.Rows.{Sound}
+use Rattle.blocks.proofs.Theorems.{shapes-total, shapes-sound}
+use Rattle.blockwise.specs.Blockwise.{refusalOf, countOf, blocksOf, corrected, dataOf, differences, blockAt, parityAt}
+use Rattle.blockwise.proofs.Theorems as blocks
+use Rattle.segments.specs.Segments.{Result, cut as cutShort, lacking, got, segmentsOf}
+use Rattle.segments.specs.Script.{Segment, payloadOf, scriptOf}
+use Rattle.segments.specs.FromData.{Outcome, refused as refusedData, given, givenOr7, fromData}
+use Rattle.squares.specs.Read.{Reading, refused, streamFrom, blocksIn, told, bodyOf}
+use Rattle.squares.proofs.Modules.{stream-length}
+
+-- ---- Segments from data never answers 6
+
+not-six : (b : Bool) (x y : Outcome) → x .refusal ≢ 6 → y .refusal ≢ 6 → cond b x y .refusal ≢ 6
+not-six true x y p q = p
+not-six false x y p q = q
+
+other : (n : ℕ) → n ≡ 6 → n < 6 ⊎ 6 < n → ⊥
+other n e (inl h) = omega arith
+other n e (inr h) = omega arith
+
+given-not-six : (gs : List Segment) (p s : List ℕ) → given gs p s .refusal ≢ 6
+given-not-six gs p s =
+    not-six (eqb (length (payloadOf gs)) 0) (refusedData 8 p s) _ (λ e. omega arith)
+    (not-six (ltb (length p) (length (payloadOf gs))) (refusedData 9 p s) _ (λ e. omega arith)
+    (not-six (ltb (length s) (length (scriptOf gs))) (refusedData 10 p s) _ (λ e. omega arith) (λ e. omega arith)))
+
+segments-not-six : (g : Result (List Segment)) (p s : List ℕ) → givenOr7 g p s .refusal ≢ 6
+segments-not-six cutShort p s = λ e. omega arith
+segments-not-six lacking p s = λ e. omega arith
+segments-not-six (got gs u) p s = given-not-six gs p s
+
+data-not-six : (ds p s : List ℕ) → fromData ds p s .refusal ≢ 6
+data-not-six ds p s = not-six (ltb 3886 (length ds)) (refusedData 2 p s) (givenOr7 (segmentsOf ds) p s) (λ e. omega arith) (segments-not-six (segmentsOf ds) p s)
+
+-- ---- the body of a reading
+
+module _ (v l k d : ℕ) (sq p s : List ℕ) (low : 1 ≤ v) (high : v ≤ 84) (level : l ≤ 3) where
+  abbrev bs : List Shape
+  bs = shapesOf v l
+
+  abbrev stream : List ℕ
+  stream = streamFrom v k sq
+
+  sound : Sound (shapesOf v l)
+  sound = shapes-sound v l low high level
+
+  size : length (streamFrom v k sq) ≡ totalSize (shapesOf v l)
+  size = stream-length v k sq ∙ sym (shapes-total v l low high level)
+
+  body-told : refusalOf (corrected bs stream) ≡ 0 → bodyOf v l k d sq p s ≡ told v l k d (countOf (corrected bs stream)) (fromData (dataOf bs stream) p s)
+  unfolding bodyOf
+  body-told e = simp (eq-eqb (refusalOf (corrected bs stream)) 0 e)
+
+  body-refused : refusalOf (corrected bs stream) ≡ 6 → bodyOf v l k d sq p s ≡ refused 6 p s
+  unfolding bodyOf
+  body-refused e = simp e
+
+  -- 6 where some block has no codeword in reach, and only there
+  pub lost-six : (j : ℕ) → j < length bs → nearest 0x163 1 (parityAt bs j) (blockAt (blocksIn v l k sq) j) ≡ none → bodyOf v l k d sq p s ≡ refused 6 p s
+  unfolding blocksIn
+  lost-six j h e = body-refused (blocks.lost-then-six bs sound stream size j h e)
+
+  pub six-lost : bodyOf v l k d sq p s .number ≡ 6 → (j : ℕ) × (j < length bs) × (nearest 0x163 1 (parityAt bs j) (blockAt (blocksIn v l k sq) j) ≡ none)
+  unfolding blocksIn told
+  six-lost e = elim (blocks.zero-or-six bs sound stream size) [
+    | inr z ↦ blocks.six-then-lost bs sound stream size z
+    | inl z ↦ absurd (data-not-six (dataOf bs stream) p s (sym (ap (λ (r : Reading). r .number) (body-told z)) ∙ e))
+  ]
+
+  -- where each has one, each is set to it
+  pub each-told : (vs : List (List ℕ)) → length vs ≡ length bs
+      → ((j : ℕ) → j < length bs → nearest 0x163 1 (parityAt bs j) (blockAt (blocksIn v l k sq) j) ≡ some (blockAt vs j))
+      → bodyOf v l k d sq p s ≡ told v l k d (differences (blocksIn v l k sq) vs) (fromData (dataParts bs vs) p s)
+  unfolding blocksIn
+  each-told vs n e =
+      let q = blocks.each-then-set bs sound stream size vs n e in
+      body-told (q .0) ∙ ap₂ (λ (c : ℕ) (ws : List (List ℕ)). told v l k d c (fromData (dataParts bs ws) p s)) (q .2) (q .1)
+
+  -- no block has two
+  pub no-two : (j : ℕ) → j < length bs → (u w : List ℕ) → Near 0x163 1 (parityAt bs j) (blockAt (blocksIn v l k sq) j) u
+      → Near 0x163 1 (parityAt bs j) (blockAt (blocksIn v l k sq) j) w → u ≡ w
+  unfolding blocksIn
+  no-two j h u w = blocks.no-block-has-two bs sound stream size j h u w

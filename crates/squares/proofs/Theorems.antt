@@ -1,0 +1,180 @@
+-- THE THEOREM OF DEMAND 3, for Read a square and for Read with known version, level, mask, over the definitions that the contracts cite.
+-- First: a mark made by the writer is read as it was written, whichever modules flip within reach. Second: what a reading answers for any
+-- square at all that passes its first refusals. Assumes nothing.
+use mathlib.Core.Path.{_≡_, refl, sym, ap, _∙_, subst}
+use mathlib.Core.Bool.{Bool, true, false, cond, _&&_}
+use mathlib.Core.Option.{none, some}
+use mathlib.Core.List.{List, [], _∷_, _++_}
+use Prim.Native.Nat.{ℕ, _+_, _-_, _*_, _/_, _%_, _≤_, _<_}
+use native.Mathlib.Omega.{arith}
+use borrow.Author.Tests.{eq-eqb}
+use lib.Dec.{eqb, leb}
+use lib.ListN.{length, getD, drop}
+use Rattle.symbol.specs.Version.{sideOf, isSide, isVersion, sideVersion}
+use Rattle.symbol.specs.Layout.{layoutOf}
+use Rattle.information.specs.Information.{isInfo, copyOf, nearestLevel, infoFlips}
+use Rattle.information.specs.Information.{nearest as nearestWord, distance as wordDistance}
+use Rattle.information.proofs.Apart.{nearest-le}
+use Rattle.blocks.specs.Blocks.{shapesOf, hasBlocks, dataParts}
+use Rattle.reed_solomon.specs.Block.{distance, nearest}
+use Rattle.reed_solomon.proofs.Nearest.{Near}
+use Rattle.blockwise.specs.Blockwise.{differences, blockAt, parityAt}
+use Rattle.segments.specs.FromData.{fromData}
+use Rattle.squares.specs.Receipt.{receiptOf}
+use Rattle.squares.specs.Read.{Reading, refused, unless, areModules, levelIn, maskIn, distanceIn, blocksIn, readRefusal, knownRefusal, told, bodyOf, withReceipt, readOf, readKnownOf}
+use Rattle.squares.specs.Write.{Writing, markOf, writeOf}
+use Rattle.squares.proofs.Refusals.{true-unless, first-none, both-true, leb-fact, eqb-fact}
+use Rattle.squares.proofs.Marks.{Written, Ranges, ranges, written, mark-length}
+use Rattle.squares.proofs.Demand as demand
+use Rattle.squares.proofs.Settle as settle
+
+-- ---- 1. Marks made by the writer
+
+-- A script and a payload are written at a version, level and mask into a square, which then is `mark`. `square` is any square of the same
+-- size with module bytes 0 or 1, each block of which differs from the written block in at most floor(parity / 2) codewords. The receipt has
+-- 12 bytes, and the buffers p and s are long enough.
+module _ (v level mask : ℕ) (script payload before mark : List ℕ) (bytes : (i : ℕ) → getD script i 0 < 256)
+    (made : writeOf v level mask script payload before ≡ record { number = 0; square = mark })
+    (square : List ℕ) (size : length square ≡ length mark) (modules : (i : ℕ) → getD square i 0 < 2)
+    (reach : (j : ℕ) → j < length (shapesOf v level)
+    → distance (blockAt (blocksIn v level mask square) j) (blockAt (blocksIn v level mask mark) j) ≤ parityAt (shapesOf v level) j / 2)
+    (p s r : List ℕ) (receipt : length r ≡ 12) (room-p : length payload ≤ length p) (room-s : length script ≤ length s) where
+  is-mark : mark ≡ markOf v level mask script payload
+  is-mark = written v level mask script payload before mark made .1
+
+  is-written : Written v level mask script payload before
+  is-written = written v level mask script payload before mark made .0
+
+  -- the number of block codewords that differ
+  abbrev pub changed : ℕ
+  changed = differences (blocksIn v level mask square) (blocksIn v level mask mark)
+
+  sized : length square ≡ sideOf v * sideOf v
+  sized = size ∙ ap length is-mark ∙ mark-length v level mask script payload (is-written .ranged)
+
+  reach′ : (j : ℕ) → j < length (shapesOf v level)
+      → distance (blockAt (blocksIn v level mask square) j) (blockAt (blocksIn v level mask (markOf v level mask script payload)) j) ≤ parityAt (shapesOf v level) j / 2
+  reach′ j h = subst (λ (m : List ℕ). distance (blockAt (blocksIn v level mask square) j) (blockAt (blocksIn v level mask m) j) ≤ parityAt (shapesOf v level) j / 2) is-mark (reach j h)
+
+  -- If at most 8 of the 68 information modules differ, Read a square answers 0, with the script, payload, version, level and mask that were
+  -- written, and the count is exactly the number of block codewords that differ.
+  pub mark-is-read : infoFlips (layoutOf v) mark square ≤ 8
+      → readOf square (sideOf v) p s r ≡ record {
+        number = 0;
+        receipt = receiptOf v level mask changed (distanceIn v square) (length payload) (length script);
+        payload = payload ++ drop (length payload) p;
+        script = script ++ drop (length script) s;
+      }
+  mark-is-read few =
+      demand.read-back v level mask script payload before bytes is-written square sized modules reach′ p s room-p room-s r receipt
+      (subst (λ (m : List ℕ). infoFlips (layoutOf v) m square ≤ 8) is-mark few)
+      ∙ ap (λ (m : List ℕ). demand.given v level mask (differences (blocksIn v level mask square) (blocksIn v level mask m)) (distanceIn v square) script payload p s) (sym is-mark)
+
+  -- Read with known version, level, mask does so whatever the information modules are; its receipt shows distance 0.
+  pub mark-is-read-known : readKnownOf square v level mask p s r ≡ record {
+    number = 0;
+    receipt = receiptOf v level mask changed 0 (length payload) (length script);
+    payload = payload ++ drop (length payload) p;
+    script = script ++ drop (length script) s;
+  }
+  mark-is-read-known =
+      demand.known-back v level mask script payload before bytes is-written square sized modules reach′ p s room-p room-s r receipt
+      ∙ ap (λ (m : List ℕ). demand.given v level mask (differences (blocksIn v level mask square) (blocksIn v level mask m)) 0 script payload p s) (sym is-mark)
+
+-- ---- 2. Any square
+
+in-body : (r p s : List ℕ) (n : ℕ) (body : Reading) → length r ≡ 12 → n ≡ 0 → withReceipt r p s n body ≡ body
+unfolding withReceipt
+in-body r p s n body e z = simp (eq-eqb (length r) 12 e, eq-eqb n 0 z)
+
+side-range : (side : ℕ) → isSide side ≡ true → (1 ≤ sideVersion side) × (sideVersion side ≤ 84)
+unfolding sideVersion isSide
+side-range side e =
+    let a = both-true (leb 23 side) (leb side 189 && eqb (side % 2) 1) e in
+    let b = both-true (leb side 189) (eqb (side % 2) 1) (a .1) in
+    let lo = leb-fact 23 side (a .0) in
+    let hi = leb-fact side 189 (b .0) in
+    let q : cond (leb 23 side && (leb side 189 && eqb (side % 2) 1)) ((side - 21) / 2) 0 ≡ (side - 21) / 2 = ap (λ (t : Bool). cond t ((side - 21) / 2) 0) e in
+    (omega arith, omega arith)
+
+level-range : (v : ℕ) (sq : List ℕ) → levelIn v sq ≤ 3
+unfolding levelIn nearestLevel nearestWord
+level-range v sq = go (isVersion v)
+  where
+    go : (b : Bool) → cond b (nearestWord v (copyOf (sideOf v) false sq) (copyOf (sideOf v) true sq) / 4) 0 ≤ 3
+    go true = omega (arith, nearest-le (wordDistance v (copyOf (sideOf v) false sq) (copyOf (sideOf v) true sq)) 15)
+    go false = omega arith
+
+-- A square that passes refusals 1 to 4 of Read a square, where the receipt has 12 bytes. Its version is its side's, level and mask are the
+-- nearest.
+module _ (sq : List ℕ) (side : ℕ) (p s r : List ℕ) (receipt : length r ≡ 12) (passes : readRefusal side sq ≡ 0) where
+  abbrev pub version : ℕ
+  version = sideVersion side
+
+  abbrev pub level : ℕ
+  level = levelIn (sideVersion side) sq
+
+  abbrev pub mask : ℕ
+  mask = maskIn (sideVersion side) sq
+
+  ranged : (1 ≤ sideVersion side) × (sideVersion side ≤ 84)
+  unfolding readRefusal
+  ranged = side-range side (true-unless (isSide side) 0 (first-none (unless (isSide side) 1) _ passes .0))
+
+  read-body : readOf sq side p s r ≡ bodyOf version level mask (distanceIn version sq) sq p s
+  unfolding readOf
+  read-body = in-body r p s (readRefusal side sq) (bodyOf version level mask (distanceIn version sq) sq p s) receipt passes
+
+  -- If some block has no codeword within floor(parity / 2) places, the answer is 6, and payload and script are left ..
+  pub lost-is-six : (j : ℕ) → j < length (shapesOf version level)
+      → nearest 0x163 1 (parityAt (shapesOf version level) j) (blockAt (blocksIn version level mask sq) j) ≡ none → readOf sq side p s r ≡ refused 6 p s
+  lost-is-six j h e =
+      read-body ∙ settle.lost-six version level mask (distanceIn version sq) sq p s (ranged .0) (ranged .1) (level-range (sideVersion side) sq) j h e
+
+  -- .. and 6 comes only then.
+  pub six-is-lost : readOf sq side p s r .number ≡ 6
+      → (j : ℕ) × (j < length (shapesOf version level)) × (nearest 0x163 1 (parityAt (shapesOf version level) j) (blockAt (blocksIn version level mask sq) j) ≡ none)
+  six-is-lost e =
+      settle.six-lost version level mask (distanceIn version sq) sq p s (ranged .0) (ranged .1) (level-range (sideVersion side) sq)
+      (sym (ap (λ (x : Reading). x .number) read-body) ∙ e)
+
+  -- No block has two.
+  pub no-block-has-two : (j : ℕ) → j < length (shapesOf version level) → (u w : List ℕ)
+      → Near 0x163 1 (parityAt (shapesOf version level) j) (blockAt (blocksIn version level mask sq) j) u
+      → Near 0x163 1 (parityAt (shapesOf version level) j) (blockAt (blocksIn version level mask sq) j) w → u ≡ w
+  no-block-has-two = settle.no-two version level mask (distanceIn version sq) sq p s (ranged .0) (ranged .1) (level-range (sideVersion side) sq)
+
+  -- When each has one, each is set to it: payload and script, or the refusal, are what Segments from data gives for their data parts, and
+  -- the count is the number of places in which the square's blocks differ from them.
+  pub each-is-set : (ws : List (List ℕ)) → length ws ≡ length (shapesOf version level)
+      → ((j : ℕ) → j < length (shapesOf version level) → nearest 0x163 1 (parityAt (shapesOf version level) j) (blockAt (blocksIn version level mask sq) j) ≡ some (blockAt ws j))
+      → readOf sq side p s r ≡ told version level mask (distanceIn version sq) (differences (blocksIn version level mask sq) ws) (fromData (dataParts (shapesOf version level) ws) p s)
+  each-is-set ws n e =
+      read-body ∙ settle.each-told version level mask (distanceIn version sq) sq p s (ranged .0) (ranged .1) (level-range (sideVersion side) sq) ws n e
+
+-- The same for Read with known version, level, mask.
+module _ (sq : List ℕ) (v l k : ℕ) (p s r : List ℕ) (receipt : length r ≡ 12) (passes : knownRefusal v l k sq ≡ 0) where
+  in-range : Ranges v l k
+  unfolding knownRefusal
+  in-range = ranges v l k (true-unless (isInfo v l k) 0 (first-none (unless (isInfo v l k) 1) _ passes .0))
+
+  known-body : readKnownOf sq v l k p s r ≡ bodyOf v l k 0 sq p s
+  unfolding readKnownOf
+  known-body = in-body r p s (knownRefusal v l k sq) (bodyOf v l k 0 sq p s) receipt passes
+
+  pub known-lost-is-six : (j : ℕ) → j < length (shapesOf v l)
+      → nearest 0x163 1 (parityAt (shapesOf v l) j) (blockAt (blocksIn v l k sq) j) ≡ none → readKnownOf sq v l k p s r ≡ refused 6 p s
+  known-lost-is-six j h e = known-body ∙ settle.lost-six v l k 0 sq p s (in-range .low) (in-range .high) (in-range .level) j h e
+
+  pub known-six-is-lost : readKnownOf sq v l k p s r .number ≡ 6
+      → (j : ℕ) × (j < length (shapesOf v l)) × (nearest 0x163 1 (parityAt (shapesOf v l) j) (blockAt (blocksIn v l k sq) j) ≡ none)
+  known-six-is-lost e = settle.six-lost v l k 0 sq p s (in-range .low) (in-range .high) (in-range .level) (sym (ap (λ (x : Reading). x .number) known-body) ∙ e)
+
+  pub known-no-block-has-two : (j : ℕ) → j < length (shapesOf v l) → (u w : List ℕ)
+      → Near 0x163 1 (parityAt (shapesOf v l) j) (blockAt (blocksIn v l k sq) j) u → Near 0x163 1 (parityAt (shapesOf v l) j) (blockAt (blocksIn v l k sq) j) w → u ≡ w
+  known-no-block-has-two = settle.no-two v l k 0 sq p s (in-range .low) (in-range .high) (in-range .level)
+
+  pub known-each-is-set : (ws : List (List ℕ)) → length ws ≡ length (shapesOf v l)
+      → ((j : ℕ) → j < length (shapesOf v l) → nearest 0x163 1 (parityAt (shapesOf v l) j) (blockAt (blocksIn v l k sq) j) ≡ some (blockAt ws j))
+      → readKnownOf sq v l k p s r ≡ told v l k 0 (differences (blocksIn v l k sq) ws) (fromData (dataParts (shapesOf v l) ws) p s)
+  known-each-is-set ws n e = known-body ∙ settle.each-told v l k 0 sq p s (in-range .low) (in-range .high) (in-range .level) ws n e

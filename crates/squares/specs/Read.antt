@@ -1,0 +1,105 @@
+-- Document 01, "Operations": Read a square, and Read with known version, level, mask. The first refusal that applies is given, each tested
+-- over the whole input.
+use mathlib.Core.Bool.{Bool, true, false, cond, _&&_}
+use mathlib.Core.List.{List, [], _∷_}
+use Prim.Native.Nat.{ℕ, _*_}
+use lib.Dec.{leb, ltb, eqb}
+use lib.ListN.{length}
+use Rattle.symbol.specs.Version.{sideOf, isSide, sideVersion}
+use Rattle.symbol.specs.Layout.{layoutOf}
+use Rattle.information.specs.Information.{isInfo, copyOf, nearestLevel, nearestMask, nearestDistance}
+use Rattle.blocks.specs.Blocks.{totalOf, shapesOf, hasBlocks, cut}
+use Rattle.codewords.specs.Codewords.{maskBit, streamIn}
+use Rattle.blockwise.specs.Blockwise.{refusalOf, countOf, corrected, dataOf}
+use Rattle.segments.specs.FromData.{Outcome, fromData}
+use Rattle.squares.specs.Receipt.{receiptOf, refusalReceipt}
+
+-- what a reading gives: the refusal number or 0, and what receipt, payload and script hold afterwards
+pub record Reading : Type 0 where
+  pub number : ℕ
+  pub receipt : List ℕ
+  pub payload : List ℕ
+  pub script : List ℕ
+
+-- what a call that returns n leaves: receipt r, payload p, script s
+abbrev pub readingOf : ℕ → List ℕ → List ℕ → List ℕ → Reading
+readingOf n r p s = record { number = n; receipt = r; payload = p; script = s }
+
+-- a refusal leaves payload and script, and its number is in the receipt
+unfoldable pub refused : ℕ → List ℕ → List ℕ → Reading
+refused n p s = readingOf n (refusalReceipt n) p s
+
+-- the first of some numbers that is not 0, or 0
+unfoldable pub firstRefusal : List ℕ → ℕ
+firstRefusal [] = 0
+firstRefusal (n ∷ ns) = cond (eqb n 0) (firstRefusal ns) n
+
+-- a number where a test fails
+abbrev pub unless : Bool → ℕ → ℕ
+unless test n = cond test 0 n
+
+-- no byte is above 1
+unfoldable pub areModules : List ℕ → Bool
+areModules [] = true
+areModules (m ∷ ms) = leb m 1 && areModules ms
+
+-- the nearest level and mask of a square of version v, and their distance
+unfoldable pub levelIn : ℕ → List ℕ → ℕ
+levelIn v sq = nearestLevel v (copyOf (sideOf v) false sq) (copyOf (sideOf v) true sq)
+
+unfoldable pub maskIn : ℕ → List ℕ → ℕ
+maskIn v sq = nearestMask v (copyOf (sideOf v) false sq) (copyOf (sideOf v) true sq)
+
+unfoldable pub distanceIn : ℕ → List ℕ → ℕ
+distanceIn v sq = nearestDistance v (copyOf (sideOf v) false sq) (copyOf (sideOf v) true sq)
+
+-- the stream of a square of version v under a mask
+unfoldable pub streamFrom : ℕ → ℕ → List ℕ → List ℕ
+streamFrom v mask sq = streamIn (totalOf v) (maskBit (sideOf v) mask) (layoutOf v) sq
+
+-- "Words of demand 3": the blocks of a square, for a version, level and mask
+unfoldable pub blocksIn : ℕ → ℕ → ℕ → List ℕ → List (List ℕ)
+blocksIn v level mask sq = cut (shapesOf v level) (streamFrom v mask sq)
+
+-- 1 side not odd or not 23 to 189; 2 not s × s bytes; 3 a byte above 1; 4 distance above 10; 1 for a row or version as under Blocks
+unfoldable pub readRefusal : ℕ → List ℕ → ℕ
+readRefusal side sq =
+    firstRefusal
+    (unless (isSide side) 1 ∷ unless (eqb (length sq) (side * side)) 2 ∷ unless (areModules sq) 3
+    ∷ unless (leb (distanceIn (sideVersion side) sq) 10) 4 ∷ unless (hasBlocks (sideVersion side) (levelIn (sideVersion side) sq)) 1 ∷ [])
+
+-- the same without 4; the first 1 is for version, level and mask
+unfoldable pub knownRefusal : ℕ → ℕ → ℕ → List ℕ → ℕ
+knownRefusal v level mask sq =
+    firstRefusal
+    (unless (isInfo v level mask) 1 ∷ unless (eqb (length sq) (sideOf v * sideOf v)) 2 ∷ unless (areModules sq) 3 ∷ unless (hasBlocks v level) 1 ∷ [])
+
+-- what the segments of the corrected blocks give, with the count of their corrections
+unfoldable pub told : ℕ → ℕ → ℕ → ℕ → ℕ → Outcome → Reading
+told v level mask distance count o =
+    readingOf (o .refusal)
+    (cond (eqb (o .refusal) 0) (receiptOf v level mask count distance (o .payloadLength) (o .scriptLength)) (refusalReceipt (o .refusal)))
+    (o .payload) (o .script)
+
+-- 6 if a block has no codeword in reach; then 7 to 10, and payload and script, as Segments from data
+unfoldable pub bodyOf : ℕ → ℕ → ℕ → ℕ → List ℕ → List ℕ → List ℕ → Reading
+bodyOf v level mask distance sq p s =
+    let os = corrected (shapesOf v level) (streamFrom v mask sq) in
+    cond (eqb (refusalOf os) 0)
+    (told v level mask distance (countOf os) (fromData (dataOf (shapesOf v level) (streamFrom v mask sq)) p s))
+    (refused (refusalOf os) p s)
+
+-- 2 if the receipt has not 12 bytes, and nothing is written at all
+unfoldable pub withReceipt : List ℕ → List ℕ → List ℕ → ℕ → Reading → Reading
+withReceipt r p s refusal body =
+    cond (eqb (length r) 12) (cond (eqb refusal 0) body (refused refusal p s)) (readingOf 2 r p s)
+
+-- Read a square
+unfoldable pub readOf : List ℕ → ℕ → List ℕ → List ℕ → List ℕ → Reading
+readOf sq side p s r =
+    let v = sideVersion side in
+    withReceipt r p s (readRefusal side sq) (bodyOf v (levelIn v sq) (maskIn v sq) (distanceIn v sq) sq p s)
+
+-- Read with known version, level, mask: its receipt shows distance 0
+unfoldable pub readKnownOf : List ℕ → ℕ → ℕ → ℕ → List ℕ → List ℕ → List ℕ → Reading
+readKnownOf sq v level mask p s r = withReceipt r p s (knownRefusal v level mask sq) (bodyOf v level mask 0 sq p s)

@@ -1,0 +1,48 @@
+-- Document 01, "Operations": Write a square.
+use mathlib.Core.Bool.{cond}
+use mathlib.Core.List.{List, [], _∷_}
+use Prim.Native.Nat.{ℕ, _*_}
+use lib.Dec.{leb, eqb}
+use lib.ListN.{length}
+use Rattle.symbol.specs.Version.{sideOf}
+use Rattle.symbol.specs.Layout.{layoutOf}
+use Rattle.information.specs.Information.{isInfo, infoBits, infoWritten}
+use Rattle.blocks.specs.Blocks.{shapesOf, hasBlocks, totalData}
+use Rattle.codewords.specs.Codewords.{maskBit, squareOf}
+use Rattle.blockwise.specs.Blockwise.{streamOf}
+use Rattle.script.specs.Check.{commandsOf, checkOf, bitsOfCheck, encoded}
+use Rattle.script.specs.Check.{refusalOf as checkRefusal}
+use Rattle.squares.specs.Read.{firstRefusal, unless}
+
+-- what writing gives: the refusal number or 0, and what the square holds afterwards
+pub record Writing : Type 0 where
+  pub number : ℕ
+  pub square : List ℕ
+
+-- what a call that returns n leaves in the square
+abbrev pub writingOf : ℕ → List ℕ → Writing
+writingOf n sq = record { number = n; square = sq }
+
+-- how many data codewords a version and level have
+abbrev pub roomOf : ℕ → ℕ → ℕ
+roomOf v level = totalData (shapesOf v level)
+
+-- 1 version, level or mask outside its range, or a row or version as under Blocks; 2 square not s × s; 11, 12 or 8 for script and payload;
+-- 13 more bits than 8 × data codewords
+unfoldable pub writeRefusal : ℕ → ℕ → ℕ → List ℕ → List ℕ → List ℕ → ℕ
+writeRefusal v level mask s p sq =
+    firstRefusal
+    (unless (isInfo v level mask) 1 ∷ unless (hasBlocks v level) 1 ∷ unless (eqb (length sq) (sideOf v * sideOf v)) 2
+    ∷ checkRefusal (checkOf s p) ∷ unless (leb (bitsOfCheck (checkOf s p)) (8 * roomOf v level)) 13 ∷ [])
+
+-- the mark: the bits of the script in the data codewords, blocks with their parity, the stream in the masked data modules, and the word
+unfoldable pub markOf : ℕ → ℕ → ℕ → List ℕ → List ℕ → List ℕ
+markOf v level mask s p =
+    infoWritten (sideOf v) (infoBits v level mask)
+    (squareOf (maskBit (sideOf v) mask) (layoutOf v) (streamOf (shapesOf v level) (encoded (roomOf v level) (commandsOf s p))))
+
+-- a refusal leaves the square
+unfoldable pub writeOf : ℕ → ℕ → ℕ → List ℕ → List ℕ → List ℕ → Writing
+writeOf v level mask s p sq =
+    cond (eqb (writeRefusal v level mask s p sq) 0) (writingOf 0 (markOf v level mask s p))
+    (writingOf (writeRefusal v level mask s p sq) sq)
