@@ -1,3 +1,5 @@
 -- Laws of the readings' inner functions.
 pub mod Bytes
 pub mod Receipts
+pub mod Answers
+pub mod Body

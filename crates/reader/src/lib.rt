@@ -4,10 +4,13 @@ ghost use mathlib.Core.List.{[], _∷_, _++_};
 ghost use Prim.Native.Nat.{ℕ, _*_, _%_, _<_, _≤_};
 ghost use lib.Dec.{eqb};
 ghost use lib.ListN.{length, getD, drop};
+ghost use Rattle.symbol.specs.Layout.{layoutOf};
+ghost use Rattle.blocks.specs.Blocks.{totalOf, dataModules, rowLength, shapes, totalData, cut, dataParts};
+ghost use Rattle.segments.specs.FromData.{fromData};
 ghost use Rattle.codewords.specs.Codewords.{maskBit, streamIn, dataBits};
 ghost use Rattle.codewords.specs.Inner.{Legible};
-ghost use Rattle.squares.specs.Read.{firstRefusal, unless, areModules, readingOf, readOf, readKnownOf};
-ghost use Rattle.reader.specs.Inner.{Greater, Greatest, receiptIn, Small};
+ghost use Rattle.squares.specs.Read.{firstRefusal, unless, areModules, bodyOf, readingOf, readOf, readKnownOf};
+ghost use Rattle.reader.specs.Inner.{Greater, Greatest, receiptIn, Small, Refuses, Answers, Tells, Fitting, Drawn, readingIn, bodyOr1};
 ghost use Rattle.squares.specs.Receipt.{receiptOf, refusalReceipt};
 use blockwise::Blocks;
 use information::InfoBits;
@@ -145,7 +148,9 @@ fn write_receipt(receipt: &mut [u8], m: Mark, t: Told)
 }
 
 // What is told of a refusal.
-fn refused(number: usize) -> Told {
+fn refused(number: usize) -> Told
+    ensures { λ r. ⌜ Refuses number r ⌝ }
+{
     Told {
         number: number,
         count: 0,
@@ -154,17 +159,11 @@ fn refused(number: usize) -> Told {
     }
 }
 
-// Script and payload of the corrected blocks, of which `count` codewords were changed.
-fn tell_segments(
-    stream: &[u8],
-    row: &[u8],
-    count: usize,
-    payload: &mut [u8],
-    script: &mut [u8],
-) -> Told {
-    let mut data = [0u8; 3886];
-    let n = blockwise::gather_data(&mut data, stream, row);
-    match segments::from_data(&data[..n], payload, script) {
+// What is told of an answer, where `count` codewords were changed.
+fn told_of(answer: Answer, count: usize) -> Told
+    ensures { λ r. ⌜ Answers answer count r ⌝ }
+{
+    match answer {
         Answer::Read(p, s) => Told {
             number: 0,
             count: count,
@@ -179,14 +178,27 @@ fn tell_segments(
     }
 }
 
-// The stream of a square corrected, and its segments.
-fn tell_blocks(
-    kinds: &[u8],
-    square: &[u8],
-    m: Mark,
+// Script and payload of the corrected blocks, of which `count` codewords were changed.
+fn tell_segments(
+    stream: &[u8],
+    row: &[u8],
+    count: usize,
     payload: &mut [u8],
     script: &mut [u8],
-) -> Told {
+) -> Told
+    requires { ⌜ (length (now row) ≡ 9) × (rowLength (now row) ≤ length (now stream)) × (totalData (shapes (now row)) ≤ 3886) × (count < 65536) ⌝ }
+    ensures { λ r. ⌜ Tells count (fromData (dataParts (shapes (now (row .entry))) (cut (shapes (now (row .entry))) (now (stream .entry)))) (now (payload .entry)) (now (script .entry))) r (now (payload .exit)) (now (script .exit)) ⌝ }
+{
+    let mut data = [0u8; 3886];
+    let n = blockwise::gather_data(&mut data, stream, row);
+    told_of(segments::from_data(&data[..n], payload, script), count)
+}
+
+// The stream of a square corrected, and its segments.
+fn tell_blocks(kinds: &[u8], square: &[u8], m: Mark, payload: &mut [u8], script: &mut [u8]) -> Told
+    requires { ⌜ Fitting m (now square) × Drawn (m .version) (now kinds) × (8 * totalOf (m .version) ≤ dataModules (layoutOf (m .version))) ⌝ }
+    ensures { λ r. ⌜ (readingIn m r (now (payload .exit)) (now (script .exit)) ≡ bodyOf (m .version) (m .level) (m .mask) (m .distance) (now (square .entry)) (now (payload .entry)) (now (script .entry))) × Small r ⌝ }
+{
     let mut stream = [0u8; 3886];
     let side = Version { number: m.version }.side();
     let total = blocks::total_codewords(m.version);
@@ -200,8 +212,11 @@ fn tell_blocks(
 }
 
 // The same, or 1 for a version with too few data modules: the rows of the table hold their rule.
-fn tell(kinds: &[u8], square: &[u8], m: Mark, payload: &mut [u8], script: &mut [u8]) -> Told {
-    if blocks::data_modules(kinds, kinds.len()) < 8 * blocks::total_codewords(m.version) {
+fn tell(kinds: &[u8], square: &[u8], m: Mark, payload: &mut [u8], script: &mut [u8]) -> Told
+    requires { ⌜ Fitting m (now square) × Drawn (m .version) (now kinds) ⌝ }
+    ensures { λ r. ⌜ (readingIn m r (now (payload .exit)) (now (script .exit)) ≡ bodyOr1 m (now (square .entry)) (now (payload .entry)) (now (script .entry))) × Small r ⌝ }
+{
+    if blocks::data_modules(kinds, square.len()) < 8 * blocks::total_codewords(m.version) {
         return refused(1);
     }
     tell_blocks(kinds, square, m, payload, script)
@@ -214,18 +229,23 @@ fn finish(
     payload: &mut [u8],
     script: &mut [u8],
     receipt: &mut [u8],
-) -> usize {
+) -> usize
+    requires { ⌜ Fitting m (now square) × (length (now receipt) ≡ 12) ⌝ }
+    ensures { λ r. ⌜ readingOf r (now (receipt .exit)) (now (payload .exit)) (now (script .exit)) ≡ bodyOr1 m (now (square .entry)) (now (payload .entry)) (now (script .entry)) ⌝ }
+{
     let mut kinds = [0u8; 35721];
     symbol::layout(m.version, &mut kinds);
-    let side = Version { number: m.version }.side();
-    let t = tell(&kinds[..side * side], square, m, payload, script);
+    let t = tell(&kinds, square, m, payload, script);
     let number = t.number;
     write_receipt(receipt, m, t);
     number
 }
 
 // A refusal with its receipt.
-fn refuse(receipt: &mut [u8], number: usize) -> usize {
+fn refuse(receipt: &mut [u8], number: usize) -> usize
+    requires { ⌜ (length (now receipt) ≡ 12) × (number < 256) ⌝ }
+    ensures { λ r. ⌜ (r ≡ number) × (now (receipt .exit) ≡ refusalReceipt number) ⌝ }
+{
     let bytes = refusal(number);
     put(receipt, &bytes);
     number

@@ -19,6 +19,13 @@ pub true-unless : (b : Bool) (n : ℕ) → unless b (suc n) ≡ 0 → b ≡ true
 true-unless true n e = refl
 true-unless false n e = absurd (omega arith)
 
+pub unless-false : (b : Bool) (n : ℕ) → b ≡ false → unless b n ≡ n
+unless-false b n e = ap (λ (t : Bool). unless t n) e
+
+pub false-unless : (b : Bool) (n : ℕ) → unless b (suc n) ≡ suc n → b ≡ false
+false-unless true n e = absurd (omega arith)
+false-unless false n e = refl
+
 pub first-skips : (n : ℕ) (ns : List ℕ) → n ≡ 0 → firstRefusal (n ∷ ns) ≡ firstRefusal ns
 unfolding firstRefusal
 first-skips n ns e = simp (eq-eqb n 0 e)

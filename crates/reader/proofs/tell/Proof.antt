@@ -1,0 +1,53 @@
+-- `tell` meets its contract. Assumes nothing.
+use Rattle.reader.proofs.Body.{too-few, enough, with-blocks}
+use borrow.Author.Needs.{needs}
+use Rattle.reader.proofs.tell.Statement.{statement}
+use Rattle.reader.proofs.tell.Tie as tie
+
+data-modules-requires : tie.Need-data-modules-requires
+data-modules-requires c κs = search needs
+
+total-codewords-requires : tie.Need-total-codewords-requires
+total-codewords-requires c κs = search needs
+
+mul-if1 : tie.Need-mul-if1
+mul-if1 c = search needs
+
+refused-requires : tie.Need-refused-requires
+refused-requires c κs = search needs
+
+returns : tie.Need-returns
+returns c =
+    let a = c .before .before .before .before .before .before .before .before in
+    too-few (a .args .m) _ _ (a .pre .0) (a .pre .1) _ _ (c .before .before .before .data-modules .ensures) (c .before .before .total-codewords .ensures .0) _ _ (c .before .if1 .taken) _ (c .refused .ensures)
+
+tell-blocks-requires : tie.Need-tell-blocks-requires
+tell-blocks-requires c κs =
+    let a = c .before .before .before .before .before .before .before .before .before in
+    (a .pre .0, a .pre .1, enough (a .args .m) _ _ (a .pre .0) (a .pre .1) _ _ (c .before .before .before .before .data-modules .ensures) (c .before .before .before .total-codewords .ensures .0) (a .args .payload .now) (a .args .script .now) (c .before .before .if1 .left))
+
+same-length : tie.Need-same-length
+same-length c = search needs
+
+same-length-2 : tie.Need-same-length-2
+same-length-2 c = search needs
+
+returns-2 : tie.Need-returns-2
+returns-2 c =
+    let a = c .before .before .before .before .before .before .before .before .before .before .before .before .before .before in
+    let q = c .before .before .before .before .tell-blocks .ensures in
+    (with-blocks (a .args .m) _ _ (a .pre .0) (a .pre .1) _ _ (c .before .before .before .before .before .before .before .before .before .data-modules .ensures) (c .before .before .before .before .before .before .before .before .total-codewords .ensures .0) _ _ (c .before .before .before .before .before .before .before .if1 .left) _ (q .0), q .1)
+
+pub tell-spec : {M : Type 1} → statement M
+tell-spec =
+    tie.close
+    (tie.spec
+    data-modules-requires
+    total-codewords-requires
+    mul-if1
+    refused-requires
+    returns
+    tell-blocks-requires
+    same-length
+    same-length-2
+    returns-2)

@@ -1,0 +1,62 @@
+-- `tell_segments` meets its contract. Assumes nothing.
+use mathlib.Core.Path.{sym, ap, _∙_}
+use mathlib.Core.List.{List}
+use Prim.Native.Nat.{ℕ}
+use native.Mathlib.Omega.{arith}
+use lib.Seq.{length-take-le}
+use Rattle.blocks.specs.Blocks.{shapes, cut, dataParts}
+use Rattle.segments.specs.FromData.{fromData}
+use Rattle.reader.proofs.Answers.{tells, gathered}
+use borrow.Author.Needs.{needs}
+use Rattle.reader.proofs.tell_segments.Statement.{statement}
+use Rattle.reader.proofs.tell_segments.Tie as tie
+
+slice-aggregate-gather-data : tie.Need-slice-aggregate-gather-data
+slice-aggregate-gather-data c = search needs
+
+gather-data-requires : tie.Need-gather-data-requires
+gather-data-requires c κs = search needs
+
+array-share-prefix-data : tie.Need-array-share-prefix-data
+array-share-prefix-data c = search needs
+
+slice-aggregate-from-data : tie.Need-slice-aggregate-from-data
+slice-aggregate-from-data c =
+    let g = c .before .before .gather-data in
+    sym (length-take-le (g .result) (g .last .0) (omega (arith, g .ensures .0, c .before .before .before .before .before .before .before .before .pre)))
+
+from-data-requires : tie.Need-from-data-requires
+from-data-requires c κs = search needs
+
+told-of-requires : tie.Need-told-of-requires
+told-of-requires c κs = search needs
+
+same-length : tie.Need-same-length
+same-length c = search needs
+
+same-length-2 : tie.Need-same-length-2
+same-length-2 c = search needs
+
+returns : tie.Need-returns
+returns c =
+    let q = c .before .before .before .before .before .from-data in
+    let g = c .before .before .before .before .before .before .before .before .before .before .gather-data in
+    let a = c .before .before .before .before .before .before .before .before .before .before .before .before .before .before .before .before in
+    let d = dataParts (shapes (a .args .row .now)) (cut (shapes (a .args .row .now)) (a .args .stream .now)) in
+    let f = gathered (g .result) d (g .last .0) (g .ensures .1) (omega (arith, g .ensures .0, a .pre .2)) (omega arith) in
+    tells (a .args .count) (q .result) _ d (a .args .payload .now) (a .args .script .now) _ _ (g .result) (a .pre .3) (f .0) (omega (arith, g .ensures .0, a .pre .2)) (c .told-of .ensures)
+    (q .ensures ∙ ap (λ (x : List ℕ). fromData x (a .args .payload .now) (a .args .script .now)) (f .1))
+
+pub tell-segments-spec : {M : Type 1} → statement M
+tell-segments-spec =
+    tie.close
+    (tie.spec
+    slice-aggregate-gather-data
+    gather-data-requires
+    array-share-prefix-data
+    slice-aggregate-from-data
+    from-data-requires
+    told-of-requires
+    same-length
+    same-length-2
+    returns)
