@@ -179,10 +179,12 @@ module _ (m : Mark) (sq ks : List ℕ) (F : Fitting m sq) (D : Drawn (m .version
           → (readingIn m t p s ≡ bodyOf v (m .level) (m .mask) (m .distance) sq p s) × Small t
       unfolding numberOf
       blocks-refused r t a b R =
-          let six : refusalOf (corrected bs stream) ≡ 6 = ap (λ (x : List ℕ). refusalOf (corrected bs x)) (sym taken) ∙ sym b ∙ ap numberOf a in
-          (refuses-reading m 6 t p s (λ z. omega arith) R
-          ∙ sym (ap (λ (x : ℕ). cond (eqb x 0) (told v (m .level) (m .mask) (m .distance) (countOf (corrected bs stream)) (fromData (dataOf bs stream) p s)) (refused x p s)) six)
-          ∙ reading-is, refuses-small 6 t (omega arith) R)
+          let six : refusalOf (corrected bs stream) ≡ 6 = ap (λ (x : List ℕ). refusalOf (corrected bs x)) (sym taken) ∙ sym b ∙ ap numberOf a in (
+            refuses-reading m 6 t p s (λ z. omega arith) R
+                ∙ sym (ap (λ (x : ℕ). cond (eqb x 0) (told v (m .level) (m .mask) (m .distance) (countOf (corrected bs stream)) (fromData (dataOf bs stream) p s)) (refused x p s)) six)
+                ∙ reading-is,
+            refuses-small 6 t (omega arith) R,
+          )
 
       pub blocks-told : (r : Blocks) (n : ℕ) (st′ rest′ : List ℕ) (t : Told) (p′ s′ : List ℕ) → r ≡ Corrected n
           → numberOf r ≡ refusalOf (corrected bs (take (rowLength row) st))
@@ -195,8 +197,10 @@ module _ (m : Mark) (sq ks : List ℕ) (F : Fitting m sq) (D : Drawn (m .version
           let k = c (ap numberOf a) in
           let count : n ≡ countOf (corrected bs stream) = sym (ap correctionsOf a) ∙ k .0 ∙ ap (λ (x : List ℕ). countOf (corrected bs x)) taken in
           let left : st′ ≡ joined (blocksOf (corrected bs stream)) ++ rest′ = k .1 ∙ ap (λ (x : List ℕ). joined (blocksOf (corrected bs x)) ++ rest′) taken in
-          let parts : dataParts bs (cut bs st′) ≡ dataOf bs stream = ap (λ (x : List ℕ). dataParts bs (cut bs x)) left ∙ data-left bs sound stream size rest′ in
-          (tells-reading m n _ t p′ s′ W
-          ∙ (λ i. told v (m .level) (m .mask) (m .distance) (count i) (fromData (parts i) p s))
-          ∙ sym (ap (λ (x : ℕ). cond (eqb x 0) (told v (m .level) (m .mask) (m .distance) (countOf (corrected bs stream)) (fromData (dataOf bs stream) p s)) (refused x p s)) zero)
-          ∙ reading-is, W .small)
+          let parts : dataParts bs (cut bs st′) ≡ dataOf bs stream = ap (λ (x : List ℕ). dataParts bs (cut bs x)) left ∙ data-left bs sound stream size rest′ in (
+            tells-reading m n _ t p′ s′ W
+                ∙ (λ i. told v (m .level) (m .mask) (m .distance) (count i) (fromData (parts i) p s))
+                ∙ sym (ap (λ (x : ℕ). cond (eqb x 0) (told v (m .level) (m .mask) (m .distance) (countOf (corrected bs stream)) (fromData (dataOf bs stream) p s)) (refused x p s)) zero)
+                ∙ reading-is,
+            W .small,
+          )

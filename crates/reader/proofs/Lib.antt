@@ -3,3 +3,4 @@ pub mod Bytes
 pub mod Receipts
 pub mod Answers
 pub mod Body
+pub mod Opens

@@ -11,7 +11,7 @@ use Rattle.symbol.specs.Layout.{layoutOf}
 use Rattle.blocks.specs.Blocks.{hasBlocks}
 use Rattle.segments.specs.declared.Answer.{Answer}
 use Rattle.segments.specs.FromData.{Outcome, refusalOf, payloadLengthOf, scriptLengthOf}
-use Rattle.squares.specs.Read.{Reading, readingOf, refused, bodyOf}
+use Rattle.squares.specs.Read.{Reading, readingOf, refused, levelIn, maskIn, distanceIn, bodyOf}
 use Rattle.squares.specs.Receipt.{receiptOf, refusalReceipt}
 use Rattle.reader.specs.declared.Mark.{Mark}
 use Rattle.reader.specs.declared.Told.{Told}
@@ -68,6 +68,13 @@ pub record Fitting (m : Mark) (sq : List ℕ) : Type 0 where
   pub near : m .distance ≤ 10
   pub size : length sq ≡ sideOf (m .version) * sideOf (m .version)
   pub bits : (i : ℕ) → getD sq i 0 < 2
+
+-- the nearest level and mask of a square of version v
+pub record Nearest (v : ℕ) (sq : List ℕ) (m : Mark) : Type 0 where
+  pub version : m .version ≡ v
+  pub level : m .level ≡ levelIn v sq
+  pub mask : m .mask ≡ maskIn v sq
+  pub distance : m .distance ≡ distanceIn v sq
 
 -- the layout of a version at the front of a buffer
 pub record Drawn (v : ℕ) (ks : List ℕ) : Type 0 where

@@ -4,13 +4,14 @@ ghost use mathlib.Core.List.{[], _∷_, _++_};
 ghost use Prim.Native.Nat.{ℕ, _*_, _%_, _<_, _≤_};
 ghost use lib.Dec.{eqb};
 ghost use lib.ListN.{length, getD, drop};
+ghost use Rattle.symbol.specs.Version.{sideOf};
 ghost use Rattle.symbol.specs.Layout.{layoutOf};
 ghost use Rattle.blocks.specs.Blocks.{totalOf, dataModules, rowLength, shapes, totalData, cut, dataParts};
 ghost use Rattle.segments.specs.FromData.{fromData};
 ghost use Rattle.codewords.specs.Codewords.{maskBit, streamIn, dataBits};
 ghost use Rattle.codewords.specs.Inner.{Legible};
 ghost use Rattle.squares.specs.Read.{firstRefusal, unless, areModules, bodyOf, readingOf, readOf, readKnownOf};
-ghost use Rattle.reader.specs.Inner.{Greater, Greatest, receiptIn, Small, Refuses, Answers, Tells, Fitting, Drawn, readingIn, bodyOr1};
+ghost use Rattle.reader.specs.Inner.{Greater, Greatest, receiptIn, Small, Refuses, Answers, Tells, Fitting, Nearest, Drawn, readingIn, bodyOr1};
 ghost use Rattle.squares.specs.Receipt.{receiptOf, refusalReceipt};
 use blockwise::Blocks;
 use information::InfoBits;
@@ -251,6 +252,34 @@ fn refuse(receipt: &mut [u8], number: usize) -> usize
     number
 }
 
+// The nearest level and mask of a square, and how far they are.
+fn mark_in(square: &[u8], version: usize) -> Mark
+    requires { ⌜ (1 ≤ version) × (version ≤ 84) × (length (now square) ≡ sideOf version * sideOf version) × ((i : ℕ) → getD (now square) i 0 < 2) ⌝ }
+    ensures { λ r. ⌜ Nearest version (now (square .entry)) r ⌝ }
+{
+    let side = Version { number: version }.side();
+    let first = information::read_copy(square, side, false);
+    let second = information::read_copy(square, side, true);
+    match information::nearest_info(version, first, second) {
+        NearestInfo::Nearest {
+            level,
+            mask,
+            distance,
+        } => Mark {
+            version: version,
+            level: level,
+            mask: mask,
+            distance: distance as usize,
+        },
+        NearestInfo::NoVersion => Mark {
+            version: version,
+            level: 0,
+            mask: 0,
+            distance: 0,
+        },
+    }
+}
+
 pub fn read_square(
     square: &[u8],
     side: usize,
@@ -270,27 +299,11 @@ pub fn read_square(
     if early != 0 {
         return refuse(receipt, early);
     }
-    let first = information::read_copy(square, side, false);
-    let second = information::read_copy(square, side, true);
-    match information::nearest_info(v.number, first, second) {
-        NearestInfo::Nearest {
-            level,
-            mask,
-            distance,
-        } => {
-            if 10 < distance {
-                return refuse(receipt, 4);
-            }
-            let m = Mark {
-                version: v.number,
-                level: level,
-                mask: mask,
-                distance: distance as usize,
-            };
-            finish(square, m, payload, script, receipt)
-        }
-        NearestInfo::NoVersion => refuse(receipt, 1),
+    let m = mark_in(square, v.number);
+    if 10 < m.distance {
+        return refuse(receipt, 4);
     }
+    finish(square, m, payload, script, receipt)
 }
 
 pub fn read_known(

@@ -3,21 +3,24 @@
 use mathlib.Core.Path.{_≡_, refl, sym, ap, _∙_}
 use mathlib.Core.Bool.{Bool, true, false, cond, _&&_}
 use mathlib.Core.List.{List, _++_}
-use Prim.Native.Nat.{ℕ, _*_, _≤_, _<_}
+use mathlib.Core.Logic.{_≢_}
+use Prim.Native.Nat.{ℕ, _+_, _-_, _*_, _/_, _%_, _≤_, _<_}
 use native.Mathlib.Omega.{arith}
-use borrow.Author.Tests.{le-leb, lt-leb, le-ltb}
-use lib.Dec.{T, leb}
+use borrow.Author.Tests.{eq-eqb, ne-eqb, le-leb, lt-leb, le-ltb}
+use lib.Dec.{T, leb, eqb}
 use lib.ListN.{length, take, drop, length-append}
 use lib.Seq.{take-at}
-use Rattle.symbol.specs.Version.{sideOf}
+use Rattle.symbol.specs.Version.{sideOf, isVersion, isSide, sideVersion}
 use Rattle.symbol.specs.Layout.{layoutOf, layoutRefusal, layoutWritten}
 use Rattle.symbol.proofs.Theorems.{layout-length}
 use Rattle.information.specs.declared.InfoBits.{InfoBits}
 use Rattle.information.specs.declared.InfoBits.the-variants.{Word, OutOfRange}
-use Rattle.information.specs.Information.{isInfo, infoRefusal, wordRefusalOf}
+use Rattle.information.specs.Information.{isInfo, infoRefusal, wordRefusalOf, copyOf, nearest, distance, nearestLevel, nearestMask}
+use Rattle.information.proofs.Apart.{nearest-le}
 use Rattle.blocks.specs.Blocks.{totalOf, rowOf, rowHolds, dataModules, hasBlocks}
 use Rattle.blocks.proofs.Theorems.{row-holds}
-use Rattle.squares.proofs.Refusals.{true-both, true-unless, false-unless}
+use Rattle.squares.specs.Read.{Reading, readingOf, refused, withReceipt, levelIn, maskIn}
+use Rattle.squares.proofs.Refusals.{both-true, true-both, true-unless, false-unless, leb-fact, eqb-fact}
 use Rattle.squares.proofs.Marks.{version-is}
 
 -- ---- the layout of a version, written into a buffer that is long enough
@@ -62,3 +65,55 @@ unfolding hasBlocks
 no-blocks v l h =
     ap (λ (b : Bool). rowHolds (rowOf v l) (totalOf v) && b) (lt-leb (8 * totalOf v) (dataModules (layoutOf v)) h)
     ∙ and-false (rowHolds (rowOf v l) (totalOf v))
+
+-- ---- what a reading answers, by its first refusal
+
+pub in-body : (r p s : List ℕ) (n : ℕ) (body : Reading) → length r ≡ 12 → n ≡ 0 → withReceipt r p s n body ≡ body
+unfolding withReceipt
+in-body r p s n body e z = simp (eq-eqb (length r) 12 e, eq-eqb n 0 z)
+
+pub no-receipt : (r p s : List ℕ) (n : ℕ) (body : Reading) → length r ≢ 12 → readingOf 2 r p s ≡ withReceipt r p s n body
+unfolding withReceipt
+no-receipt r p s n body d = sym (simp (ne-eqb (length r) 12 d))
+
+pub in-refusal : (r p s : List ℕ) (n m : ℕ) (body : Reading) → length r ≡ 12 → n ≡ m → m ≢ 0 → refused m p s ≡ withReceipt r p s n body
+unfolding withReceipt
+in-refusal r p s n m body e z d = sym (simp (eq-eqb (length r) 12 e, z, ne-eqb m 0 d))
+
+-- ---- the version of a side, and the nearest level and mask
+
+pub side-range : (side : ℕ) → isSide side ≡ true → (1 ≤ sideVersion side) × (sideVersion side ≤ 84)
+unfolding sideVersion isSide
+side-range side e =
+    let a = both-true (leb 23 side) (leb side 189 && eqb (side % 2) 1) e in
+    let b = both-true (leb side 189) (eqb (side % 2) 1) (a .1) in
+    let lo = leb-fact 23 side (a .0) in
+    let hi = leb-fact side 189 (b .0) in
+    let q : cond (leb 23 side && (leb side 189 && eqb (side % 2) 1)) ((side - 21) / 2) 0 ≡ (side - 21) / 2 = ap (λ (t : Bool). cond t ((side - 21) / 2) 0) e in
+    (omega arith, omega arith)
+
+pub level-range : (v : ℕ) (sq : List ℕ) → levelIn v sq ≤ 3
+unfolding levelIn nearestLevel nearest
+level-range v sq = go (isVersion v)
+  where
+    go : (b : Bool) → cond b (nearest v (copyOf (sideOf v) false sq) (copyOf (sideOf v) true sq) / 4) 0 ≤ 3
+    go true = omega (arith, nearest-le (distance v (copyOf (sideOf v) false sq) (copyOf (sideOf v) true sq)) 15)
+    go false = omega arith
+
+pub mask-range : (v : ℕ) (sq : List ℕ) → maskIn v sq ≤ 3
+unfolding maskIn nearestMask
+mask-range v sq = go (isVersion v)
+  where
+    go : (b : Bool) → cond b (nearest v (copyOf (sideOf v) false sq) (copyOf (sideOf v) true sq) % 4) 0 ≤ 3
+    go true = omega arith
+    go false = omega arith
+
+pub side-back : (side : ℕ) → isSide side ≡ true → sideOf (sideVersion side) ≡ side
+unfolding sideVersion isSide
+side-back side e =
+    let a = both-true (leb 23 side) (leb side 189 && eqb (side % 2) 1) e in
+    let b = both-true (leb side 189) (eqb (side % 2) 1) (a .1) in
+    let lo = leb-fact 23 side (a .0) in
+    let odd = eqb-fact (side % 2) 1 (b .1) in
+    let q : cond (leb 23 side && (leb side 189 && eqb (side % 2) 1)) ((side - 21) / 2) 0 ≡ (side - 21) / 2 = ap (λ (t : Bool). cond t ((side - 21) / 2) 0) e in
+    omega arith

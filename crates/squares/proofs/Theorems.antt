@@ -7,14 +7,11 @@ use mathlib.Core.Option.{none, some}
 use mathlib.Core.List.{List, [], _∷_, _++_}
 use Prim.Native.Nat.{ℕ, _+_, _-_, _*_, _/_, _%_, _≤_, _<_}
 use native.Mathlib.Omega.{arith}
-use borrow.Author.Tests.{eq-eqb}
 use lib.Dec.{eqb, leb}
 use lib.ListN.{length, getD, drop}
-use Rattle.symbol.specs.Version.{sideOf, isSide, isVersion, sideVersion}
+use Rattle.symbol.specs.Version.{sideOf, isSide, sideVersion}
 use Rattle.symbol.specs.Layout.{layoutOf}
-use Rattle.information.specs.Information.{isInfo, copyOf, nearestLevel, infoFlips}
-use Rattle.information.specs.Information.{nearest as nearestWord, distance as wordDistance}
-use Rattle.information.proofs.Apart.{nearest-le}
+use Rattle.information.specs.Information.{isInfo, infoFlips}
 use Rattle.blocks.specs.Blocks.{shapesOf, hasBlocks, dataParts}
 use Rattle.reed_solomon.specs.Block.{distance, nearest}
 use Rattle.reed_solomon.proofs.Nearest.{Near}
@@ -23,8 +20,9 @@ use Rattle.segments.specs.FromData.{fromData}
 use Rattle.squares.specs.Receipt.{receiptOf}
 use Rattle.squares.specs.Read.{Reading, refused, unless, areModules, levelIn, maskIn, distanceIn, blocksIn, readRefusal, knownRefusal, told, bodyOf, withReceipt, readOf, readKnownOf}
 use Rattle.squares.specs.Write.{Writing, markOf, writeOf}
-use Rattle.squares.proofs.Refusals.{true-unless, first-none, both-true, leb-fact, eqb-fact}
+use Rattle.squares.proofs.Refusals.{true-unless, first-none, eqb-fact}
 use Rattle.squares.proofs.Marks.{Written, Ranges, ranges, written, mark-length}
+use Rattle.squares.proofs.Starts.{in-body, side-range, level-range}
 use Rattle.squares.proofs.Demand as demand
 use Rattle.squares.proofs.Settle as settle
 
@@ -82,28 +80,6 @@ module _ (v level mask : ℕ) (script payload before mark : List ℕ) (bytes : (
       ∙ ap (λ (m : List ℕ). demand.given v level mask (differences (blocksIn v level mask square) (blocksIn v level mask m)) 0 script payload p s) (sym is-mark)
 
 -- ---- 2. Any square
-
-in-body : (r p s : List ℕ) (n : ℕ) (body : Reading) → length r ≡ 12 → n ≡ 0 → withReceipt r p s n body ≡ body
-unfolding withReceipt
-in-body r p s n body e z = simp (eq-eqb (length r) 12 e, eq-eqb n 0 z)
-
-side-range : (side : ℕ) → isSide side ≡ true → (1 ≤ sideVersion side) × (sideVersion side ≤ 84)
-unfolding sideVersion isSide
-side-range side e =
-    let a = both-true (leb 23 side) (leb side 189 && eqb (side % 2) 1) e in
-    let b = both-true (leb side 189) (eqb (side % 2) 1) (a .1) in
-    let lo = leb-fact 23 side (a .0) in
-    let hi = leb-fact side 189 (b .0) in
-    let q : cond (leb 23 side && (leb side 189 && eqb (side % 2) 1)) ((side - 21) / 2) 0 ≡ (side - 21) / 2 = ap (λ (t : Bool). cond t ((side - 21) / 2) 0) e in
-    (omega arith, omega arith)
-
-level-range : (v : ℕ) (sq : List ℕ) → levelIn v sq ≤ 3
-unfolding levelIn nearestLevel nearestWord
-level-range v sq = go (isVersion v)
-  where
-    go : (b : Bool) → cond b (nearestWord v (copyOf (sideOf v) false sq) (copyOf (sideOf v) true sq) / 4) 0 ≤ 3
-    go true = omega (arith, nearest-le (wordDistance v (copyOf (sideOf v) false sq) (copyOf (sideOf v) true sq)) 15)
-    go false = omega arith
 
 -- A square that passes refusals 1 to 4 of Read a square, where the receipt has 12 bytes. Its version is its side's, level and mask are the
 -- nearest.

@@ -1,80 +1,78 @@
+-- `read_known` meets its contract. Assumes nothing.
+use mathlib.Core.Path.{_∙_}
+use native.Mathlib.Omega.{arith}
+use Rattle.squares.proofs.Marks.{ranges}
+use Rattle.squares.proofs.Starts.{no-word, has-word}
+use Rattle.reader.proofs.Opens.{known-receipt, known-range, known-early, known-fits, known-left, early-small}
 use borrow.Author.Needs.{needs}
 use Rattle.reader.proofs.read_known.Statement.{statement}
 use Rattle.reader.proofs.read_known.Tie as tie
-use Rattle.reader.proofs.read_known.Reads as reads
-use Rattle.reader.proofs.read_known.Lts as lts
-use Rattle.information.proofs.info_bits.Reads as info-bits-reads
-use Rattle.reader.proofs.finish.Reads as finish-reads
-use Rattle.reader.proofs.refuse.Reads as refuse-reads
-use Rattle.reader.proofs.square_refusal.Reads as square-refusal-reads
-use Rattle.symbol.proofs.Version.side.Reads as side-reads
 
--- src/lib.rt:302:9
 returns : tie.Need-returns
-returns c = ?
+returns c =
+    let a = c .before .before .before .before .before .args in
+    known-receipt (a .square .now) (a .version) (a .level) (a .mask) _ _ _ (c .if1 .taken)
 
--- src/lib.rt:304:29
 info-bits-requires : tie.Need-info-bits-requires
 info-bits-requires c κs = search needs
 
 enum-told : tie.Need-enum-told
 enum-told c = search needs
 
--- src/lib.rt:305:23
 enum-told-2 : tie.Need-enum-told-2
 enum-told-2 c = search needs
 
--- src/lib.rt:305:9
 refuse-requires : tie.Need-refuse-requires
 refuse-requires c κs = search needs
 
--- src/lib.rt:305:9
 same-length : tie.Need-same-length
 same-length c = search needs
 
--- src/lib.rt:305:9
 returns-2 : tie.Need-returns-2
-returns-2 c = ?
+returns-2 c =
+    let a = c .before .before .before .before .before .before .before .before .before .before .before .before .args in
+    known-range (a .square .now) (a .version) (a .level) (a .mask) _ _ _ (c .before .before .before .before .before .before .before .if1 .left) (no-word _ _ _ _ (c .before .before .before .before .before .before .info-bits .ensures .0) (c .before .before .before .before .enum-told2 .given .1)) _ _ (c .before .before .refuse .ensures)
 
--- src/lib.rt:307:40
 side-requires : tie.Need-side-requires
-side-requires c κs = ?
+side-requires c κs =
+    let a = c .before .before .before .before .before .before .before .before .args in
+    ranges _ _ _ (has-word (a .version) (a .level) (a .mask) _ (c .before .before .info-bits .ensures .0) _ (c .enum-told .given .1)) .high
 
--- src/lib.rt:307:9
 square-refusal-requires : tie.Need-square-refusal-requires
-square-refusal-requires c κs = ?
+square-refusal-requires c κs =
+    let a = c .before .before .before .before .before .before .before .before .before .args in
+    omega (arith, c .side .ensures, ranges _ _ _ (has-word (a .version) (a .level) (a .mask) _ (c .before .before .before .info-bits .ensures .0) _ (c .before .enum-told .given .1)) .high)
 
--- src/lib.rt:309:9
 refuse-requires-2 : tie.Need-refuse-requires-2
-refuse-requires-2 c κs = ?
+refuse-requires-2 c κs = (c .before .before .before .before .before .before .before .if1 .left, early-small (c .before .before .before .before .before .before .before .before .before .before .before .before .args .square .now) (c .before .before .before .side .result) _ (c .before .before .square-refusal .ensures))
 
--- src/lib.rt:309:9
 same-length-2 : tie.Need-same-length-2
 same-length-2 c = search needs
 
--- src/lib.rt:309:9
 returns-3 : tie.Need-returns-3
-returns-3 c = ?
+returns-3 c =
+    let a = c .before .before .before .before .before .before .before .before .before .before .before .before .before .before .before .args in
+    known-early (a .square .now) (a .version) (a .level) (a .mask) _ _ _ (c .before .before .before .before .before .before .before .before .before .before .if1 .left) (has-word (a .version) (a .level) (a .mask) _ (c .before .before .before .before .before .before .before .before .before .info-bits .ensures .0) _ (c .before .before .before .before .before .before .before .enum-told .given .1)) _ _ (c .before .before .before .before .before .before .side .ensures) (c .before .before .before .before .before .square-refusal .ensures) (c .before .before .before .before .if2 .taken) _ _ (c .before .before .refuse2 .ensures)
 
--- src/lib.rt:317:5
 finish-requires : tie.Need-finish-requires
-finish-requires c κs = ?
+finish-requires c κs =
+    let a = c .before .before .before .before .before .before .before .before .before .before .before .before .before .before .args in
+    (known-fits (a .square .now) (a .version) (a .level) (a .mask) (a .payload .now) (a .script .now) (a .receipt .now) (c .before .before .before .before .before .before .before .before .before .if1 .left) (has-word (a .version) (a .level) (a .mask) _ (c .before .before .before .before .before .before .before .before .info-bits .ensures .0) _ (c .before .before .before .before .before .before .enum-told .given .1)) _ _ (c .before .before .before .before .before .side .ensures) (c .before .before .before .before .square-refusal .ensures) (c .before .before .before .if2 .left), c .before .before .before .before .before .before .before .before .before .if1 .left)
 
--- src/lib.rt:290:1
 same-length-3 : tie.Need-same-length-3
 same-length-3 c = search needs
 
--- src/lib.rt:290:1
 same-length-4 : tie.Need-same-length-4
 same-length-4 c = search needs
 
--- src/lib.rt:290:1
 same-length-5 : tie.Need-same-length-5
 same-length-5 c = search needs
 
--- src/lib.rt:290:1
 returns-4 : tie.Need-returns-4
-returns-4 c = ?
+returns-4 c =
+    let a = c .before .before .before .before .before .before .before .before .before .before .before .before .before .before .before .before .before .before .before .before .before .args in
+    c .before .before .before .before .before .before .finish .ensures
+    ∙ known-left (a .square .now) (a .version) (a .level) (a .mask) _ _ _ (c .before .before .before .before .before .before .before .before .before .before .before .before .before .before .before .before .if1 .left) (has-word (a .version) (a .level) (a .mask) _ (c .before .before .before .before .before .before .before .before .before .before .before .before .before .before .before .info-bits .ensures .0) _ (c .before .before .before .before .before .before .before .before .before .before .before .before .before .enum-told .given .1)) _ _ (c .before .before .before .before .before .before .before .before .before .before .before .before .side .ensures) (c .before .before .before .before .before .before .before .before .before .before .before .square-refusal .ensures) (c .before .before .before .before .before .before .before .before .before .before .if2 .left)
 
 pub read-known-spec : {M : Type 1} → statement M
 read-known-spec =

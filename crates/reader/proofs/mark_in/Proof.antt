@@ -1,0 +1,58 @@
+-- `mark_in` meets its contract. Assumes nothing.
+use native.Mathlib.Omega.{arith}
+use mathlib.Core.Path.{ap}
+use Prim.Native.Nat.{ℕ, _*_}
+use Rattle.reader.proofs.Opens.{nearest-mark, no-version, in-square}
+use borrow.Author.Needs.{needs}
+use Rattle.reader.proofs.mark_in.Statement.{statement}
+use Rattle.reader.proofs.mark_in.Tie as tie
+
+side-requires : tie.Need-side-requires
+side-requires c κs = search needs
+
+read-copy-requires : tie.Need-read-copy-requires
+read-copy-requires c κs =
+    let a = c .before .before .pre in
+    in-square _ _ (c .before .before .args .square .now) (a .0) (a .1) (c .side .ensures) (a .2) (a .3)
+
+read-copy-requires-2 : tie.Need-read-copy-requires-2
+read-copy-requires-2 c κs =
+    let a = c .before .before .before .pre in
+    in-square _ _ (c .before .before .before .args .square .now) (a .0) (a .1) (c .before .side .ensures) (a .2) (a .3)
+
+nearest-info-requires : tie.Need-nearest-info-requires
+nearest-info-requires c κs = search needs
+
+enum-known-level : tie.Need-enum-known-level
+enum-known-level c = search needs
+
+cast-t12 : tie.Need-cast-t12
+cast-t12 c = search needs
+
+enum-told : tie.Need-enum-told
+enum-told c = search needs
+
+returns : tie.Need-returns
+returns c =
+    let g = c .before .level .given in
+    let q = c .before .before .before .nearest-info .ensures in
+    nearest-mark _ _ _ _ _ (c .before .before .before .before .before .before .side .ensures) (c .before .before .before .before .before .read-copy .ensures) (c .before .before .before .before .read-copy2 .ensures) _ (g .0 .0) (g .0 .1 .0) (g .0 .1 .1 .0) (g .1) (q .1) (q .2) (q .3)
+
+returns-2 : tie.Need-returns-2
+returns-2 c =
+    let a = c .before .before .before .before .before .before .before .pre in
+    absurd (no-version _ _ _ _ _ (c .before .before .before .before .before .side .ensures) (c .before .before .before .before .read-copy .ensures) (c .before .before .before .read-copy2 .ensures) _ (a .0) (a .1) (c .enum-told .given .1) (c .before .before .nearest-info .ensures .0))
+
+pub mark-in-spec : {M : Type 1} → statement M
+mark-in-spec =
+    tie.close
+    (tie.spec
+    side-requires
+    read-copy-requires
+    read-copy-requires-2
+    nearest-info-requires
+    enum-known-level
+    cast-t12
+    enum-told
+    returns
+    returns-2)
