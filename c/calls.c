@@ -1,6 +1,7 @@
 #define _DEFAULT_SOURCE   /* for MAP_ANONYMOUS */
 #include "calls.h"
 
+#include <signal.h>
 #include <stdio.h>
 #include <stdlib.h>
 #include <string.h>
@@ -14,8 +15,14 @@ const Lent ENOUGH = {HX_BUFFER, HX_BUFFER, HX_RECEIPT};
 
 static size_t made, failed;
 static size_t now[4];
-static int lending;
+static int lending, calling;   /* the way, and the line of the call */
 static uint8_t *slots[SLOTS];
+
+static void tell(int line, const char *text)
+{
+    printf("failed: line %d: %s (version %lu, level %lu, mask %lu, turn %lu, way %d)\n", line, text, (unsigned long)now[0],
+           (unsigned long)now[1], (unsigned long)now[2], (unsigned long)now[3], lending);
+}
 
 void check(int holds, int line, const char *text)
 {
@@ -23,8 +30,16 @@ void check(int holds, int line, const char *text)
     if (holds)
         return;
     failed++;
-    printf("failed: line %d: %s (version %lu, level %lu, mask %lu, turn %lu, way %d)\n", line, text, (unsigned long)now[0],
-           (unsigned long)now[1], (unsigned long)now[2], (unsigned long)now[3], lending);
+    tell(line, text);
+}
+
+/* The call that touched a forbidden page cannot go on: the test says so and ends. */
+static void touched(int signal_number)
+{
+    (void)signal_number;
+    tell(calling, "a byte outside the lent buffers was read or written");
+    fflush(stdout);
+    _Exit(1);
 }
 
 size_t checks_made(void) { return made; }
@@ -53,6 +68,8 @@ void lend_at(int way)
 {
     int slot;
     lending = way;
+    signal(SIGSEGV, touched);
+    signal(SIGBUS, touched);
     for (slot = 0; slot < SLOTS; slot++)
         if (slots[slot] == NULL)
             slots[slot] = guarded();
@@ -126,6 +143,7 @@ size_t read_any(int line, How how, const uint8_t *square, size_t length, Lent le
     const uint8_t *q = lend(SQUARE, square, length);
     uint8_t *p = lend(PAYLOAD, NULL, lent.payload), *s = lend(SCRIPT, NULL, lent.script), *r = lend(RECEIPT, NULL, lent.receipt);
     size_t number;
+    calling = line;
     if (how.known)
         number = hx_read_known(q, length, how.version, how.level, how.mask, p, lent.payload, s, lent.script, r, lent.receipt);
     else
@@ -164,9 +182,10 @@ void writes_at(int line, const Mark *mark, size_t length, size_t number, uint8_t
 {
     const uint8_t *s = lend(SCRIPT, mark->script, mark->script_length), *p = lend(PAYLOAD, mark->payload, mark->payload_length);
     uint8_t *q = lend(SQUARE, NULL, length);
-    size_t answer = hx_write_square(mark->version, mark->level, mark->mask, s, mark->script_length, p, mark->payload_length, q, length);
-    size_t i;
+    size_t answer, i;
     char text[64];
+    calling = line;
+    answer = hx_write_square(mark->version, mark->level, mark->mask, s, mark->script_length, p, mark->payload_length, q, length);
     sprintf(text, "writing answers %lu, not %lu", (unsigned long)number, (unsigned long)answer);
     check(answer == number, line, text);
     check(untouched(SQUARE, length, 0, answer == 0 ? length : 0), line, "nothing beside the square, and no refused square");
