@@ -106,7 +106,7 @@ static void test_ranges(void)
     REFUSES(by_known(84, 0, 0), square, HX_SQUARE - 1, ENOUGH, HX_LENGTH);
 }
 
-/* 3 for a byte above 1, wherever it is; 2 before 3, 3 before 4 and 6. */
+/* 3 for a byte above 1, wherever it is; 1 and 2 before 3, 3 before 4 and 6. */
 static void test_modules(void)
 {
     static const uint8_t bytes[] = {2, 3, 128, 255};
@@ -122,11 +122,14 @@ static void test_modules(void)
             REFUSES(by_known(1, 0, 3), square, 529, ENOUGH, HX_MODULE);
             REFUSES(by_side(23), square, 528, ENOUGH, HX_LENGTH);
             REFUSES(by_known(1, 0, 3), square, 530, ENOUGH, HX_LENGTH);
+            REFUSES(by_side(24), square, 529, ENOUGH, HX_RANGE);
+            REFUSES(by_known(1, 4, 3), square, 529, ENOUGH, HX_RANGE);
         }
     memset(square, 1, 529);
     REFUSES(by_side(23), square, 529, ENOUGH, HX_INFORMATION);
     square[528] = 2;
     REFUSES(by_side(23), square, 529, ENOUGH, HX_MODULE);
+    REFUSES(by_known(1, 0, 3), square, 529, ENOUGH, HX_MODULE);
 }
 
 /* Flips so many of the twelve modules that are light in every information word: the nearest word stays, and is so far off. */
@@ -652,17 +655,17 @@ static void test_room(void)
 static void test_largest(void)
 {
     static uint8_t payload[8000];
-    static const uint8_t numeric[3] = {HX_NUMERIC, 7800 / 256, 7800 % 256}, over[3] = {HX_NUMERIC, 7828 / 256, 7828 % 256};
+    static const uint8_t numeric[3] = {HX_NUMERIC, 7827 / 256, 7827 % 256}, over[3] = {HX_NUMERIC, 7828 / 256, 7828 % 256};
     static const uint8_t bytes[3] = {HX_BYTES, 3261 / 256, 3261 % 256}, more[3] = {HX_BYTES, 3262 / 256, 3262 % 256};
     size_t i;
     Mark m;
     about(84, 0, 0, 0);
     for (i = 0; i < sizeof payload; i++)
         payload[i] = (uint8_t)(48 + i % 10);
-    m = mark_of(84, 0, 0, numeric, 3, payload, 7800);       /* 14 + 10 x 2,600 */
+    m = mark_of(84, 0, 0, numeric, 3, payload, 7827);       /* 14 + 10 x 2,609 = 26,104 */
     WRITES(&m, square);
-    READS(by_side(189), square, HX_SQUARE, lent(7800, 3, 12), &m, 0, 0);
-    REFUSES(by_side(189), square, HX_SQUARE, lent(7799, 3, 12), HX_PAYLOAD_FULL);
+    READS(by_side(189), square, HX_SQUARE, lent(7827, 3, 12), &m, 0, 0);
+    REFUSES(by_side(189), square, HX_SQUARE, lent(7826, 3, 12), HX_PAYLOAD_FULL);
     m = mark_of(84, 0, 0, over, 3, payload, 7828);          /* 14 + 10 x 2,610 = 26,114 */
     WRITE_REFUSES(&m, HX_SQUARE, HX_TOO_LONG);
     m = mark_of(84, 0, 0, bytes, 3, payload, 3261);         /* 17 + 8 x 3,261 = 26,105 */
