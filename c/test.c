@@ -675,6 +675,30 @@ static void test_largest(void)
     WRITE_REFUSES(&m, HX_SQUARE, HX_TOO_LONG);
 }
 
+/* The longest script that a mark can hold with a payload: 2,174 ECI of 12 bits and a text of 16, in 26,104 of 26,112 bits. */
+static void test_longest_script(void)
+{
+    static uint8_t script[4 * 2175 + 3];
+    Mark m = mark_of(84, 0, 1, script, 4 * 2174 + 3, "a", 1);
+    size_t i;
+    about(84, 0, 1, 0);
+    for (i = 0; i < 2175; i++) {
+        memset(script + 4 * i, 0, 4);
+        script[4 * i] = HX_ECI;
+        script[4 * i + 3] = (uint8_t)(i % 128);
+    }
+    memcpy(script + 4 * 2174, "\2\0\1", 3);
+    WRITES(&m, square);
+    READS(by_side(189), square, HX_SQUARE, ENOUGH, &m, 0, 0);
+    READS(by_known(84, 0, 1), square, HX_SQUARE, lent(1, m.script_length, 12), &m, 0, 0);
+    REFUSES(by_side(189), square, HX_SQUARE, lent(1, m.script_length - 1, 12), HX_SCRIPT_FULL);
+    script[4 * 2174] = HX_ECI;
+    memset(script + 4 * 2174 + 1, 0, 3);
+    memcpy(script + 4 * 2175, "\2\0\1", 3);
+    m.script_length += 4;
+    WRITE_REFUSES(&m, HX_SQUARE, HX_TOO_LONG);
+}
+
 /* All eight modes in one script: 417 bits by the formulas, so 53 codewords. Level 0 has 46 in version 4 and 57 in version 5. */
 static void test_all_modes(void)
 {
@@ -743,6 +767,7 @@ int main(void)
         test_payloads();
         test_room();
         test_largest();
+        test_longest_script();
         test_all_modes();
         test_random();
     }

@@ -1,6 +1,7 @@
 /* Han Xin marks (ISO/IEC 20830) for C: three functions on numbers and byte buffers. C99, and C++ too.
  *
- * Link with target/staticlib/libhan_xin.a, which `rt staticlib han_xin` writes (Linux on x86-64); nothing else is needed.
+ * Link with target/staticlib/libhan_xin.a, which `rt staticlib han_xin` writes (Linux on x86-64). Of the C library it needs memcpy
+ * and memset.
  *
  * A SQUARE has side x side bytes, row by row, 0 light, 1 dark. A mark of version 1 to 84 has side 2 x version + 21, so 23 to 189.
  * Level (of error correction) and mask are each 0 to 3.
@@ -36,9 +37,10 @@
  * hold what the receipt's lengths say, and their bytes beyond that are as they were; the square is written whole.
  *
  * BUFFERS. Each is a pointer with its number of bytes. A buffer that is written (payload, script and receipt of a reading, square of
- * hx_write_square) must not overlap any other buffer of the call, and no other thread may use it meanwhile. The pointer must be valid
- * for as many bytes as are given. A buffer of 0 bytes is allowed, and nothing is read or written through its pointer: the test
- * passes NULL with 0 for every buffer. The language's documents do not promise that for NULL; the address of any byte is safe.
+ * hx_write_square) must not overlap any other buffer of the call, and no other thread may use it meanwhile; nor may another thread
+ * write to one that is read. The pointer must be valid for as many bytes as are given. A buffer of 0 bytes is allowed, and nothing is
+ * read or written through its pointer: the test passes NULL with 0 for every buffer. The language's documents do not promise that for
+ * NULL; the address of any byte is safe.
  *
  * THREADS, MEMORY. There is no state between calls, no heap, no input or output: threads may call at the same time, each with its
  * own buffers. A call needs at most HX_STACK bytes of stack.
