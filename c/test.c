@@ -276,6 +276,61 @@ static void test_one_block(void)
 /* GF(256) with polynomial 163 hex: a times x. */
 static unsigned times_x(unsigned a) { return a & 128u ? (a << 1 ^ 0x163u) & 255u : a << 1; }
 
+/* Whether a mask inverts the module at row i and column j, both counted from 1. */
+static unsigned inverted(size_t mask, size_t i, size_t j)
+{
+    if (mask == 1) return (i + j) % 2 == 0;
+    if (mask == 2) return ((i + j) % 3 + j % 3) % 2 == 0;
+    if (mask == 3) return (i % j + j % i + i % 3 + j % 3) % 2 == 0;
+    return 0;
+}
+
+/* The stream of a square of version 1 to 3, where data are all modules outside the four corners. */
+static void stream_of(size_t side, size_t mask, size_t total, uint8_t *stream)
+{
+    size_t row, column, n = 0, start, place;
+    uint8_t found[64] = {0};
+    for (row = 0; row < side; row++)
+        for (column = 0; column < side; column++) {
+            unsigned dark = square[row * side + column] ^ inverted(mask, row + 1, column + 1);
+            if ((row < 9 || row >= side - 9) && (column < 9 || column >= side - 9))
+                continue;
+            if (n < 8 * total)
+                found[n / 8] = (uint8_t)(found[n / 8] | dark << (7 - n % 8));
+            n++;
+        }
+    for (start = 0, n = 0; start < 13; start++)
+        for (place = start; place < total; place += 13)
+            stream[place] = found[n++];
+}
+
+/* What is in a written mark, by document 01: the data codewords, and a block that is zero at x^1 to x^parity. */
+static void test_written(void)
+{
+    static const size_t totals[] = {25, 37, 50}, rooms[3][4] = {{21, 17, 13, 9}, {31, 25, 19, 15}, {42, 34, 26, 20}};
+    static const uint8_t script[] = {HX_NUMERIC, 0, 3}, data[64] = {0x10, 0x1F, 0xFF};
+    uint8_t stream[64];
+    size_t v, level, mask, root, i, turn;
+    for (v = 1; v <= 3; v++)
+        for (level = 0; level < 4; level++)
+            for (mask = 0; mask < 4; mask++) {
+                Mark m = mark_of(v, level, mask, script, sizeof script, "007", 3);
+                about(v, level, mask, 0);
+                WRITES(&m, square);
+                stream_of(HX_SIDE(v), mask, totals[v - 1], stream);
+                CHECK(memcmp(stream, data, rooms[v - 1][level]) == 0);
+                for (root = 1; root <= totals[v - 1] - rooms[v - 1][level]; root++) {
+                    unsigned value = 0;
+                    for (i = 0; i < totals[v - 1]; i++) {
+                        for (turn = 0; turn < root; turn++)
+                            value = times_x(value);
+                        value ^= stream[i];
+                    }
+                    CHECK(value == 0);
+                }
+            }
+}
+
 /* The values at x^1 to x^4 of a block of 25 with one byte, as one number: what errors add to them. */
 static uint32_t values_of(size_t place, unsigned byte)
 {
@@ -675,8 +730,8 @@ static void test_largest(void)
     WRITE_REFUSES(&m, HX_SQUARE, HX_TOO_LONG);
 }
 
-/* The longest script that a mark can hold with a payload: 2,174 ECI of 12 bits and a text of 16, in 26,104 of 26,112 bits. */
-static void test_longest_script(void)
+/* A script of 8,699 bytes: 2,174 ECI of 12 bits and a text of 16, in 26,104 of 26,112 bits. */
+static void test_long_script(void)
 {
     static uint8_t script[4 * 2175 + 3];
     Mark m = mark_of(84, 0, 1, script, 4 * 2174 + 3, "a", 1);
@@ -755,6 +810,7 @@ int main(void)
         test_information();
         test_information_words();
         test_places();
+        test_written();
         test_one_block();
         test_out_of_reach();
         test_many_blocks();
@@ -767,7 +823,7 @@ int main(void)
         test_payloads();
         test_room();
         test_largest();
-        test_longest_script();
+        test_long_script();
         test_all_modes();
         test_random();
     }
