@@ -1,0 +1,343 @@
+/* mark: makes a Han Xin mark for a serial, shows it in the terminal, flips modules as scratches would, and reads it back. */
+#define _POSIX_C_SOURCE 200809L   /* for isatty */
+#include "han_xin.h"
+
+#include <ctype.h>
+#include <stdio.h>
+#include <stdlib.h>
+#include <string.h>
+#include <unistd.h>
+
+static const char HELP[] =
+    "usage: mark [OPTIONS] SERIAL [FLIPS [SEED]]   make a mark for SERIAL, show it, flip modules, show it again and read it\n"
+    "       mark [OPTIONS] --read FILE             show and read the mark in FILE\n"
+    "\n"
+    "  FLIPS         how many modules are flipped, or a part of them such as 8%  (0 if left out)\n"
+    "  SEED          which ones: a number; the same number flips the same modules  (1 if left out)\n"
+    "  --level N     level of error correction, 0 to 3  (2 if left out)\n"
+    "  --mask N      mask, 0 to 3  (0 if left out)\n"
+    "  --write FILE  also write the modules, after the flips, to FILE\n"
+    "  --help        this text\n"
+    "\n"
+    "FILE is plain text, and an image that many programs can show (PBM): 'P1', width and height, then the modules row by row, 0 light\n"
+    "and 1 dark. It can be edited by hand; the first line and the sizes may be left out if each row is a line.\n"
+    "The mode is numeric if SERIAL has digits only, else text if that has all its bytes, else bytes; the version is the smallest\n"
+    "that fits. Exit status: 0 read, 1 refused, 2 wrong usage or a file that cannot be used.\n";
+
+static const char *const COMMANDS[] = {"", "numeric", "text", "bytes", "region one", "region two", "two-byte", "four-byte", "ECI"};
+
+typedef struct {
+    size_t side, length;
+    uint8_t modules[HX_SQUARE + 1];   /* one more, so that a file with too many modules is told */
+} Square;
+
+typedef struct {
+    const char *serial, *read, *write, *flips;
+    unsigned long level, mask, seed;
+} Wish;
+
+static void stop(const char *what, const char *name)
+{
+    fprintf(stderr, "mark: %s%s\n", what, name);
+    exit(2);
+}
+
+/* Two rows of modules to a line of the terminal, with a border of three modules. Dark on light, whatever the terminal's colours are. */
+static void show(const Square *q)
+{
+    static const char *const halves[] = {" ", "\xE2\x96\x80", "\xE2\x96\x84", "\xE2\x96\x88"};   /* none, upper, lower, both */
+    long border = 3, side = (long)q->side, row, column, half;
+    int colours = isatty(STDOUT_FILENO);
+    for (row = -border; row < side + border; row += 2) {
+        fputs(colours ? "\x1B[30;107m" : "", stdout);
+        for (column = -border; column < side + border; column++) {
+            unsigned dark = 0;
+            for (half = 0; half < 2; half++)
+                if (row + half >= 0 && row + half < side && column >= 0 && column < side
+                    && (size_t)((row + half) * side + column) < q->length && q->modules[(row + half) * side + column] != 0)
+                    dark |= 1u << half;
+            fputs(halves[dark], stdout);
+        }
+        fputs(colours ? "\x1B[0m\n" : "\n", stdout);
+    }
+}
+
+/* The script of one segment for the whole payload. */
+static void segment(uint8_t *script, size_t mode, size_t length)
+{
+    script[0] = (uint8_t)mode;
+    script[1] = (uint8_t)(length / 256);
+    script[2] = (uint8_t)(length % 256);
+}
+
+/* The first mode that has all bytes, and the smallest version that fits: the writer itself is asked. */
+static size_t write_mark(const Wish *w, Square *q)
+{
+    size_t length = strlen(w->serial), mode, version, number = HX_TOO_LONG;
+    uint8_t script[3];
+    if (length > 8191)
+        return HX_TOO_LONG;   /* the largest mark has room for 7,827 digits, and for less of all else */
+    for (mode = HX_NUMERIC; mode <= HX_BYTES; mode++)
+        for (version = 1; version <= HX_VERSIONS; version++) {
+            q->side = HX_SIDE(version);
+            q->length = q->side * q->side;
+            segment(script, mode, length);
+            number = hx_write_square(version, w->level, w->mask, script, sizeof script, (const uint8_t *)w->serial, length,
+                                     q->modules, q->length);
+            if (number == HX_OK)
+                return number;
+            if (number == HX_PAYLOAD || number == HX_SCRIPT)
+                break;   /* another mode */
+            if (number != HX_TOO_LONG)
+                return number;
+        }
+    return number;
+}
+
+/* A number of modules, or a part of the square in percent. */
+static size_t count_of(const char *flips, size_t length)
+{
+    char *end;
+    unsigned long n = strtoul(flips, &end, 10);
+    int percent = strcmp(end, "%") == 0;
+    if (!isdigit((unsigned char)flips[0]) || (!percent && *end != 0) || n > (percent ? 100 : length))
+        stop("FLIPS is not a number of modules of this mark, nor a percentage: ", flips);
+    return percent ? length * n / 100 : n;
+}
+
+/* Flips so many different modules. */
+static void scratch(Square *q, size_t flips, unsigned long seed)
+{
+    static uint8_t taken[HX_SQUARE];
+    uint64_t state = seed;
+    memset(taken, 0, sizeof taken);
+    while (flips > 0) {
+        size_t at;
+        state = state * 6364136223846793005u + 1442695040888963407u;
+        at = (size_t)((state >> 33) % q->length);
+        if (taken[at])
+            continue;
+        taken[at] = 1;
+        q->modules[at] ^= 1;
+        flips--;
+    }
+}
+
+static void print_bytes(const uint8_t *bytes, size_t length)
+{
+    size_t i;
+    putchar('"');
+    for (i = 0; i < length; i++)
+        if (bytes[i] >= 32 && bytes[i] < 127 && bytes[i] != '"' && bytes[i] != '\\')
+            putchar(bytes[i]);
+        else
+            printf("\\x%02X", bytes[i]);
+    putchar('"');
+}
+
+/* The commands of a script, in words. */
+static void print_script(const uint8_t *script, size_t length)
+{
+    size_t i = 0;
+    while (i < length) {
+        printf("  script      %s", COMMANDS[script[i]]);
+        if (script[i] == HX_ECI) {
+            printf(", character set %lu\n", script[i + 1] * 65536ul + script[i + 2] * 256ul + script[i + 3]);
+            i += 4;
+        } else if (script[i] == HX_FOUR_BYTE) {
+            printf(", 4 bytes\n");
+            i += 1;
+        } else {
+            printf(", %lu bytes\n", script[i + 1] * 256ul + script[i + 2]);
+            i += 3;
+        }
+    }
+}
+
+/* Reads the square and prints the receipt or the refusal; answers the refusal number. */
+static size_t read_mark(const Square *q)
+{
+    static uint8_t payload[HX_BUFFER], script[HX_BUFFER];
+    uint8_t receipt[HX_RECEIPT];
+    size_t number = hx_read_square(q->modules, q->length, q->side, payload, sizeof payload, script, sizeof script, receipt,
+                                   sizeof receipt);
+    if (number != HX_OK) {
+        printf("refused: %lu, %s\n", (unsigned long)number, hx_refusal_words(number));
+        return number;
+    }
+    printf("read:\n  mark        version %u, %lu x %lu modules, level %u, mask %u\n", receipt[1], (unsigned long)q->side,
+           (unsigned long)q->side, receipt[2], receipt[3]);
+    printf("  repaired    codewords: %lu; information modules that differed: %u of 68\n", (unsigned long)hx_corrected(receipt), receipt[6]);
+    printf("  payload     %lu bytes: ", (unsigned long)hx_payload_length(receipt));
+    print_bytes(payload, hx_payload_length(receipt));
+    putchar('\n');
+    print_script(script, hx_script_length(receipt));
+    return number;
+}
+
+static void write_file(const Square *q, const char *name)
+{
+    FILE *f = fopen(name, "w");
+    size_t i;
+    if (f == NULL)
+        stop("cannot write ", name);
+    fprintf(f, "P1\n%lu %lu\n", (unsigned long)q->side, (unsigned long)q->side);
+    for (i = 0; i < q->length; i++) {
+        putc('0' + q->modules[i], f);
+        if ((i + 1) % q->side == 0)
+            putc('\n', f);
+    }
+    if (fclose(f) != 0)
+        stop("cannot write ", name);
+}
+
+/* The next character that counts: comments up to the end of their line, and blanks, do not. */
+static int next_character(FILE *f)
+{
+    int c = getc(f);
+    while (c == '#' || c == ' ' || c == '\t' || c == '\r') {
+        if (c == '#')
+            while (c != '\n' && c != EOF)
+                c = getc(f);
+        else
+            c = getc(f);
+    }
+    return c;
+}
+
+/* 'P1' and the sizes, if the file begins so; answers the width, or 0. */
+static size_t read_header(FILE *f, const char *name)
+{
+    int c = getc(f);
+    size_t sizes[2] = {0, 0}, i;
+    if (c != 'P') {
+        ungetc(c, f);
+        return 0;
+    }
+    if (getc(f) != '1')
+        stop("an image that is not plain PBM (P1): ", name);
+    for (i = 0; i < 2; i++) {
+        for (c = next_character(f); c == '\n'; c = next_character(f))
+            ;
+        for (; c >= '0' && c <= '9' && sizes[i] < 100000; c = getc(f))
+            sizes[i] = 10 * sizes[i] + (size_t)(c - '0');
+    }
+    if (sizes[0] == 0 || sizes[0] != sizes[1])
+        stop("width and height are not equal, or not given: ", name);
+    return sizes[0];
+}
+
+/* A digit is a module, so that the reader can refuse one above 1. Without sizes the side is the length of the first row. */
+static void read_file(const char *name, Square *q)
+{
+    FILE *f = fopen(name, "r");
+    int c;
+    if (f == NULL)
+        stop("cannot read ", name);
+    q->side = read_header(f, name);
+    q->length = 0;
+    for (c = next_character(f); c != EOF; c = next_character(f)) {
+        if (c == '\n') {
+            if (q->side == 0)
+                q->side = q->length;
+        } else if (!isdigit(c)) {
+            stop("something else than 0 and 1 in ", name);
+        } else if (q->length == HX_SQUARE) {
+            stop("more than 35,721 modules in ", name);
+        } else {
+            q->modules[q->length++] = (uint8_t)(c - '0');
+        }
+    }
+    fclose(f);
+}
+
+static unsigned long number_of(const char *text, const char *what, unsigned long most)
+{
+    char *end;
+    unsigned long n = strtoul(text, &end, 10);
+    if (!isdigit((unsigned char)text[0]) || *end != 0 || n > most)
+        stop(what, text);
+    return n;
+}
+
+/* An option with its value; answers how many arguments it took, 0 if this is none. */
+static int option(char **arguments, int left, Wish *w)
+{
+    const char *name = arguments[0], *value = left > 1 ? arguments[1] : NULL;
+    if (strcmp(name, "--help") == 0) {
+        fputs(HELP, stdout);
+        exit(0);
+    }
+    if (strncmp(name, "--", 2) != 0)
+        return 0;
+    if (value == NULL)
+        stop("an option that there is not, or its value is missing (--help): ", name);
+    if (strcmp(name, "--level") == 0)
+        w->level = number_of(value, "the level is 0 to 3, not ", 3);
+    else if (strcmp(name, "--mask") == 0)
+        w->mask = number_of(value, "the mask is 0 to 3, not ", 3);
+    else if (strcmp(name, "--write") == 0)
+        w->write = value;
+    else if (strcmp(name, "--read") == 0)
+        w->read = value;
+    else
+        stop("an option that there is not (--help): ", name);
+    return 2;
+}
+
+static Wish wish_of(int count, char **arguments)
+{
+    Wish w = {NULL, NULL, NULL, "0", 2, 0, 1};
+    int i = 1, taken, place = 0;
+    while (i < count) {
+        taken = option(arguments + i, count - i, &w);
+        i += taken;
+        if (taken != 0)
+            continue;
+        if (place == 0) w.serial = arguments[i];
+        if (place == 1) w.flips = arguments[i];
+        if (place == 2) w.seed = number_of(arguments[i], "SEED is not a number: ", (unsigned long)-1);
+        if (place == 3) stop("one argument too many (--help): ", arguments[i]);
+        place++;
+        i++;
+    }
+    if ((w.serial == NULL) == (w.read == NULL)) {
+        fputs(HELP, stderr);
+        exit(2);
+    }
+    return w;
+}
+
+/* A mark for the serial, before and after the flips. */
+static void make(const Wish *w, Square *q)
+{
+    size_t number = write_mark(w, q), flips;
+    if (number != HX_OK) {
+        printf("refused: %lu, %s\n", (unsigned long)number, hx_refusal_words(number));
+        exit(1);
+    }
+    flips = count_of(w->flips, q->length);
+    printf("the mark for \"%s\":\n", w->serial);
+    show(q);
+    if (flips == 0)
+        return;
+    scratch(q, flips, w->seed);
+    printf("with %lu of its %lu modules flipped:\n", (unsigned long)flips, (unsigned long)q->length);
+    show(q);
+}
+
+int main(int count, char **arguments)
+{
+    static Square q;
+    Wish w = wish_of(count, arguments);
+    if (w.read != NULL) {
+        read_file(w.read, &q);
+        if (q.side <= 189)
+            show(&q);
+    } else {
+        make(&w, &q);
+    }
+    if (w.write != NULL)
+        write_file(&q, w.write);
+    return read_mark(&q) == HX_OK ? 0 : 1;
+}
