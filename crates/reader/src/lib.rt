@@ -280,6 +280,7 @@ fn mark_in(square: &[u8], version: usize) -> Mark
     }
 }
 
+// Read a square: its version is its side's, level and mask are the nearest.
 pub fn read_square(
     square: &[u8],
     side: usize,
@@ -306,6 +307,7 @@ pub fn read_square(
     finish(square, m, payload, script, receipt)
 }
 
+// Read with known version, level, mask: the information modules are not looked at.
 pub fn read_known(
     square: &[u8],
     version: usize,
