@@ -68,13 +68,7 @@ fn script_refusal(m: Mark, script: &[u8], payload: &[u8]) -> usize
 }
 
 // The stream of a script and payload, in the blocks of a row. `data` has room for the data codewords of the row.
-fn encode_stream(
-    stream: &mut [u8],
-    data: &mut [u8],
-    row: &[u8],
-    script: &[u8],
-    payload: &[u8],
-)
+fn encode_stream(stream: &mut [u8], data: &mut [u8], row: &[u8], script: &[u8], payload: &[u8])
     requires { ⌜ (length (now row) ≡ 9) × T (rowHolds (now row) (rowLength (now row))) × (rowLength (now row) ≤ length (now stream)) × (length (now «data») ≡ totalData (shapes (now row))) ⌝ }
     requires { ⌜ Fits (now script) (now payload) (length (now «data»)) ⌝ }
     ensures { λ _. ⌜ take (rowLength (now (row .entry))) (now (stream .exit)) ≡ streamOf (shapes (now (row .entry))) (encoded (totalData (shapes (now (row .entry)))) (commandsOf (now (script .entry)) (now (payload .entry)))) ⌝ }
@@ -120,6 +114,23 @@ fn write_mark(square: &mut [u8], kinds: &[u8], m: Mark, script: &[u8], payload: 
     information::write_info(square, side, m.word);
 }
 
+// The mark and 0, or the first refusal behind that of version, level and mask.
+fn write_ready(square: &mut [u8], kinds: &[u8], m: Mark, script: &[u8], payload: &[u8]) -> usize
+    requires { ⌜ Ready m (now kinds) ⌝ }
+    ensures { λ r. ⌜ writingOf r (now (square .exit)) ≡ writeOf (m .version) (m .level) (m .mask) (now (script .entry)) (now (payload .entry)) (now (square .entry)) ⌝ }
+{
+    let place = place_refusal(m, kinds, square.len());
+    if place != 0 {
+        return place;
+    }
+    let text = script_refusal(m, script, payload);
+    if text != 0 {
+        return text;
+    }
+    write_mark(square, kinds, m, script, payload);
+    0
+}
+
 pub fn write_square(
     version: usize,
     level: usize,
@@ -133,22 +144,13 @@ pub fn write_square(
     let InfoBits::Word(word) = information::info_bits(version, level, mask) else {
         return 1;
     };
+    let mut kinds = [0u8; 35721];
+    symbol::layout(version, &mut kinds);
     let m = Mark {
         version: version,
         level: level,
         mask: mask,
         word: word,
     };
-    let mut kinds = [0u8; 35721];
-    symbol::layout(version, &mut kinds);
-    let place = place_refusal(m, &kinds, square.len());
-    if place != 0 {
-        return place;
-    }
-    let text = script_refusal(m, script, payload);
-    if text != 0 {
-        return text;
-    }
-    write_mark(square, &kinds, m, script, payload);
-    0
+    write_ready(square, &kinds, m, script, payload)
 }

@@ -1,35 +1,31 @@
+-- `encode_stream` meets its contract: the encoded data in the blocks of the row. Assumes nothing.
+use native.Mathlib.Omega.{arith}
+use Rattle.writer.proofs.Fronts.{stream-encoded}
 use borrow.Author.Needs.{needs}
 use Rattle.writer.proofs.encode_stream.Statement.{statement}
 use Rattle.writer.proofs.encode_stream.Tie as tie
-use Rattle.writer.proofs.encode_stream.Reads as reads
-use Rattle.writer.proofs.encode_stream.Lts as lts
-use Rattle.blockwise.proofs.write_blocks.Reads as write-blocks-reads
-use Rattle.encoding.proofs.encode.Reads as encode-reads
-use Rattle.field.proofs.han_xin.Reads as han-xin-reads
 
--- src/lib.rt:82:5
 encode-requires : tie.Need-encode-requires
 encode-requires c κs = search needs
 
--- src/lib.rt:83:17
 han-xin-requires : tie.Need-han-xin-requires
 han-xin-requires c κs = search needs
 
--- src/lib.rt:84:5
 write-blocks-requires : tie.Need-write-blocks-requires
-write-blocks-requires c κs = ?
+write-blocks-requires c κs =
+    let o = c .before .before .before .before .before .before .before .before .before .before .before .before .before .pre .0 in
+    (c .before .before .before .han-xin .ensures, (o .0, o .1, o .2, omega (arith, c .before .before .before .before .before .before .encode .kept, o .3)))
 
--- src/lib.rt:71:1
 same-length : tie.Need-same-length
 same-length c = search needs
 
--- src/lib.rt:71:1
 same-length-2 : tie.Need-same-length-2
 same-length-2 c = search needs
 
--- src/lib.rt:71:1
 returns : tie.Need-returns
-returns c = ?
+returns c =
+    let o = c .before .before .before .before .before .before .before .before .before .before .before .before .before .before .before .before in
+    stream-encoded (o .args .script .now) (o .args .payload .now) _ _ (o .args .stream .now) _ _ (o .pre .0 .3) (c .before .before .before .before .before .before .before .before .before .encode .ensures) (o .pre .0 .2) (c .before .before .write-blocks .kept .1 .0) (c .before .before .write-blocks .ensures)
 
 pub encode-stream-spec : {M : Type 1} → statement M
 encode-stream-spec =

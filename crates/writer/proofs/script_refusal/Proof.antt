@@ -1,50 +1,40 @@
+-- `script_refusal` meets its contract: one case of the check's answer after the other. Assumes nothing.
+use native.Mathlib.Omega.{arith}
+use Rattle.script.specs.declared.Check.the-variants.{Malformed, Lacking, Empty}
+use Rattle.writer.proofs.Turned.{script-bits, script-other}
 use borrow.Author.Needs.{needs}
 use Rattle.writer.proofs.script_refusal.Statement.{statement}
 use Rattle.writer.proofs.script_refusal.Tie as tie
-use Rattle.writer.proofs.script_refusal.Reads as reads
-use Rattle.writer.proofs.script_refusal.Lts as lts
-use Rattle.script.proofs.check_script.Reads as check-script-reads
-use Rattle.writer.proofs.bits_refusal.Reads as bits-refusal-reads
 
--- src/lib.rt:62:11
 check-script-requires : tie.Need-check-script-requires
 check-script-requires c κs = search needs
 
--- src/lib.rt:63:21
 enum-known-n : tie.Need-enum-known-n
 enum-known-n c = search needs
 
--- src/lib.rt:63:27
 bits-refusal-requires : tie.Need-bits-refusal-requires
 bits-refusal-requires c κs = search needs
 
--- src/lib.rt:64:29
 enum-told : tie.Need-enum-told
 enum-told c = search needs
 
--- src/lib.rt:65:27
 enum-told-2 : tie.Need-enum-told-2
 enum-told-2 c = search needs
 
--- src/lib.rt:66:25
 enum-told-3 : tie.Need-enum-told-3
 enum-told-3 c = search needs
 
--- src/lib.rt:58:1
 returns : tie.Need-returns
-returns c = ?
+returns c = script-bits _ _ _ _ _ _ _ (c .before .before .n .given .1) (c .before .before .before .before .check-script .ensures) (c .bits-refusal .ensures)
 
--- src/lib.rt:58:1
 returns-2 : tie.Need-returns-2
-returns-2 c = ?
+returns-2 c = script-other _ _ _ _ _ Malformed (c .enum-told .given .1) (c .before .before .check-script .ensures) (omega arith)
 
--- src/lib.rt:58:1
 returns-3 : tie.Need-returns-3
-returns-3 c = ?
+returns-3 c = script-other _ _ _ _ _ Lacking (c .enum-told2 .given .1) (c .before .before .check-script .ensures) (omega arith)
 
--- src/lib.rt:58:1
 returns-4 : tie.Need-returns-4
-returns-4 c = ?
+returns-4 c = script-other _ _ _ _ _ Empty (c .enum-told3 .given .1) (c .before .before .check-script .ensures) (omega arith)
 
 pub script-refusal-spec : {M : Type 1} → statement M
 script-refusal-spec =

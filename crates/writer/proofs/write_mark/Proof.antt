@@ -1,44 +1,45 @@
+-- `write_mark` meets its contract: the stream, its square, and the word in it. Assumes nothing.
+use mathlib.Core.Path.{ap}
+use Prim.Native.Nat.{ℕ, _*_}
+use native.Mathlib.Omega.{arith}
+use Rattle.writer.proofs.Rooms.{fits, size}
+use Rattle.writer.proofs.Fronts.{mark-made}
 use borrow.Author.Needs.{needs}
 use Rattle.writer.proofs.write_mark.Statement.{statement}
 use Rattle.writer.proofs.write_mark.Tie as tie
-use Rattle.writer.proofs.write_mark.Reads as reads
-use Rattle.writer.proofs.write_mark.Lts as lts
-use Rattle.information.proofs.write_info.Reads as write-info-reads
-use Rattle.symbol.proofs.Version.side.Reads as side-reads
-use Rattle.writer.proofs.place_stream.Reads as place-stream-reads
-use Rattle.writer.proofs.write_stream.Reads as write-stream-reads
 
--- src/lib.rt:116:9
 side-requires : tie.Need-side-requires
 side-requires c κs = search needs
 
--- src/lib.rt:118:18
 slice-aggregate-write-stream : tie.Need-slice-aggregate-write-stream
 slice-aggregate-write-stream c = search needs
 
--- src/lib.rt:118:5
 write-stream-requires : tie.Need-write-stream-requires
-write-stream-requires c κs = ?
+write-stream-requires c κs =
+    let o = c .before .before .before .before .before .before in
+    ((o .pre .0 .ranged, omega arith), fits _ _ _ (o .args .script .now) (o .args .payload .now) (o .args .square .now) (o .pre .1))
 
--- src/lib.rt:119:36
 slice-aggregate-place-stream : tie.Need-slice-aggregate-place-stream
 slice-aggregate-place-stream c = search needs
 
--- src/lib.rt:119:5
 place-stream-requires : tie.Need-place-stream-requires
-place-stream-requires c κs = ?
+place-stream-requires c κs =
+    let o = c .before .before .before .before .before .before .before .before .before .before in
+    (o .pre .0, size _ _ _ (o .args .script .now) (o .args .payload .now) (o .args .square .now) (o .pre .1), omega (arith, c .before .before .before .write-stream .kept))
 
--- src/lib.rt:120:5
 write-info-requires : tie.Need-write-info-requires
-write-info-requires c κs = ?
+write-info-requires c κs =
+    let o = c .before .before .before .before .before .before .before .before .before .before .before .before .before .before in
+    let e = c .before .before .before .before .before .before .before .before .before .side .ensures in
+    (omega (arith, e), omega (arith, e, o .pre .0 .ranged .high), omega (arith, c .before .before .before .place-stream .kept, ap (λ (n : ℕ). n * n) e, size _ _ _ (o .args .script .now) (o .args .payload .now) (o .args .square .now) (o .pre .1)))
 
--- src/lib.rt:112:1
 same-length : tie.Need-same-length
 same-length c = search needs
 
--- src/lib.rt:112:1
 returns : tie.Need-returns
-returns c = ?
+returns c =
+    let o = c .before .before .before .before .before .before .before .before .before .before .before .before .before .before .before .before .before in
+    mark-made _ (o .args .script .now) (o .args .payload .now) _ _ _ _ (o .pre .0 .ranged) (c .before .before .before .before .before .before .before .before .before .before .before .before .side .ensures) (c .before .before .before .before .before .before .before .before .before .before .write-stream .ensures) (c .before .before .before .before .before .before .place-stream .ensures) (c .before .before .write-info .ensures)
 
 pub write-mark-spec : {M : Type 1} → statement M
 write-mark-spec =
