@@ -19,7 +19,7 @@ mul-if1 : tie.Need-mul-if1
 mul-if1 c = omega (arith, room-is (c .before .before .before .pre) _ (c .before .before .block-row .ensures) _ (c .data-length .ensures) .1)
 
 returns : tie.Need-returns
-returns c = too-many _ _ _ _ (room-is (c .before .before .before .before .pre) _ (c .before .before .before .block-row .ensures) _ (c .before .data-length .ensures) .0) (c .if1 .taken)
+returns c = too-many _ _ _ _ (room-is (c .before .before .before .before .pre) _ (c .before .before .before .block-row .ensures) _ (c .before .data-length .ensures) .0) (omega (arith, c .if1 .taken))
 
 returns-2 : tie.Need-returns-2
 returns-2 c = no-more _ _ _ _ (room-is (c .before .before .before .before .pre) _ (c .before .before .before .block-row .ensures) _ (c .before .data-length .ensures) .0) (omega (arith, c .if1 .left))
