@@ -31,7 +31,7 @@ use Rattle.squares.proofs.Data.{data-below}
 use Rattle.squares.proofs.Marks.{Ranges, Written, info-is, side-is, side-version, mark-length, level-is, mask-is, distance-le}
 
 -- the data codewords are no more than the codewords
-data-le : (bs : List Shape) → totalData bs ≤ totalSize bs
+pub data-le : (bs : List Shape) → totalData bs ≤ totalSize bs
 unfolding totalData totalSize
 data-le [] = omega arith
 data-le (b ∷ bs) = omega (arith, data-le bs)

@@ -2,47 +2,133 @@
 use information::InfoBits;
 use script::Check;
 ghost use mathlib.Core.Path.{_≡_};
-ghost use Rattle.squares.specs.Write.{writingOf, writeOf};
+ghost use Prim.Native.Nat.{_*_, _≤_};
+ghost use lib.Dec.{T, leb};
+ghost use lib.ListN.{length, take};
+ghost use Rattle.symbol.specs.Version.{sideOf};
+ghost use Rattle.symbol.specs.Layout.{layoutOf};
+ghost use Rattle.blocks.specs.Blocks.{totalOf, shapes, shapesOf, rowLength, rowHolds, totalData};
+ghost use Rattle.codewords.specs.Codewords.{maskBit, squareOf};
+ghost use Rattle.blockwise.specs.Blockwise.{streamOf};
+ghost use Rattle.script.specs.Check.{commandsOf, encoded};
+ghost use Rattle.encoding.specs.Fits.{Fits};
+ghost use Rattle.squares.specs.Read.{unless};
+ghost use Rattle.squares.specs.Write.{roomOf, writeRefusal, markOf, writingOf, writeOf};
+ghost use Rattle.writer.specs.Inner.{Ranged, Ready, placeRefusal, scriptRefusal};
 use symbol::Version;
 
-// What a mark is written with.
+// What a mark is written with: its version, level and mask, and the word of these three.
 pub struct Mark {
     pub version: usize,
     pub level: usize,
     pub mask: usize,
+    pub word: u64,
 }
 
-// The codewords of a script and payload, in the order of the square.
-fn codewords(out: &mut [u8], m: Mark, script: &[u8], payload: &[u8], room: usize) {
-    let mut data = [0u8; 3886];
-    encoding::encode(script, payload, &mut data[..room]);
-    let field = field::han_xin();
+// 1 for a version with too few data modules (the rows of the table hold their rule), 2 if the square has not side × side bytes, else 0.
+fn place_refusal(m: Mark, kinds: &[u8], size: usize) -> usize
+    requires { ⌜ Ready m (now kinds) ⌝ }
+    ensures { λ r. ⌜ r ≡ placeRefusal (m .version) (m .level) size ⌝ }
+{
+    let side = Version { number: m.version }.side();
+    let total = blocks::total_codewords(m.version);
+    if blocks::data_modules(kinds, side * side) < 8 * total {
+        return 1;
+    }
+    if size != side * side {
+        return 2;
+    }
+    0
+}
+
+// 13 if there are more bits than the data codewords have, else 0.
+fn bits_refusal(m: Mark, bits: usize) -> usize
+    requires { ⌜ Ranged m ⌝ }
+    ensures { λ r. ⌜ r ≡ unless (leb bits (8 * roomOf (m .version) (m .level))) 13 ⌝ }
+{
     let row = blocks::block_row(m.version, m.level);
-    let mut stream = [0u8; 3886];
-    blockwise::write_blocks(&field, &mut stream, &data, &row);
-    codewords::from_stream(out, &stream, blocks::total_codewords(m.version));
+    let room = blockwise::data_length(&row);
+    if 8 * room < bits {
+        return 13;
+    }
+    0
+}
+
+// What script and payload are turned away for, or 0.
+fn script_refusal(m: Mark, script: &[u8], payload: &[u8]) -> usize
+    requires { ⌜ Ranged m ⌝ }
+    ensures { λ r. ⌜ r ≡ scriptRefusal (m .version) (m .level) (now (script .entry)) (now (payload .entry)) ⌝ }
+{
+    match script::check_script(script, payload) {
+        Check::Bits(n) => bits_refusal(m, n),
+        Check::Malformed => 11,
+        Check::Lacking => 12,
+        Check::Empty => 8,
+    }
+}
+
+// The stream of a script and payload, in the blocks of a row. `data` has room for the data codewords of the row.
+fn encode_stream(stream: &mut [u8], data: &mut [u8], row: &[u8], script: &[u8], payload: &[u8])
+    requires { ⌜ (length (now row) ≡ 9) × T (rowHolds (now row) (rowLength (now row))) × (rowLength (now row) ≤ length (now stream)) × (length (now «data») ≡ totalData (shapes (now row))) ⌝ }
+    requires { ⌜ Fits (now script) (now payload) (length (now «data»)) ⌝ }
+    ensures { λ _. ⌜ take (rowLength (now (row .entry))) (now (stream .exit)) ≡ streamOf (shapes (now (row .entry))) (encoded (totalData (shapes (now (row .entry)))) (commandsOf (now (script .entry)) (now (payload .entry)))) ⌝ }
+{
+    encoding::encode(script, payload, data);
+    let field = field::han_xin();
+    blockwise::write_blocks(&field, stream, data, row);
+}
+
+// The same for the row of a version and level.
+fn write_stream(stream: &mut [u8], m: Mark, script: &[u8], payload: &[u8])
+    requires { ⌜ Ranged m × (3886 ≤ length (now stream)) ⌝ }
+    requires { ⌜ Fits (now script) (now payload) (roomOf (m .version) (m .level)) ⌝ }
+    ensures { λ _. ⌜ take (totalOf (m .version)) (now (stream .exit)) ≡ streamOf (shapesOf (m .version) (m .level)) (encoded (roomOf (m .version) (m .level)) (commandsOf (now (script .entry)) (now (payload .entry)))) ⌝ }
+{
+    let row = blocks::block_row(m.version, m.level);
+    let room = blockwise::data_length(&row);
+    let mut data = [0u8; 3886];
+    encode_stream(stream, &mut data[..room], &row, script, payload);
+}
+
+// A stream in the data modules of a square; the information modules are light.
+fn place_stream(square: &mut [u8], kinds: &[u8], m: Mark, stream: &[u8])
+    requires { ⌜ Ready m (now kinds) × (length (now square) ≡ sideOf (m .version) * sideOf (m .version)) × (3886 ≤ length (now stream)) ⌝ }
+    ensures { λ _. ⌜ now (square .exit) ≡ squareOf (maskBit (sideOf (m .version)) (m .mask)) (layoutOf (m .version)) (take (totalOf (m .version)) (now (stream .entry))) ⌝ }
+{
+    let total = blocks::total_codewords(m.version);
+    let side = Version { number: m.version }.side();
+    let mut found = [0u8; 3886];
+    codewords::from_stream(&mut found, stream, total);
+    codewords::place_codewords(square, kinds, &found, total, side, m.mask);
 }
 
 // The mark, in all modules of a square.
-fn write_mark(
-    square: &mut [u8],
-    kinds: &[u8],
-    m: Mark,
-    script: &[u8],
-    payload: &[u8],
-    room: usize,
-) {
-    let mut found = [0u8; 3886];
-    codewords(&mut found, m, script, payload, room);
+fn write_mark(square: &mut [u8], kinds: &[u8], m: Mark, script: &[u8], payload: &[u8])
+    requires { ⌜ Ready m (now kinds) × (writeRefusal (m .version) (m .level) (m .mask) (now script) (now payload) (now square) ≡ 0) ⌝ }
+    ensures { λ _. ⌜ now (square .exit) ≡ markOf (m .version) (m .level) (m .mask) (now (script .entry)) (now (payload .entry)) ⌝ }
+{
     let side = Version { number: m.version }.side();
-    codewords::place_codewords(
-        square,
-        kinds,
-        &found,
-        blocks::total_codewords(m.version),
-        side,
-        m.mask,
-    );
+    let mut stream = [0u8; 3886];
+    write_stream(&mut stream, m, script, payload);
+    place_stream(square, kinds, m, &stream);
+    information::write_info(square, side, m.word);
+}
+
+// The mark and 0, or the first refusal behind that of version, level and mask.
+fn write_ready(square: &mut [u8], kinds: &[u8], m: Mark, script: &[u8], payload: &[u8]) -> usize
+    requires { ⌜ Ready m (now kinds) ⌝ }
+    ensures { λ r. ⌜ writingOf r (now (square .exit)) ≡ writeOf (m .version) (m .level) (m .mask) (now (script .entry)) (now (payload .entry)) (now (square .entry)) ⌝ }
+{
+    let place = place_refusal(m, kinds, square.len());
+    if place != 0 {
+        return place;
+    }
+    let text = script_refusal(m, script, payload);
+    if text != 0 {
+        return text;
+    }
+    write_mark(square, kinds, m, script, payload);
+    0
 }
 
 pub fn write_square(
@@ -58,33 +144,13 @@ pub fn write_square(
     let InfoBits::Word(word) = information::info_bits(version, level, mask) else {
         return 1;
     };
-    let side = Version { number: version }.side();
     let mut kinds = [0u8; 35721];
     symbol::layout(version, &mut kinds);
-    if blocks::data_modules(&kinds, side * side) < 8 * blocks::total_codewords(version) {
-        return 1;
-    }
-    if square.len() != side * side {
-        return 2;
-    }
-    match script::check_script(script, payload) {
-        Check::Bits(n) => {
-            let row = blocks::block_row(version, level);
-            let room = blockwise::data_length(&row);
-            if 8 * room < n {
-                return 13;
-            }
-            let m = Mark {
-                version: version,
-                level: level,
-                mask: mask,
-            };
-            write_mark(square, &kinds, m, script, payload, room);
-            information::write_info(square, side, word);
-            0
-        }
-        Check::Malformed => 11,
-        Check::Lacking => 12,
-        Check::Empty => 8,
-    }
+    let m = Mark {
+        version: version,
+        level: level,
+        mask: mask,
+        word: word,
+    };
+    write_ready(square, &kinds, m, script, payload)
 }

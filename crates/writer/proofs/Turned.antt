@@ -1,0 +1,204 @@
+-- The refusals of writing, part by part: each function's number is the one that writing gives. Assumes nothing.
+use mathlib.Core.Path.{_≡_, refl, sym, ap, _∙_}
+use mathlib.Core.Logic.{_≢_}
+use mathlib.Core.Bool.{Bool, true, false, cond, _&&_}
+use mathlib.Core.List.{List, [], _∷_, _++_}
+use Prim.Native.Nat.{ℕ, _*_, _≤_, _<_}
+use native.Mathlib.Omega.{arith}
+use native.Mathlib.Decide.{ℕ-discrete}
+use borrow.Author.Tests.{eq-eqb, ne-eqb, le-leb, lt-leb}
+use lib.Dec.{T, eqb, leb}
+use lib.ListN.{length, take}
+use Rattle.symbol.specs.Version.{sideOf}
+use Rattle.symbol.specs.Layout.{layoutOf}
+use Rattle.information.specs.Information.{isInfo}
+use Rattle.blocks.specs.Blocks.{totalOf, hasBlocks, rowHolds, rowOf, dataModules}
+use Rattle.blocks.proofs.Theorems.{row-holds}
+use Rattle.script.specs.declared.Check.{Check}
+use Rattle.script.specs.declared.Check.the-variants.{Bits}
+use Rattle.script.specs.Check.{checkOf, bitsOfCheck}
+use Rattle.script.specs.Check.{refusalOf as checkRefusal}
+use Rattle.squares.specs.Read.{firstRefusal, unless}
+use Rattle.squares.specs.Write.{Writing, roomOf, writingOf, writeRefusal, markOf, writeOf}
+use Rattle.squares.proofs.Marks.{info-is}
+use Rattle.squares.proofs.Refusals.{unless-true, first-skips, first-takes, true-both}
+use Rattle.writer.specs.declared.Mark.{Mark}
+use Rattle.writer.specs.Inner.{Ready, placeRefusal, scriptRefusal}
+
+-- ---- tests
+
+is-true : (b : Bool) → T b → b ≡ true
+is-true true t = refl
+is-true false t = absurd t
+
+false-both : (a b : Bool) → b ≡ false → (a && b) ≡ false
+false-both true b e = e
+false-both false b e = refl
+
+-- a test that fails gives its number
+unless-false : (b : Bool) (n : ℕ) → b ≡ false → unless b n ≡ n
+unless-false b n e = ap (λ (t : Bool). unless t n) e
+
+-- ---- the first refusal of two lists: that of the first list, or if there is none, that of the second
+
+first-left : (ns ms : List ℕ) → firstRefusal ns ≢ 0 → firstRefusal (ns ++ ms) ≡ firstRefusal ns
+unfolding firstRefusal
+first-left [] ms d = absurd (d refl)
+first-left (n ∷ ns) ms d = elim (ℕ-discrete n 0) [
+  | yes z ↦ first-skips n (ns ++ ms) z ∙ first-left ns ms (λ e. d (first-skips n ns z ∙ e)) ∙ sym (first-skips n ns z)
+  | no y ↦ first-takes n (ns ++ ms) y ∙ sym (first-takes n ns y)
+]
+
+first-right : (ns ms : List ℕ) → firstRefusal ns ≡ 0 → firstRefusal (ns ++ ms) ≡ firstRefusal ms
+unfolding firstRefusal
+first-right [] ms e = refl
+first-right (n ∷ ns) ms e = elim (ℕ-discrete n 0) [
+  | yes z ↦ first-skips n (ns ++ ms) z ∙ first-right ns ms (sym (first-skips n ns z) ∙ e)
+  | no y ↦ absurd (y (sym (first-takes n ns y) ∙ e))
+]
+
+-- of one number, this
+first-one : (n : ℕ) → firstRefusal (n ∷ []) ≡ n
+unfolding firstRefusal
+first-one n = elim (ℕ-discrete n 0) [
+  | yes z ↦ first-skips n [] z ∙ sym z
+  | no y ↦ first-takes n [] y
+]
+
+-- ---- 13: more bits than there is room for
+
+-- n is the number of data codewords
+module _ (v l bits n : ℕ) (e : n ≡ roomOf v l) where
+  pub too-many : 8 * n < bits → 13 ≡ unless (leb bits (8 * roomOf v l)) 13
+  too-many h = sym (unless-false (leb bits (8 * roomOf v l)) 13 (lt-leb bits (8 * roomOf v l) (omega arith)))
+
+  pub no-more : bits ≤ 8 * n → 0 ≡ unless (leb bits (8 * roomOf v l)) 13
+  no-more h = sym (unless-true (leb bits (8 * roomOf v l)) 13 (le-leb bits (8 * roomOf v l) (omega arith)))
+
+-- ---- 11, 12, 8, 13: script and payload, by the case c of the check's answer
+
+module _ (v l : ℕ) (s p : List ℕ) where
+  of-check : Check → ℕ
+  of-check c = firstRefusal (checkRefusal c ∷ unless (leb (bitsOfCheck c) (8 * roomOf v l)) 13 ∷ [])
+
+  pub script-bits : (c : Check) (n x : ℕ) → c ≡ Bits n → c ≡ checkOf s p → x ≡ unless (leb n (8 * roomOf v l)) 13 → x ≡ scriptRefusal v l s p
+  unfolding scriptRefusal of-check
+  script-bits c n x e f h =
+      let u = unless (leb n (8 * roomOf v l)) 13 in
+      h ∙ sym (first-skips 0 (u ∷ []) refl ∙ first-one u) ∙ ap of-check (sym e ∙ f)
+
+  pub script-other : (c k : Check) → c ≡ k → c ≡ checkOf s p → 0 < checkRefusal k → checkRefusal k ≡ scriptRefusal v l s p
+  unfolding scriptRefusal of-check
+  script-other c k e f h =
+      sym (first-takes (checkRefusal k) (unless (leb (bitsOfCheck k) (8 * roomOf v l)) 13 ∷ []) (λ z. omega arith)) ∙ ap of-check (sym e ∙ f)
+
+-- ---- 1 and 2: the version's data modules, and the size of the square
+
+module _ (m : Mark) (ks : List ℕ) (R : Ready m ks) (size side total r : ℕ) (es : side ≡ sideOf (m .version)) (et : total ≡ totalOf (m .version))
+    (er : r ≡ dataModules (take (side * side) ks)) where
+  abbrev enough : Bool
+  enough = leb (8 * totalOf (m .version)) (dataModules (layoutOf (m .version)))
+
+  abbrev holds : Bool
+  holds = rowHolds (rowOf (m .version) (m .level)) (totalOf (m .version))
+
+  abbrev sized : Bool
+  sized = eqb size (sideOf (m .version) * sideOf (m .version))
+
+  counted : r ≡ dataModules (layoutOf (m .version))
+  counted = er ∙ ap (λ (n : ℕ). dataModules (take (n * n) ks)) es ∙ ap dataModules (R .kinds)
+
+  pub too-few : r < 8 * total → 1 ≡ placeRefusal (m .version) (m .level) size
+  unfolding placeRefusal hasBlocks
+  too-few h =
+      let b : (holds && enough) ≡ false = false-both holds enough (lt-leb (8 * totalOf (m .version)) (dataModules (layoutOf (m .version))) (omega (arith, counted))) in
+      let u : unless (holds && enough) 1 ≡ 1 = unless-false (holds && enough) 1 b in
+      sym (first-takes (unless (holds && enough) 1) (unless sized 2 ∷ []) (λ z. omega arith) ∙ u)
+
+  module _ (h : 8 * total ≤ r) where
+    blocked : placeRefusal (m .version) (m .level) size ≡ unless sized 2
+    unfolding placeRefusal hasBlocks
+    blocked =
+        let a = is-true holds (row-holds (m .version) (m .level) (R .ranged .low) (R .ranged .high) (R .ranged .level)) in
+        let b = le-leb (8 * totalOf (m .version)) (dataModules (layoutOf (m .version))) (omega (arith, counted)) in
+        first-skips (unless (holds && enough) 1) (unless sized 2 ∷ []) (unless-true (holds && enough) 1 (true-both holds enough a b)) ∙ first-one (unless sized 2)
+
+    squared : side * side ≡ sideOf (m .version) * sideOf (m .version)
+    squared = ap (λ (n : ℕ). n * n) es
+
+    pub wrong-size : size ≢ side * side → 2 ≡ placeRefusal (m .version) (m .level) size
+    wrong-size d = sym (blocked ∙ unless-false sized 2 (ne-eqb size (sideOf (m .version) * sideOf (m .version)) (λ e. d (e ∙ sym squared))))
+
+    pub right-size : size ≡ side * side → 0 ≡ placeRefusal (m .version) (m .level) size
+    right-size e = sym (blocked ∙ unless-true sized 2 (eq-eqb size (sideOf (m .version) * sideOf (m .version)) (e ∙ squared)))
+
+-- ---- what a writing answers
+
+module _ (v l k : ℕ) (s p sq : List ℕ) where
+  abbrev refusal : ℕ
+  refusal = writeRefusal v l k s p sq
+
+  abbrev answer : Bool → Writing
+  answer t = cond t (writingOf 0 (markOf v l k s p)) (writingOf refusal sq)
+
+  -- a refusal leaves the square
+  answers-refusal : (n : ℕ) → n ≢ 0 → n ≡ refusal → writingOf n sq ≡ writeOf v l k s p sq
+  unfolding writeOf
+  answers-refusal n d e = ap (λ (x : ℕ). writingOf x sq) e ∙ sym (ap answer (ne-eqb refusal 0 (λ z. d (e ∙ z))))
+
+  -- no refusal: the mark
+  answers-mark : (g : List ℕ) → refusal ≡ 0 → g ≡ markOf v l k s p → writingOf 0 g ≡ writeOf v l k s p sq
+  unfolding writeOf
+  answers-mark g z e = ap (writingOf 0) e ∙ sym (ap answer (eq-eqb refusal 0 z))
+
+  abbrev places : List ℕ
+  places = unless (hasBlocks v l) 1 ∷ unless (eqb (length sq) (sideOf v * sideOf v)) 2 ∷ []
+
+  abbrev texts : List ℕ
+  texts = checkRefusal (checkOf s p) ∷ unless (leb (bitsOfCheck (checkOf s p)) (8 * roomOf v l)) 13 ∷ []
+
+  -- version, level or mask outside its range
+  pub answers-one : isInfo v l k ≡ false → writingOf 1 sq ≡ writeOf v l k s p sq
+  unfolding writeRefusal
+  answers-one e =
+      let u : unless (isInfo v l k) 1 ≡ 1 = unless-false (isInfo v l k) 1 e in
+      answers-refusal 1 (λ z. omega arith) (sym (first-takes (unless (isInfo v l k) 1) (places ++ texts) (λ z. omega arith) ∙ u))
+
+-- the three in their ranges, and x the number of the place
+module _ (m : Mark) (ks : List ℕ) (R : Ready m ks) (s p sq : List ℕ) (x : ℕ) (e : x ≡ placeRefusal (m .version) (m .level) (length sq)) where
+  abbrev number : ℕ
+  number = writeRefusal (m .version) (m .level) (m .mask) s p sq
+
+  abbrev first : List ℕ
+  first = places (m .version) (m .level) (m .mask) s p sq
+
+  abbrev second : List ℕ
+  second = texts (m .version) (m .level) (m .mask) s p sq
+
+  behind : number ≡ firstRefusal (first ++ second)
+  unfolding writeRefusal
+  behind =
+      let i = info-is (m .version) (m .level) (m .mask) (record { low = R .ranged .low; high = R .ranged .high; level = R .ranged .level; mask = R .ranged .mask }) in
+      first-skips (unless (isInfo (m .version) (m .level) (m .mask)) 1) (first ++ second) (unless-true (isInfo (m .version) (m .level) (m .mask)) 1 i)
+
+  -- where it is not 0, it is the answer
+  pub answers-place : x ≢ 0 → writingOf x sq ≡ writeOf (m .version) (m .level) (m .mask) s p sq
+  unfolding placeRefusal
+  answers-place d = answers-refusal (m .version) (m .level) (m .mask) s p sq x d (e ∙ sym (behind ∙ first-left first second (λ z. d (e ∙ z))))
+
+  -- else the number y of script and payload is
+  module _ (z : x ≡ 0) (y : ℕ) (f : y ≡ scriptRefusal (m .version) (m .level) s p) where
+    turned-script : y ≡ number
+    unfolding placeRefusal scriptRefusal
+    turned-script = f ∙ sym (behind ∙ first-right first second (sym e ∙ z))
+
+    pub answers-script : y ≢ 0 → writingOf y sq ≡ writeOf (m .version) (m .level) (m .mask) s p sq
+    answers-script d = answers-refusal (m .version) (m .level) (m .mask) s p sq y d turned-script
+
+    -- and where both are 0, nothing is turned away, and the mark is written
+    module _ (o : y ≡ 0) where
+      pub nothing-turned : number ≡ 0
+      nothing-turned = sym turned-script ∙ o
+
+      pub answers-zero : (g : List ℕ) → g ≡ markOf (m .version) (m .level) (m .mask) s p → writingOf 0 g ≡ writeOf (m .version) (m .level) (m .mask) s p sq
+      answers-zero g h = answers-mark (m .version) (m .level) (m .mask) s p sq g nothing-turned h

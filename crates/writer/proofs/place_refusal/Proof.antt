@@ -1,0 +1,56 @@
+-- `place_refusal` meets its contract: 1 for too few data modules, 2 for another size, else 0. Assumes nothing.
+use mathlib.Core.Path.{ap}
+use Prim.Native.Nat.{ℕ, _*_}
+use native.Mathlib.Omega.{arith}
+use Rattle.writer.proofs.Starts.{square-small}
+use Rattle.writer.proofs.Turned.{too-few, wrong-size, right-size}
+use borrow.Author.Needs.{needs}
+use Rattle.writer.proofs.place_refusal.Statement.{statement}
+use Rattle.writer.proofs.place_refusal.Tie as tie
+
+side-requires : tie.Need-side-requires
+side-requires c κs = search needs
+
+total-codewords-requires : tie.Need-total-codewords-requires
+total-codewords-requires c κs = search needs
+
+mul-data-modules : tie.Need-mul-data-modules
+mul-data-modules c = omega (arith, square-small _ _ (c .before .before .before .pre .ranged .high) (c .before .side .ensures))
+
+data-modules-requires : tie.Need-data-modules-requires
+data-modules-requires c κs = omega (arith, ap (λ (n : ℕ). n * n) (c .before .side .ensures), c .before .before .before .pre .long)
+
+mul-if1 : tie.Need-mul-if1
+mul-if1 c = search needs
+
+returns : tie.Need-returns
+returns c =
+    let o = c .before .before .before .before .before in
+    too-few _ _ (o .pre) (o .args .size) _ _ _ (c .before .before .before .side .ensures) (c .before .before .total-codewords .ensures .0) (c .before .data-modules .ensures) (c .if1 .taken)
+
+mul-if2 : tie.Need-mul-if2
+mul-if2 c = omega (arith, square-small _ _ (c .before .before .before .before .before .pre .ranged .high) (c .before .before .before .side .ensures))
+
+returns-2 : tie.Need-returns-2
+returns-2 c =
+    let o = c .before .before .before .before .before .before in
+    wrong-size _ _ (o .pre) (o .args .size) _ _ _ (c .before .before .before .before .side .ensures) (c .before .before .before .total-codewords .ensures .0) (c .before .before .data-modules .ensures) (omega (arith, c .before .if1 .left)) (c .if2 .taken)
+
+returns-3 : tie.Need-returns-3
+returns-3 c =
+    let o = c .before .before .before .before .before .before in
+    right-size _ _ (o .pre) (o .args .size) _ _ _ (c .before .before .before .before .side .ensures) (c .before .before .before .total-codewords .ensures .0) (c .before .before .data-modules .ensures) (omega (arith, c .before .if1 .left)) (c .if2 .left)
+
+pub place-refusal-spec : {M : Type 1} → statement M
+place-refusal-spec =
+    tie.close
+    (tie.spec
+    side-requires
+    total-codewords-requires
+    mul-data-modules
+    data-modules-requires
+    mul-if1
+    returns
+    mul-if2
+    returns-2
+    returns-3)

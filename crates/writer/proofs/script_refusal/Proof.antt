@@ -1,0 +1,52 @@
+-- `script_refusal` meets its contract: one case of the check's answer after the other. Assumes nothing.
+use native.Mathlib.Omega.{arith}
+use Rattle.script.specs.declared.Check.the-variants.{Malformed, Lacking, Empty}
+use Rattle.writer.proofs.Turned.{script-bits, script-other}
+use borrow.Author.Needs.{needs}
+use Rattle.writer.proofs.script_refusal.Statement.{statement}
+use Rattle.writer.proofs.script_refusal.Tie as tie
+
+check-script-requires : tie.Need-check-script-requires
+check-script-requires c κs = search needs
+
+enum-known-n : tie.Need-enum-known-n
+enum-known-n c = search needs
+
+bits-refusal-requires : tie.Need-bits-refusal-requires
+bits-refusal-requires c κs = search needs
+
+enum-told : tie.Need-enum-told
+enum-told c = search needs
+
+enum-told-2 : tie.Need-enum-told-2
+enum-told-2 c = search needs
+
+enum-told-3 : tie.Need-enum-told-3
+enum-told-3 c = search needs
+
+returns : tie.Need-returns
+returns c = script-bits _ _ _ _ _ _ _ (c .before .before .n .given .1) (c .before .before .before .before .check-script .ensures) (c .bits-refusal .ensures)
+
+returns-2 : tie.Need-returns-2
+returns-2 c = script-other _ _ _ _ _ Malformed (c .enum-told .given .1) (c .before .before .check-script .ensures) (omega arith)
+
+returns-3 : tie.Need-returns-3
+returns-3 c = script-other _ _ _ _ _ Lacking (c .enum-told2 .given .1) (c .before .before .check-script .ensures) (omega arith)
+
+returns-4 : tie.Need-returns-4
+returns-4 c = script-other _ _ _ _ _ Empty (c .enum-told3 .given .1) (c .before .before .check-script .ensures) (omega arith)
+
+pub script-refusal-spec : {M : Type 1} → statement M
+script-refusal-spec =
+    tie.close
+    (tie.spec
+    check-script-requires
+    enum-known-n
+    bits-refusal-requires
+    enum-told
+    enum-told-2
+    enum-told-3
+    returns
+    returns-2
+    returns-3
+    returns-4)

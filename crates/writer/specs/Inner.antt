@@ -1,0 +1,36 @@
+-- What inner functions say of each other. Nobody has to believe it: the contract of the operation does not cite it.
+use mathlib.Core.Path.{_≡_}
+use mathlib.Core.List.{List, [], _∷_}
+use Prim.Native.Nat.{ℕ, _*_, _≤_}
+use lib.Dec.{leb, eqb}
+use lib.ListN.{length, take}
+use Rattle.symbol.specs.Version.{sideOf}
+use Rattle.symbol.specs.Layout.{layoutOf}
+use Rattle.information.specs.Information.{infoBits}
+use Rattle.blocks.specs.Blocks.{hasBlocks}
+use Rattle.script.specs.Check.{checkOf, bitsOfCheck, refusalOf}
+use Rattle.squares.specs.Read.{firstRefusal, unless}
+use Rattle.squares.specs.Write.{roomOf}
+use Rattle.writer.specs.declared.Mark.{Mark}
+
+-- version, level and mask are in their ranges, and the word is theirs
+pub record Ranged (m : Mark) : Type 0 where
+  pub low : 1 ≤ m .version
+  pub high : m .version ≤ 84
+  pub level : m .level ≤ 3
+  pub mask : m .mask ≤ 3
+  pub word : m .word ≡ infoBits (m .version) (m .level) (m .mask)
+
+-- and a buffer begins with the kinds of the version's modules
+pub record Ready (m : Mark) (ks : List ℕ) : Type 0 where
+  pub ranged : Ranged m
+  pub long : sideOf (m .version) * sideOf (m .version) ≤ length ks
+  pub kinds : take (sideOf (m .version) * sideOf (m .version)) ks ≡ layoutOf (m .version)
+
+-- the refusals of writeRefusal in two parts, behind that of version, level and mask: those of blocks and square size ..
+unfoldable pub placeRefusal : ℕ → ℕ → ℕ → ℕ
+placeRefusal v level size = firstRefusal (unless (hasBlocks v level) 1 ∷ unless (eqb size (sideOf v * sideOf v)) 2 ∷ [])
+
+-- .. and those of script and payload
+unfoldable pub scriptRefusal : ℕ → ℕ → List ℕ → List ℕ → ℕ
+scriptRefusal v level s p = firstRefusal (refusalOf (checkOf s p) ∷ unless (leb (bitsOfCheck (checkOf s p)) (8 * roomOf v level)) 13 ∷ [])
