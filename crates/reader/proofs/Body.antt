@@ -2,7 +2,7 @@
 use mathlib.Core.Path.{_≡_, refl, sym, ap, subst, _∙_}
 use mathlib.Core.Logic.{_≢_}
 use mathlib.Core.Bool.{Bool, cond}
-use mathlib.Core.List.{List, [], _∷_, _++_}
+use mathlib.Core.List.{List, _++_}
 use Prim.Native.Nat.{ℕ, _*_, _≤_, _<_}
 use native.Mathlib.Omega.{arith}
 use native.Mathlib.Decide.{ℕ-discrete}
@@ -28,6 +28,7 @@ use Rattle.segments.specs.FromData.{Outcome, fromData}
 use Rattle.squares.specs.Receipt.{receiptOf, refusalReceipt}
 use Rattle.squares.specs.Read.{Reading, readingOf, refused, streamFrom, told, bodyOf}
 use Rattle.squares.proofs.Modules.{stream-length}
+use Rattle.squares.proofs.Demand.{data-le}
 use Rattle.squares.proofs.Starts.{layout-front, has-blocks, no-blocks}
 use Rattle.reader.specs.declared.Mark.{Mark}
 use Rattle.reader.specs.declared.Told.{Told}
@@ -77,11 +78,6 @@ drawn m sq out ks F h e =
     record { room = f .0; front = f .1 }
 
 -- ---- the stream of a square
-
-data-le : (bs : List Shape) → totalData bs ≤ totalSize bs
-unfolding totalData totalSize
-data-le [] = omega arith
-data-le (b ∷ bs) = omega (arith, data-le bs)
 
 module _ (m : Mark) (sq ks : List ℕ) (F : Fitting m sq) (D : Drawn (m .version) ks) where
   abbrev v : ℕ

@@ -20,7 +20,7 @@ use Rattle.information.specs.Information.{isInfo, copyOf, nearestRefusal, neare
 use Rattle.blocks.specs.Blocks.{hasBlocks}
 use Rattle.squares.specs.Receipt.{refusalReceipt}
 use Rattle.squares.specs.Read.{Reading, readingOf, refused, firstRefusal, unless, areModules, levelIn, maskIn, distanceIn, readRefusal, knownRefusal, bodyOf, withReceipt, readOf, readKnownOf}
-use Rattle.squares.proofs.Refusals.{true-unless, false-unless, unless-true, unless-false, first-skips, first-takes, first-none, eqb-fact}
+use Rattle.squares.proofs.Refusals.{true-unless, false-unless, unless-true, unless-false, first-skips, first-takes, first-left, first-none, eqb-fact}
 use Rattle.squares.proofs.Modules.{modules-below}
 use Rattle.squares.proofs.Marks.{Ranges, ranges, version-is}
 use Rattle.squares.proofs.Starts.{in-body, no-receipt, in-refusal, side-range, side-back, level-range, mask-range}
@@ -31,14 +31,7 @@ use Rattle.reader.specs.Inner as near
 -- ---- two refusals, and others behind them
 
 two-taken : (x y n : ℕ) (ns : List ℕ) → n ≡ firstRefusal (x ∷ y ∷ []) → n ≢ 0 → firstRefusal (x ∷ y ∷ ns) ≡ n
-unfolding firstRefusal
-two-taken x y n ns e d = elim (ℕ-discrete x 0) [
-  | no a ↦ first-takes x (y ∷ ns) a ∙ sym (e ∙ first-takes x (y ∷ []) a)
-  | yes a ↦ elim (ℕ-discrete y 0) [
-    | no b ↦ first-skips x (y ∷ ns) a ∙ first-takes y ns b ∙ sym (e ∙ first-skips x (y ∷ []) a ∙ first-takes y [] b)
-    | yes b ↦ absurd (d (e ∙ first-skips x (y ∷ []) a ∙ first-skips y [] b))
-  ]
-]
+two-taken x y n ns e d = first-left (x ∷ y ∷ []) ns (λ z. d (e ∙ z)) ∙ sym e
 
 two-skipped : (x y n : ℕ) (ns : List ℕ) → n ≡ firstRefusal (x ∷ y ∷ []) → n ≡ 0 → (x ≡ 0) × (y ≡ 0) × (firstRefusal (x ∷ y ∷ ns) ≡ firstRefusal ns)
 two-skipped x y n ns e z =

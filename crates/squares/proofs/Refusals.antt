@@ -1,7 +1,8 @@
 -- The first refusal of a list of tests: 0 exactly where every test holds. Assumes nothing.
 use mathlib.Core.Path.{_≡_, refl, sym, ap, ap₂, _∙_}
 use mathlib.Core.Bool.{Bool, true, false, cond, _&&_}
-use mathlib.Core.List.{List, [], _∷_}
+use mathlib.Core.Logic.{_≢_}
+use mathlib.Core.List.{List, [], _∷_, _++_}
 use Prim.Native.Nat.{ℕ, suc, _≤_, _<_}
 use native.Mathlib.Omega.{arith}
 use native.Mathlib.Decide.{ℕ-discrete}
@@ -39,6 +40,32 @@ pub first-none : (n : ℕ) (ns : List ℕ) → firstRefusal (n ∷ ns) ≡ 0 →
 first-none n ns e = elim (ℕ-discrete n 0) [
   | yes z ↦ (z, sym (first-skips n ns z) ∙ e)
   | no d ↦ absurd (d (sym (first-takes n ns d) ∙ e))
+]
+
+-- ---- the first refusal of two lists: that of the first list, or if there is none, that of the second
+
+pub first-left : (ns ms : List ℕ) → firstRefusal ns ≢ 0 → firstRefusal (ns ++ ms) ≡ firstRefusal ns
+unfolding firstRefusal
+first-left [] ms d = absurd (d refl)
+first-left (n ∷ ns) ms d = elim (ℕ-discrete n 0) [
+  | yes z ↦ first-skips n (ns ++ ms) z ∙ first-left ns ms (λ e. d (first-skips n ns z ∙ e)) ∙ sym (first-skips n ns z)
+  | no y ↦ first-takes n (ns ++ ms) y ∙ sym (first-takes n ns y)
+]
+
+pub first-right : (ns ms : List ℕ) → firstRefusal ns ≡ 0 → firstRefusal (ns ++ ms) ≡ firstRefusal ms
+unfolding firstRefusal
+first-right [] ms e = refl
+first-right (n ∷ ns) ms e = elim (ℕ-discrete n 0) [
+  | yes z ↦ first-skips n (ns ++ ms) z ∙ first-right ns ms (sym (first-skips n ns z) ∙ e)
+  | no y ↦ absurd (y (sym (first-takes n ns y) ∙ e))
+]
+
+-- of one number, this
+pub first-one : (n : ℕ) → firstRefusal (n ∷ []) ≡ n
+unfolding firstRefusal
+first-one n = elim (ℕ-discrete n 0) [
+  | yes z ↦ first-skips n [] z ∙ sym z
+  | no y ↦ first-takes n [] y
 ]
 
 -- ---- tests as facts

@@ -1,19 +1,17 @@
 -- The refusals of writing, part by part: each function's number is the one that writing gives. Assumes nothing.
 use mathlib.Core.Path.{_≡_, refl, sym, ap, _∙_}
 use mathlib.Core.Logic.{_≢_}
-use mathlib.Core.Bool.{Bool, true, false, cond, _&&_}
+use mathlib.Core.Bool.{Bool, false, cond}
 use mathlib.Core.List.{List, [], _∷_, _++_}
 use Prim.Native.Nat.{ℕ, _*_, _≤_, _<_}
 use native.Mathlib.Omega.{arith}
-use native.Mathlib.Decide.{ℕ-discrete}
 use borrow.Author.Tests.{eq-eqb, ne-eqb, le-leb, lt-leb}
-use lib.Dec.{T, eqb, leb}
+use lib.Dec.{eqb, leb}
 use lib.ListN.{length, take}
 use Rattle.symbol.specs.Version.{sideOf}
 use Rattle.symbol.specs.Layout.{layoutOf}
 use Rattle.information.specs.Information.{isInfo}
-use Rattle.blocks.specs.Blocks.{totalOf, hasBlocks, rowHolds, rowOf, dataModules}
-use Rattle.blocks.proofs.Theorems.{row-holds}
+use Rattle.blocks.specs.Blocks.{totalOf, hasBlocks, dataModules}
 use Rattle.script.specs.declared.Check.{Check}
 use Rattle.script.specs.declared.Check.the-variants.{Bits}
 use Rattle.script.specs.Check.{checkOf, bitsOfCheck}
@@ -21,49 +19,10 @@ use Rattle.script.specs.Check.{refusalOf as checkRefusal}
 use Rattle.squares.specs.Read.{firstRefusal, unless}
 use Rattle.squares.specs.Write.{Writing, roomOf, writingOf, writeRefusal, markOf, writeOf}
 use Rattle.squares.proofs.Marks.{info-is}
-use Rattle.squares.proofs.Refusals.{unless-true, first-skips, first-takes, true-both}
+use Rattle.squares.proofs.Refusals.{unless-true, unless-false, first-skips, first-takes, first-left, first-right, first-one}
+use Rattle.squares.proofs.Starts.{has-blocks, no-blocks}
 use Rattle.writer.specs.declared.Mark.{Mark}
 use Rattle.writer.specs.Inner.{Ready, placeRefusal, scriptRefusal}
-
--- ---- tests
-
-is-true : (b : Bool) → T b → b ≡ true
-is-true true t = refl
-is-true false t = absurd t
-
-false-both : (a b : Bool) → b ≡ false → (a && b) ≡ false
-false-both true b e = e
-false-both false b e = refl
-
--- a test that fails gives its number
-unless-false : (b : Bool) (n : ℕ) → b ≡ false → unless b n ≡ n
-unless-false b n e = ap (λ (t : Bool). unless t n) e
-
--- ---- the first refusal of two lists: that of the first list, or if there is none, that of the second
-
-first-left : (ns ms : List ℕ) → firstRefusal ns ≢ 0 → firstRefusal (ns ++ ms) ≡ firstRefusal ns
-unfolding firstRefusal
-first-left [] ms d = absurd (d refl)
-first-left (n ∷ ns) ms d = elim (ℕ-discrete n 0) [
-  | yes z ↦ first-skips n (ns ++ ms) z ∙ first-left ns ms (λ e. d (first-skips n ns z ∙ e)) ∙ sym (first-skips n ns z)
-  | no y ↦ first-takes n (ns ++ ms) y ∙ sym (first-takes n ns y)
-]
-
-first-right : (ns ms : List ℕ) → firstRefusal ns ≡ 0 → firstRefusal (ns ++ ms) ≡ firstRefusal ms
-unfolding firstRefusal
-first-right [] ms e = refl
-first-right (n ∷ ns) ms e = elim (ℕ-discrete n 0) [
-  | yes z ↦ first-skips n (ns ++ ms) z ∙ first-right ns ms (sym (first-skips n ns z) ∙ e)
-  | no y ↦ absurd (y (sym (first-takes n ns y) ∙ e))
-]
-
--- of one number, this
-first-one : (n : ℕ) → firstRefusal (n ∷ []) ≡ n
-unfolding firstRefusal
-first-one n = elim (ℕ-discrete n 0) [
-  | yes z ↦ first-skips n [] z ∙ sym z
-  | no y ↦ first-takes n [] y
-]
 
 -- ---- 13: more bits than there is room for
 
@@ -96,11 +55,8 @@ module _ (v l : ℕ) (s p : List ℕ) where
 
 module _ (m : Mark) (ks : List ℕ) (R : Ready m ks) (size side total r : ℕ) (es : side ≡ sideOf (m .version)) (et : total ≡ totalOf (m .version))
     (er : r ≡ dataModules (take (side * side) ks)) where
-  abbrev enough : Bool
-  enough = leb (8 * totalOf (m .version)) (dataModules (layoutOf (m .version)))
-
-  abbrev holds : Bool
-  holds = rowHolds (rowOf (m .version) (m .level)) (totalOf (m .version))
+  abbrev blocks : Bool
+  blocks = hasBlocks (m .version) (m .level)
 
   abbrev sized : Bool
   sized = eqb size (sideOf (m .version) * sideOf (m .version))
@@ -109,19 +65,17 @@ module _ (m : Mark) (ks : List ℕ) (R : Ready m ks) (size side total r : ℕ) (
   counted = er ∙ ap (λ (n : ℕ). dataModules (take (n * n) ks)) es ∙ ap dataModules (R .kinds)
 
   pub too-few : r < 8 * total → 1 ≡ placeRefusal (m .version) (m .level) size
-  unfolding placeRefusal hasBlocks
+  unfolding placeRefusal
   too-few h =
-      let b : (holds && enough) ≡ false = false-both holds enough (lt-leb (8 * totalOf (m .version)) (dataModules (layoutOf (m .version))) (omega (arith, counted))) in
-      let u : unless (holds && enough) 1 ≡ 1 = unless-false (holds && enough) 1 b in
-      sym (first-takes (unless (holds && enough) 1) (unless sized 2 ∷ []) (λ z. omega arith) ∙ u)
+      let u = unless-false blocks 1 (no-blocks (m .version) (m .level) (omega (arith, counted))) in
+      sym (first-takes (unless blocks 1) (unless sized 2 ∷ []) (λ z. omega (arith, u)) ∙ u)
 
   module _ (h : 8 * total ≤ r) where
     blocked : placeRefusal (m .version) (m .level) size ≡ unless sized 2
-    unfolding placeRefusal hasBlocks
+    unfolding placeRefusal
     blocked =
-        let a = is-true holds (row-holds (m .version) (m .level) (R .ranged .low) (R .ranged .high) (R .ranged .level)) in
-        let b = le-leb (8 * totalOf (m .version)) (dataModules (layoutOf (m .version))) (omega (arith, counted)) in
-        first-skips (unless (holds && enough) 1) (unless sized 2 ∷ []) (unless-true (holds && enough) 1 (true-both holds enough a b)) ∙ first-one (unless sized 2)
+        let b = has-blocks (m .version) (m .level) (R .ranged .low) (R .ranged .high) (R .ranged .level) (omega (arith, counted)) in
+        first-skips (unless blocks 1) (unless sized 2 ∷ []) (unless-true blocks 1 b) ∙ first-one (unless sized 2)
 
     squared : side * side ≡ sideOf (m .version) * sideOf (m .version)
     squared = ap (λ (n : ℕ). n * n) es

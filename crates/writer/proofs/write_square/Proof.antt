@@ -1,6 +1,7 @@
 -- `write_square` meets its contract: 1 where there is no word, else what the others answer. Assumes nothing.
 use native.Mathlib.Omega.{arith}
-use Rattle.writer.proofs.Starts.{no-word, ready}
+use Rattle.squares.proofs.Starts.{no-word}
+use Rattle.writer.proofs.Starts.{ready}
 use Rattle.writer.proofs.Turned.{answers-one}
 use borrow.Author.Needs.{needs}
 use Rattle.writer.proofs.write_square.Statement.{statement}
