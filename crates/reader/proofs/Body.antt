@@ -7,15 +7,15 @@ use Prim.Native.Nat.{ℕ, _*_, _≤_, _<_}
 use native.Mathlib.Omega.{arith}
 use native.Mathlib.Decide.{ℕ-discrete}
 use borrow.Author.Tests.{eq-eqb, ne-eqb}
-use lib.Dec.{T, eqb}
+use lib.Dec.{eqb}
 use lib.ListN.{length, take, drop, replicate}
 use lib.Seq.{take-at}
 use Rattle.symbol.specs.Version.{sideOf}
 use Rattle.symbol.specs.Layout.{layoutOf, layoutWritten}
 use Rattle.symbol.proofs.Coordinates.{square-le}
-use Rattle.blocks.specs.Blocks.{totalOf, rowOf, rowLength, rowHolds, dataModules, Shape, shapes, shapesOf, totalSize, totalData, cut, joined, dataParts}
-use Rattle.blocks.proofs.Rows.{Sound, total-shapes, total-small}
-use Rattle.blocks.proofs.Theorems.{row-holds, shapes-sound}
+use Rattle.blocks.specs.Blocks.{totalOf, rowOf, rowLength, dataModules, Shape, shapes, shapesOf, totalSize, cut, joined, dataParts}
+use Rattle.blocks.proofs.Rows.{Sound, total-shapes}
+use Rattle.blocks.proofs.Theorems.{shapes-sound}
 use Rattle.codewords.specs.Codewords.{maskBit, dataBits, codewordsOf, streamOf, streamIn}
 use Rattle.codewords.specs.Inner.{Legible}
 use Rattle.codewords.proofs.Placement.{data-front, length-data}
@@ -23,13 +23,12 @@ use Rattle.blockwise.specs.declared.Blocks.{Blocks}
 use Rattle.blockwise.specs.declared.Blocks.the-variants.{Corrected, Refused}
 use Rattle.blockwise.specs.Blockwise.{corrected, refusalOf, countOf, blocksOf, dataOf, numberOf, correctionsOf}
 use Rattle.blockwise.proofs.Corrects.{count-le}
-use Rattle.blockwise.proofs.Theorems.{row-holds-own, data-left}
+use Rattle.blockwise.proofs.Theorems.{data-left}
 use Rattle.segments.specs.FromData.{Outcome, fromData}
 use Rattle.squares.specs.Receipt.{receiptOf, refusalReceipt}
 use Rattle.squares.specs.Read.{Reading, readingOf, refused, streamFrom, told, bodyOf}
 use Rattle.squares.proofs.Modules.{stream-length}
-use Rattle.squares.proofs.Demand.{data-le}
-use Rattle.squares.proofs.Starts.{layout-front, has-blocks, no-blocks}
+use Rattle.squares.proofs.Starts.{layout-front, has-blocks, no-blocks, row-total, row-small}
 use Rattle.reader.specs.declared.Mark.{Mark}
 use Rattle.reader.specs.declared.Told.{Told}
 use Rattle.reader.specs.Inner.{receiptIn, Small, Refuses, Tells, Fitting, Drawn, readingIn, bodyOr1}
@@ -129,36 +128,27 @@ module _ (m : Mark) (sq ks : List ℕ) (F : Fitting m sq) (D : Drawn (m .version
     abbrev bs : List Shape
     bs = shapes row
 
-    holds : T (rowHolds row (totalOf v))
-    holds = subst (λ (r : List ℕ). T (rowHolds r (totalOf v))) (sym e) (row-holds v (m .level) (F .low) (F .high) (F .level))
-
-    pub row-length : rowLength row ≡ totalOf v
-    row-length = row-holds-own row (totalOf v) holds .0
-
-    pub row-own : T (rowHolds row (rowLength row))
-    row-own = row-holds-own row (totalOf v) holds .1
+    length-is : rowLength row ≡ totalOf v
+    length-is = row-total v (m .level) (F .low) (F .high) (F .level) row e
 
     sound : Sound bs
     unfolding shapesOf
     sound = subst (λ (r : List ℕ). Sound (shapes r)) (sym e) (shapes-sound v (m .level) (F .low) (F .high) (F .level))
 
     size : length stream ≡ totalSize bs
-    size = stream-length v (m .mask) sq ∙ sym row-length ∙ sym (total-shapes row)
-
-    pub data-room : totalData bs ≤ 3886
-    data-room = omega (arith, data-le bs, total-shapes row, row-length, total-small v (F .low) (F .high))
+    size = stream-length v (m .mask) sq ∙ sym length-is ∙ sym (total-shapes row)
 
     pub count-small : (r : Blocks) (n : ℕ) (st : List ℕ) → r ≡ Corrected n → (numberOf r ≡ 0 → correctionsOf r ≡ countOf (corrected bs st)) → n < 65536
     unfolding numberOf correctionsOf
     count-small r n st a c =
         let k : n ≡ countOf (corrected bs st) = sym (ap correctionsOf a) ∙ c (ap numberOf a) in
-        omega (arith, count-le bs st, total-shapes row, row-length, total-small v (F .low) (F .high))
+        omega (arith, count-le bs st, total-shapes row, row-small v (m .level) (F .low) (F .high) (F .level) row e)
 
     -- ---- its blocks, corrected
 
     module _ (st rest p s : List ℕ) (f : st ≡ stream ++ rest) where
       taken : take (rowLength row) st ≡ stream
-      taken = ap (take (rowLength row)) f ∙ take-at stream rest (rowLength row) (stream-length v (m .mask) sq ∙ sym row-length)
+      taken = ap (take (rowLength row)) f ∙ take-at stream rest (rowLength row) (stream-length v (m .mask) sq ∙ sym length-is)
 
       -- the reading by a row's blocks
       abbrev reading : List Shape → Reading

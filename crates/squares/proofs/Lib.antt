@@ -3,7 +3,7 @@ pub mod Refusals
 pub mod Modules
 pub mod Data
 pub mod Marks
-pub mod Starts
 pub mod Demand
+pub mod Starts
 pub mod Settle
 pub mod Theorems

@@ -1,6 +1,6 @@
 -- What reading and writing begin with: version, level and mask in their ranges, the version's layout, and whether it has blocks.
 -- Assumes nothing.
-use mathlib.Core.Path.{_≡_, refl, sym, ap, _∙_}
+use mathlib.Core.Path.{_≡_, refl, sym, ap, subst, _∙_}
 use mathlib.Core.Bool.{Bool, true, false, cond, _&&_}
 use mathlib.Core.List.{List, _++_}
 use mathlib.Core.Logic.{_≢_}
@@ -17,11 +17,14 @@ use Rattle.information.specs.declared.InfoBits.{InfoBits}
 use Rattle.information.specs.declared.InfoBits.the-variants.{Word, OutOfRange}
 use Rattle.information.specs.Information.{isInfo, infoRefusal, wordRefusalOf, copyOf, nearest, distance, nearestLevel, nearestMask}
 use Rattle.information.proofs.Apart.{nearest-le}
-use Rattle.blocks.specs.Blocks.{totalOf, rowOf, rowHolds, dataModules, hasBlocks}
+use Rattle.blocks.specs.Blocks.{totalOf, rowOf, rowLength, rowHolds, shapes, totalData, dataModules, hasBlocks}
+use Rattle.blocks.proofs.Rows.{total-small, total-shapes}
 use Rattle.blocks.proofs.Theorems.{row-holds}
+use Rattle.blockwise.proofs.Theorems.{row-holds-own}
 use Rattle.squares.specs.Read.{Reading, readingOf, refused, withReceipt, levelIn, maskIn}
 use Rattle.squares.proofs.Refusals.{both-true, true-both, true-unless, false-unless, leb-fact, eqb-fact}
 use Rattle.squares.proofs.Marks.{version-is}
+use Rattle.squares.proofs.Demand.{data-le}
 
 -- ---- the layout of a version, written into a buffer that is long enough
 
@@ -117,3 +120,23 @@ side-back side e =
     let odd = eqb-fact (side % 2) 1 (b .1) in
     let q : cond (leb 23 side && (leb side 189 && eqb (side % 2) 1)) ((side - 21) / 2) 0 ≡ (side - 21) / 2 = ap (λ (t : Bool). cond t ((side - 21) / 2) 0) e in
     omega arith
+
+-- ---- r is the row of a version and level
+
+module _ (v l : ℕ) (low : 1 ≤ v) (high : v ≤ 84) (level : l ≤ 3) (r : List ℕ) (is : r ≡ rowOf v l) where
+  own : (rowLength r ≡ totalOf v) × T (rowHolds r (rowLength r))
+  own = row-holds-own r (totalOf v) (subst (λ (x : List ℕ). T (rowHolds x (totalOf v))) (sym is) (row-holds v l low high level))
+
+  -- it has the version's codewords, and holds its rule ..
+  pub row-total : rowLength r ≡ totalOf v
+  row-total = own .0
+
+  pub row-own : T (rowHolds r (rowLength r))
+  row-own = own .1
+
+  -- .. and no more codewords, and no more data codewords, than a buffer has bytes
+  pub row-small : rowLength r ≤ 3886
+  row-small = omega (arith, row-total, total-small v low high)
+
+  pub row-data : totalData (shapes r) ≤ 3886
+  row-data = omega (arith, data-le (shapes r), total-shapes r, row-small)

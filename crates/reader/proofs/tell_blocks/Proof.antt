@@ -1,7 +1,8 @@
 -- `tell_blocks` meets its contract. Assumes nothing.
 use mathlib.Core.Path.{_∙_}
 use native.Mathlib.Omega.{arith}
-use Rattle.reader.proofs.Body.{legible, enough-bits, stream-is, row-length, row-own, data-room, count-small, blocks-refused, blocks-told}
+use Rattle.squares.proofs.Starts.{row-total, row-own, row-data}
+use Rattle.reader.proofs.Body.{legible, enough-bits, stream-is, count-small, blocks-refused, blocks-told}
 use borrow.Author.Needs.{needs}
 use Rattle.reader.proofs.tell_blocks.Statement.{statement}
 use Rattle.reader.proofs.tell_blocks.Tie as tie
@@ -36,9 +37,10 @@ slice-aggregate-correct-blocks-2 c = search needs
 correct-blocks-requires : tie.Need-correct-blocks-requires
 correct-blocks-requires c κs =
     let a = c .before .before .before .before .before .before .before .before .before .before .before .before .before .before in
+    let f = a .pre .0 in
     let row = c .before .before .before .block-row in
-    let own = row-own (a .args .m) _ _ (a .pre .0) (a .pre .1) _ (row .ensures) in
-    let long = row-length (a .args .m) _ _ (a .pre .0) (a .pre .1) _ (row .ensures) in
+    let own = row-own _ _ (f .low) (f .high) (f .level) _ (row .ensures) in
+    let long = row-total _ _ (f .low) (f .high) (f .level) _ (row .ensures) in
     (c .before .before .before .before .han-xin .ensures, (search needs, own, omega (arith, long, c .before .before .before .before .before .before .before .before .total-codewords .ensures)))
 
 enum-known-count : tie.Need-enum-known-count
@@ -53,11 +55,12 @@ slice-aggregate-tell-segments-2 c = search needs
 tell-segments-requires : tie.Need-tell-segments-requires
 tell-segments-requires c κs =
     let a = c .before .before .before .before .before .before .before .before .before .before .before .before .before .before .before .before .before .before .before .before .before .before .before in
+    let f = a .pre .0 in
     let row = c .before .before .before .before .before .before .before .before .before .before .before .before .block-row in
-    let long = row-length (a .args .m) _ _ (a .pre .0) (a .pre .1) _ (row .ensures) in
+    let long = row-total _ _ (f .low) (f .high) (f .level) _ (row .ensures) in
     let q = c .before .before .before .before .before .before .before .before .correct-blocks in
     let n = c .before .before .before .before .before .count .given in
-    (search needs, omega (arith, long, c .before .before .before .before .before .before .before .before .before .before .before .before .before .before .before .before .before .total-codewords .ensures), data-room (a .args .m) _ _ (a .pre .0) (a .pre .1) _ (row .ensures), count-small (a .args .m) _ _ (a .pre .0) (a .pre .1) _ (row .ensures) _ (n .0 .0) _ (n .1) (λ z. q .ensures .1 z .0))
+    (search needs, omega (arith, long, c .before .before .before .before .before .before .before .before .before .before .before .before .before .before .before .before .before .total-codewords .ensures), row-data _ _ (f .low) (f .high) (f .level) _ (row .ensures), count-small (a .args .m) _ _ (a .pre .0) (a .pre .1) _ (row .ensures) _ (n .0 .0) _ (n .1) (λ z. q .ensures .1 z .0))
 
 enum-told : tie.Need-enum-told
 enum-told c = search needs

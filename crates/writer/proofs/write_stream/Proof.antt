@@ -2,7 +2,8 @@
 use mathlib.Core.Path.{sym, _∙_}
 use native.Mathlib.Omega.{arith}
 use lib.Seq.{length-take-le}
-use Rattle.writer.proofs.Rooms.{room-is, row-total, row-small, row-own, fits-lent}
+use Rattle.squares.proofs.Starts.{row-total, row-small, row-own}
+use Rattle.writer.proofs.Rooms.{room-is, fits-lent}
 use Rattle.writer.proofs.Fronts.{stream-of-row}
 use borrow.Author.Needs.{needs}
 use Rattle.writer.proofs.write_stream.Statement.{statement}
@@ -30,8 +31,9 @@ encode-stream-requires : tie.Need-encode-stream-requires
 encode-stream-requires c κs =
     let o = c .before .before .before .before .before .before .before .before .before in
     let r = c .before .before .before .before .before .block-row .ensures in
-    let e = room-is (o .pre .0 .0) _ r _ (c .before .before .before .data-length .ensures) in (
-      (search needs, row-own (o .pre .0 .0) _ r, omega (arith, o .pre .0 .1, row-small (o .pre .0 .0) _ r), length-take-le _ _ (e .1) ∙ c .before .before .before .data-length .ensures),
+    let R = o .pre .0 .0 in
+    let e = room-is R _ r _ (c .before .before .before .data-length .ensures) in (
+      (search needs, row-own _ _ (R .low) (R .high) (R .level) _ r, omega (arith, o .pre .0 .1, row-small _ _ (R .low) (R .high) (R .level) _ r), length-take-le _ _ (e .1) ∙ c .before .before .before .data-length .ensures),
       fits-lent (o .args .script .now) (o .args .payload .now) _ _ _ (e .0) (e .1) (o .pre .1),
     )
 
@@ -42,7 +44,8 @@ returns : tie.Need-returns
 returns c =
     let o = c .before .before .before .before .before .before .before .before .before .before .before .before .before in
     let r = c .before .before .before .before .before .before .before .before .before .block-row .ensures in
-    stream-of-row (o .args .script .now) (o .args .payload .now) _ _ _ _ r (row-total (o .pre .0 .0) _ r) (c .before .before .before .encode-stream .ensures)
+    let R = o .pre .0 .0 in
+    stream-of-row (o .args .script .now) (o .args .payload .now) _ _ _ _ r (row-total _ _ (R .low) (R .high) (R .level) _ r) (c .before .before .before .encode-stream .ensures)
 
 pub write-stream-spec : {M : Type 1} → statement M
 write-stream-spec =
