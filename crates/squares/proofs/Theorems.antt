@@ -28,7 +28,7 @@ use Rattle.squares.proofs.Settle as settle
 
 -- ---- 1. Marks made by the writer
 
--- A script and a payload are written at a version, level and mask into a square, which then is `mark`. `square` is any square of the same
+-- A script, a list of bytes, and a payload are written at a version, level and mask into a square, which then is `mark`. `square` is any square of the same
 -- size with module bytes 0 or 1, each block of which differs from the written block in at most floor(parity / 2) codewords. The receipt has
 -- 12 bytes, and the buffers p and s are long enough.
 module _ (v level mask : ℕ) (script payload before mark : List ℕ) (bytes : (i : ℕ) → getD script i 0 < 256)
