@@ -222,6 +222,34 @@ fn written(tally: &mut Tally, random: &mut Random) {
     println!("segments: {checked} scripts checked against another count of bits");
 }
 
+/// Scripts and payloads with the number that document 01 gives them.
+pub const SCRIPTS: [(&[u8], &[u8], usize); 24] = [
+    (&[], &[], 8),
+    (&[], &[1], 11),
+    (&[9], &[1], 11),
+    (&[0], &[], 11),
+    (&[1], &[b'1'], 11),
+    (&[1, 0], &[b'1'], 11),
+    (&[1, 0, 0], &[], 11),
+    (&[1, 0, 1], &[b'1'], 0),
+    (&[1, 0, 1], &[b'a'], 12),
+    (&[2, 0, 0], &[], 8),
+    (&[2, 0, 1], &[0x1B], 0),
+    (&[2, 0, 1], &[0x1C], 12),
+    (&[2, 0, 1], &[], 11),
+    (&[2, 0, 1], &[65, 65], 11),
+    (&[4, 0, 1], &[0xB0], 11),
+    (&[4, 0, 2], &[0xB0, 0xA1], 0),
+    (&[4, 0, 2], &[0xB0, 0xA0], 12),
+    (&[7], &[0x81, 0x30, 0x81], 11),
+    (&[7], &[0x81, 0x30, 0x81, 0x30], 0),
+    (&[7], &[0x80, 0x30, 0x81, 0x30], 12),
+    (&[8, 0x20, 0, 0, 2, 0, 1], &[65], 11),
+    (&[8, 0x1F, 0xFF, 0xFF, 2, 0, 1], &[65], 0),
+    (&[8, 0x1F, 0xFF], &[], 11),
+    (&[2, 0, 1, 9], &[0x1C], 11),
+];
+
 /// Inputs that are turned away, and long ones.
 fn bad(tally: &mut Tally) {
     for n in [3886, 3887, 5000, 1 << 20] {
@@ -244,33 +272,7 @@ fn bad(tally: &mut Tally) {
     }
     tally.one(&switches.bytes());
     tally.say("long data, region switches that never end");
-    let scripts: [(&[u8], &[u8], usize); 24] = [
-        (&[], &[], 8),
-        (&[], &[1], 11),
-        (&[9], &[1], 11),
-        (&[0], &[], 11),
-        (&[1], &[b'1'], 11),
-        (&[1, 0], &[b'1'], 11),
-        (&[1, 0, 0], &[], 11),
-        (&[1, 0, 1], &[b'1'], 0),
-        (&[1, 0, 1], &[b'a'], 12),
-        (&[2, 0, 0], &[], 8),
-        (&[2, 0, 1], &[0x1B], 0),
-        (&[2, 0, 1], &[0x1C], 12),
-        (&[2, 0, 1], &[], 11),
-        (&[2, 0, 1], &[65, 65], 11),
-        (&[4, 0, 1], &[0xB0], 11),
-        (&[4, 0, 2], &[0xB0, 0xA1], 0),
-        (&[4, 0, 2], &[0xB0, 0xA0], 12),
-        (&[7], &[0x81, 0x30, 0x81], 11),
-        (&[7], &[0x81, 0x30, 0x81, 0x30], 0),
-        (&[7], &[0x80, 0x30, 0x81, 0x30], 12),
-        (&[8, 0x20, 0, 0, 2, 0, 1], &[65], 11),
-        (&[8, 0x1F, 0xFF, 0xFF, 2, 0, 1], &[65], 0),
-        (&[8, 0x1F, 0xFF], &[], 11),
-        (&[2, 0, 1, 9], &[0x1C], 11),
-    ];
-    for (script, payload, refusal) in scripts {
+    for (script, payload, refusal) in SCRIPTS {
         let got = check(script, payload);
         if got.refusal != refusal || (refusal != 0) != (got.bits == 0) {
             differs("check", &format!("{} {}", hex(script), hex(payload)), &got.refusal.to_string(), &refusal.to_string());
@@ -287,7 +289,7 @@ fn bad(tally: &mut Tally) {
     if (got.refusal, got.bits) != (0, 31_089) {
         differs("check", "a script of 3 x 2^20 bytes", &format!("{} {}", got.refusal, got.bits), "0 31089");
     }
-    println!("segments: {} scripts with their refusals", scripts.len() + 3);
+    println!("segments: {} scripts with their refusals", SCRIPTS.len() + 3);
 }
 
 pub fn bench() {

@@ -6,6 +6,7 @@ mod kinds;
 mod plan;
 mod record;
 mod speed;
+mod writing;
 
 use crate::han_xin::{Read, decode_data, decode_matrix, nearest_info};
 use crate::tools::{MARK, ROOM, Random, differs, hex, same};
@@ -99,12 +100,13 @@ struct Both {
     untouched: Vec<u8>,
     numbers: [usize; 14],
     again: usize,
+    distances: [usize; 69],
 }
 
 impl Both {
     fn new() -> Self {
         let lent = vec![MARK; ROOM];
-        Self { plans: (1..=84).map(Plan::new).collect(), payload: lent.clone(), script: lent.clone(), untouched: lent, numbers: [0; 14], again: 0 }
+        Self { plans: (1..=84).map(Plan::new).collect(), payload: lent.clone(), script: lent.clone(), untouched: lent, numbers: [0; 14], again: 0, distances: [0; 69] }
     }
 
     fn plan(&self, version: usize) -> &Plan {
@@ -207,9 +209,12 @@ impl Both {
             line += &format!(", {} answered {number}", self.numbers[number]);
         }
         if self.again > 0 {
-            line += &format!("; {} of them written again", self.again);
+            line += &format!("; {} written again and read", self.again);
+        }
+        if self.distances[10] > 0 {
+            line += &format!("; {} at distance 10, {} at 11", self.distances[10], self.distances[11]);
         }
         println!("{line}");
-        (self.numbers, self.again) = ([0; 14], 0);
+        (self.numbers, self.again, self.distances) = ([0; 14], 0, [0; 69]);
     }
 }

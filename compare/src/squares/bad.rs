@@ -1,8 +1,8 @@
-//! Bad input, on our side alone: document 01 says what is right. Lent buffers hold MARK before each call.
-use super::{Both, Mark, Reading, packed, read, write};
+//! Readings of bad input, on our side alone: document 01 says what is right. Lent buffers hold MARK before each call.
+use super::{Both, Mark, Reading, packed, read};
 use crate::han_xin::nearest_info;
 use crate::tools::{MARK, Random, differs, hex, same};
-use crate::written::{Bits, Written};
+use crate::written::Bits;
 
 /// How long the three lent buffers are.
 #[derive(Clone, Copy, Debug)]
@@ -58,17 +58,9 @@ pub fn compare(both: &mut Both) {
         }
     }
     println!("squares: {count:9} readings of bad input, of buffers full, short and long, and of two faults at once");
-    let mut count = 0;
-    for version in [1, 2, 30, 84] {
-        for level in 0..4 {
-            count += full(both, version, level);
-            count += written(both, version, level, &mut random);
-        }
-    }
-    println!("squares: {count:9} writings of bad input, of scripts exactly full and one bit over, and of two faults at once");
 }
 
-/// The two readings of a mark, with another version, level and mask for the second.
+/// The two readings of a mark.
 fn both_readings(mark: &Mark) -> [Reading; 2] {
     [Reading::Side(2 * mark.version + 21), Reading::Known(mark.version, mark.level, mark.mask)]
 }
@@ -90,6 +82,9 @@ fn inputs(both: &Both, mark: &Mark) -> usize {
         turn("level", square, Reading::Known(mark.version, n, mark.mask), PLENTY, 1);
         turn("mask", square, Reading::Known(mark.version, mark.level, n), PLENTY, 1);
     }
+    let other = if mark.version == 1 { 2 } else { mark.version - 1 };
+    turn("another version", square, Reading::Known(other, mark.level, mark.mask), PLENTY, 2);
+    turn("another side", square, Reading::Side(2 * other + 21), PLENTY, 2);
     for how in both_readings(mark) {
         for receipt in [0, 1, 11, 13, 24] {
             turn("receipt", square, how, Lengths { receipt, ..PLENTY }, 2);
@@ -199,72 +194,4 @@ fn early(both: &Both, mark: &Mark, two: &[u8], out: &[u8], none: Lengths) -> usi
     out_two[plan.side * plan.side - 1] = 2;
     refused("3 before 6", &out_two, Reading::Known(mark.version, mark.level, mark.mask), short, 3);
     11
-}
-
-/// A writing that must be refused, with every byte of the square as it was.
-fn unwritten(what: &str, numbers: [usize; 3], script: &[u8], payload: &[u8], length: usize, number: usize) {
-    let mut square = vec![MARK; length];
-    let got = write(numbers[0], numbers[1], numbers[2], script, payload, &mut square);
-    let input = format!("{what}: {numbers:?}, {length} bytes, script {}, payload {}", hex(script), hex(payload));
-    same("bad input of writing", &input, (got, square.iter().all(|&b| b == MARK)), (number, true));
-}
-
-/// Scripts whose bits fill all data codewords, and have one bit more: 64 bits of a four-byte character, text of two and no bytes, then
-/// bytes; and bytes alone.
-fn full(both: &mut Both, version: usize, level: usize) -> usize {
-    let room = both.plan(version).room(level);
-    let n = room - 8;
-    let mut bits = Bits::default();
-    for (n, v) in [(4, 7), (21, 0), (4, 2), (6, 10), (6, 11), (6, 63), (4, 3), (13, n)] {
-        bits.put(n, v);
-    }
-    let mut payload = vec![0x81, 0x30, 0x81, 0x30, b'A', b'B'];
-    for i in 0..n {
-        bits.put(8, i % 256);
-        payload.push((i % 256) as u8);
-    }
-    same("bits", "a full script", bits.0.len(), 8 * room);
-    let script = [7, 2, 0, 2, 3, (n >> 8) as u8, n as u8].to_vec();
-    let mark = both.mark(version, level, 2, Written { bits, script, payload });
-    both.as_written(&mark, &mark.square, 0, 0);
-    let n = room - 2;
-    let side = both.plan(version).side;
-    unwritten("one bit over", [version, level, 2], &[3, (n >> 8) as u8, n as u8], &vec![7; n], side * side, 13);
-    3
-}
-
-/// Versions, levels, masks, squares and scripts that writing turns away; and two faults at once, in document 01's order.
-fn written(both: &mut Both, version: usize, level: usize, random: &mut Random) -> usize {
-    let mark = both.random_mark(random, version, level, 3);
-    let full = mark.square.len();
-    let legal = [version, level, 3];
-    let long: Vec<u8> = [8u8, 0x1F, 0xFF, 0xFF].repeat(3886);
-    let (s, p) = (&mark.script[..], &mark.payload[..]);
-    let text = [&[2, 0, 1][..], &long].concat();
-    let cut = [&text[..], &[9]].concat();
-    let cases: [(&str, [usize; 3], &[u8], &[u8], usize, usize); 19] = [
-        ("version 0", [0, level, 3], s, p, full, 1),
-        ("version 85", [85, level, 3], s, p, full, 1),
-        ("level 4", [version, 4, 3], s, p, full, 1),
-        ("mask 4", [version, level, 4], s, p, full, 1),
-        ("a huge version", [1 << 63, level, 3], s, p, full, 1),
-        ("1 before 2", [0, level, 3], s, p, full - 1, 1),
-        ("1 before 11", [version, 4, 3], &[9], p, full, 1),
-        ("one byte short", legal, s, p, full - 1, 2),
-        ("one byte long", legal, s, p, full + 1, 2),
-        ("an empty square", legal, s, p, 0, 2),
-        ("2 before 11", legal, &[9], p, full - 1, 2),
-        ("11 before 12", legal, &[2, 0, 1, 9], &[0x1C], full, 11),
-        ("11 before 8", legal, &[8, 0x20, 0, 0], &[], full, 11),
-        ("11 before 13", legal, &cut, &[65], full, 11),
-        ("12 before 13", legal, &text, &[0x1C], full, 12),
-        ("8 before 13", legal, &long, &[], full, 8),
-        ("8", legal, &[], &[], full, 8),
-        ("13", legal, &text, &[65], full, 13),
-        ("2 before 13", legal, &text, &[65], full + 1, 2),
-    ];
-    for (what, numbers, script, payload, length, number) in cases {
-        unwritten(what, numbers, script, payload, length, number);
-    }
-    cases.len()
 }

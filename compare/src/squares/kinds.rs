@@ -1,44 +1,43 @@
 //! The kinds of squares that are compared.
 use super::plan::{Block, Plan};
-use super::{Both, Mark, Reading, bad, record};
+use super::{Both, Mark, Reading, bad, record, writing};
 use crate::blocks::our_parity;
 use crate::han_xin::{info_bits, nearest_info};
 use crate::tools::{Random, hex, same};
 use crate::written::Written;
 
 /// A version, small ones more often: the least of three.
-fn version(random: &mut Random) -> usize {
+pub fn version(random: &mut Random) -> usize {
     1 + random.below(84).min(random.below(84)).min(random.below(84))
 }
+
+/// A kind of random squares: how many, one of them, and what to call it.
+type Kind = (usize, fn(&mut Both, &mut Random), &'static str);
+
+const KINDS: [Kind; 6] = [
+    (40_000, within, "readings of marks with up to 8 information modules, every block up to its reach, leftover and function modules changed"),
+    (40_000, information, "marks with 0 to 12 information modules changed"),
+    (40_000, one_beyond, "marks with one block changed beyond its reach"),
+    (20_000, mistaken, "marks read with another level or mask"),
+    (60_000, any_data, "squares of random data, and of segments changed, with their parity"),
+    (40_000, any_square, "squares of random modules, with and without an information word"),
+];
 
 pub fn compare() {
     let mut both = Both::new();
     let mut random = Random::new(11);
     clean(&mut both, &mut random);
-    for _ in 0..40_000 {
-        within(&mut both, &mut random);
+    for (count, one, name) in KINDS {
+        for _ in 0..count {
+            one(&mut both, &mut random);
+        }
+        both.report(name);
     }
-    both.report("marks with up to 8 information modules, every block up to its reach, leftover and function modules changed");
-    for _ in 0..40_000 {
-        information(&mut both, &mut random);
-    }
-    both.report("marks with 0 to 12 information modules changed");
     nine(&mut both, &mut random);
-    for _ in 0..40_000 {
-        one_beyond(&mut both, &mut random);
-    }
-    both.report("marks with one block changed beyond its reach");
-    for _ in 0..60_000 {
-        any_data(&mut both, &mut random);
-    }
-    both.report("squares of random data, and of segments changed, with their parity");
-    for _ in 0..40_000 {
-        any_square(&mut both, &mut random);
-    }
-    both.report("squares of random modules, with and without an information word");
     plain(&mut both);
     outside(&mut both);
     bad::compare(&mut both);
+    writing::compare(&mut both);
 }
 
 /// Every version, level and mask, eight marks each that start with each of the modes.
@@ -53,7 +52,7 @@ fn clean(both: &mut Both, random: &mut Random) {
             }
         }
     }
-    both.report("clean marks, by both readings: each version, level and mask with each mode first");
+    both.report("readings of clean marks: each version, level and mask with each mode first");
 }
 
 /// Changes `count` codewords of a block.
@@ -122,7 +121,8 @@ fn information(both: &mut Both, random: &mut Random) {
         let other = info_bits(mark.version, random.below(4), random.below(4));
         toward(plan, random, &mut square, other, flips);
     }
-    let side = plan.side;
+    let (side, distance) = (plan.side, nearest_info(mark.version, plan.copies(&square)).2);
+    both.distances[distance as usize] += 1;
     let answer = both.as_any(&square, Reading::Side(side));
     if flips <= 8 {
         let input = format!("modules {}", hex(&super::packed(&square)));
@@ -191,6 +191,14 @@ fn one_beyond(both: &mut Both, random: &mut Random) {
     }
     let how = if random.below(2) == 0 { Reading::Side(plan.side) } else { Reading::Known(mark.version, mark.level, mark.mask) };
     both.as_any(&square, how);
+}
+
+/// A mark read with a level or mask that it does not have.
+fn mistaken(both: &mut Both, random: &mut Random) {
+    let mark = random_mark(both, random);
+    let other = 1 + random.below(15);
+    let how = Reading::Known(mark.version, mark.level ^ other / 4, mark.mask ^ other % 4);
+    both.as_any(&mark.square, how);
 }
 
 /// Data of segments with some bits changed, or random data; with their parity, so that the segments are reached.

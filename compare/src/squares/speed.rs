@@ -9,6 +9,7 @@ use std::io::Write as _;
 use std::process::{Command, Stdio};
 use std::time::Instant;
 
+/// Versions in full: read a clean square, and one with every block changed to its reach; and write it.
 pub fn bench() {
     let both = Both::new();
     let mut random = Random::new(13);
@@ -17,9 +18,9 @@ pub fn bench() {
             let mark = filled(&both, &mut random, version, level, mask);
             let mut damaged = mark.square.clone();
             damage_full(both.plan(version), &mut random, &mut damaged, level);
-            let name = format!("version {version}, level {level}, mask {mask}");
+            let name = format!("{version}, level {level}, mask {mask}");
             reading(&format!("read {name}, clean"), &mark.square);
-            reading(&format!("read {name}, full reach"), &damaged);
+            reading(&format!("read {name}, reach"), &damaged);
             writing(&format!("write {name}"), &mark);
         }
     }
@@ -62,7 +63,7 @@ fn another_writer() {
             println!("zint is not at hand, so its time is left out");
             return;
         };
-        println!("{:34} {:12.1}", format!("zint, version {version}, level {level}"), (many - few) / 100.0);
+        println!("{:34} {:12.1}", format!("zint writes {version}, level {level}, mask 3"), (many - few) / 100.0);
     }
 }
 
@@ -72,7 +73,7 @@ fn zint(version: usize, level: usize, marks: usize) -> Option<f64> {
     for _ in 0..5 {
         let start = Instant::now();
         let mut child = Command::new("zint")
-            .args(["-b", "HANXIN", "--batch", "--direct", "--dump", "--mask=4", "-i", "/dev/stdin"])
+            .args(["-b", "HANXIN", "--batch", "--direct", "--dump", "--mask=3", "-i", "/dev/stdin"])
             .args([format!("--vers={version}"), format!("--secure={}", level + 1)])
             .stdin(Stdio::piped())
             .stdout(Stdio::null())
