@@ -17,9 +17,18 @@ pub use record::record;
 pub use speed::bench;
 
 unsafe extern "C" {
-    fn hx_read_square(q: *const u8, qn: usize, side: usize, p: *mut u8, pn: usize, s: *mut u8, sn: usize, r: *mut u8, rn: usize) -> usize;
-    fn hx_read_known(q: *const u8, qn: usize, version: usize, level: usize, mask: usize, p: *mut u8, pn: usize, s: *mut u8, sn: usize, r: *mut u8, rn: usize) -> usize;
-    fn hx_write_square(version: usize, level: usize, mask: usize, s: *const u8, sn: usize, p: *const u8, pn: usize, q: *mut u8, qn: usize) -> usize;
+    fn hx_read_square(
+        square: *const u8, square_len: usize, side: usize,
+        payload: *mut u8, payload_len: usize, script: *mut u8, script_len: usize, receipt: *mut u8, receipt_len: usize,
+    ) -> usize;
+    fn hx_read_known(
+        square: *const u8, square_len: usize, version: usize, level: usize, mask: usize,
+        payload: *mut u8, payload_len: usize, script: *mut u8, script_len: usize, receipt: *mut u8, receipt_len: usize,
+    ) -> usize;
+    fn hx_write_square(
+        version: usize, level: usize, mask: usize,
+        script: *const u8, script_len: usize, payload: *const u8, payload_len: usize, square: *mut u8, square_len: usize,
+    ) -> usize;
 }
 
 /// Which reading, with the numbers that it is given.
@@ -106,7 +115,9 @@ struct Both {
 impl Both {
     fn new() -> Self {
         let lent = vec![MARK; ROOM];
-        Self { plans: (1..=84).map(Plan::new).collect(), payload: lent.clone(), script: lent.clone(), untouched: lent, numbers: [0; 14], again: 0, distances: [0; 69] }
+        let plans = (1..=84).map(Plan::new).collect();
+        let (payload, script) = (lent.clone(), lent.clone());
+        Self { plans, payload, script, untouched: lent, numbers: [0; 14], again: 0, distances: [0; 69] }
     }
 
     fn plan(&self, version: usize) -> &Plan {
@@ -124,7 +135,10 @@ impl Both {
             Reading::Known(version, level, mask) => (decode_data(&modules, version, level, mask), version, (level, mask, 0)),
         };
         match read {
-            Some(Read { bytes: payload, corrected, .. }) => Answer { number: 0, version, level, mask, corrected, distance: distance as usize, payload },
+            Some(Read { bytes: payload, corrected, .. }) => {
+                let distance = distance as usize;
+                Answer { number: 0, version, level, mask, corrected, distance, payload }
+            }
             None if distance > 10 => Answer::refused(4),
             None => Answer::refused(self.plan(version).refusal(square, level, mask)),
         }
@@ -139,8 +153,10 @@ impl Both {
         let n = theirs.payload.len();
         let (payload, beyond) = self.payload.split_at(n);
         let kept = beyond == &self.untouched[n..] && self.script.get(script..) == self.untouched.get(script..);
-        if number != theirs.number || receipt != theirs.receipt(script) || (script == 0) != (number != 0) || payload != theirs.payload || !kept {
-            let ours = format!("{number}, receipt {receipt:?}, {}, bytes beyond {}", hex(payload), if kept { "stay" } else { "changed" });
+        let told = number == theirs.number && receipt == theirs.receipt(script) && (script == 0) == (number != 0);
+        if !told || payload != theirs.payload || !kept {
+            let beyond = if kept { "stay" } else { "changed" };
+            let ours = format!("{number}, receipt {receipt:?}, payload {}, bytes beyond {beyond}", hex(payload));
             differs("a reading", &format!("{how:?}, modules {}", hex(&packed(square))), &ours, &format!("{theirs:?}"));
         }
         let told = self.script[..script].to_vec();
@@ -154,7 +170,8 @@ impl Both {
         let Mark { version, level, mask, .. } = *mark;
         for (how, distance) in [(Reading::Side(2 * version + 21), distance), (Reading::Known(version, level, mask), 0)] {
             let expected = Answer { number: 0, version, level, mask, corrected, distance, payload: mark.payload.clone() };
-            same("a mark within reach", &format!("{how:?}, modules {}", hex(&packed(square))), self.one(square, how), (expected, mark.script.clone()));
+            let input = format!("{how:?}, modules {}", hex(&packed(square)));
+            same("a mark within reach", &input, self.one(square, how), (expected, mark.script.clone()));
             self.numbers[0] += 1;
         }
     }
@@ -166,7 +183,8 @@ impl Both {
         if answer.number == 0 {
             let again = self.write(answer.version, answer.level, answer.mask, &script, &answer.payload);
             let expected = Answer { corrected: 0, distance: 0, ..answer.clone() };
-            same("a mark written again", &hex(&packed(square)), self.one(&again, Reading::Known(answer.version, answer.level, answer.mask)), (expected, script));
+            let how = Reading::Known(answer.version, answer.level, answer.mask);
+            same("a mark written again", &hex(&packed(square)), self.one(&again, how), (expected, script));
             self.again += 1;
         }
         answer
@@ -202,9 +220,10 @@ impl Both {
         self.mark(version, level, mask, Written::starting(random, first, count, most, room))
     }
 
-    fn report(&mut self, kind: &str) {
+    /// What was tried of a kind, and how it was answered.
+    fn report(&mut self, kind: &str, done: &str) {
         let tried: usize = self.numbers.iter().sum();
-        let mut line = format!("squares: {tried:9} {kind}: {} read", self.numbers[0]);
+        let mut line = format!("squares: {tried:9} {kind}: {} {done}", self.numbers[0]);
         for number in (1..14).filter(|&n| self.numbers[n] > 0) {
             line += &format!(", {} answered {number}", self.numbers[number]);
         }

@@ -139,7 +139,14 @@ fn commands<'a>(mut script: &[u8], mut payload: &'a [u8]) -> Option<Vec<Command<
         };
         let operand = rest.get(..width)?.iter().fold(0, |v, &b| v << 8 | usize::from(b));
         let length = [operand, 4, 0][mode.saturating_sub(6).min(2)];
-        if mode == 1 && length == 0 || mode == 3 && length > 8191 || (4..=6).contains(&mode) && length % 2 == 1 || mode == 8 && operand > 2_097_151 {
+        let wrong = match mode {
+            1 => length == 0,
+            3 => length > 8191,
+            4..=6 => length % 2 == 1,
+            8 => operand > 2_097_151,
+            _ => false,
+        };
+        if wrong {
             return None;
         }
         commands.push((mode, payload.split_off(..length)?, operand));

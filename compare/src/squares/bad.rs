@@ -1,6 +1,6 @@
 //! Readings of bad input, on our side alone: document 01 says what is right. Lent buffers hold MARK before each call.
 use super::{Both, Mark, Reading, packed, read};
-use crate::han_xin::nearest_info;
+use crate::han_xin::{decode_data, nearest_info};
 use crate::tools::{MARK, Random, differs, hex, same};
 use crate::written::Bits;
 
@@ -25,10 +25,9 @@ fn refused(what: &str, square: &[u8], how: Reading, lengths: Lengths, number: us
     }
     let kept = payload.iter().chain(&script).all(|&b| b == MARK);
     if got != number || receipt != expected || !kept {
-        let shown = &square[..square.len().min(40_000)];
-        let input = format!("{what}: {how:?}, {lengths:?}, {} modules {}", square.len(), hex(&packed(&shown.iter().map(|b| b & 1).collect::<Vec<_>>())));
-        let kept = if kept { "stay" } else { "changed" };
-        differs("bad input", &input, &format!("{got}, receipt {receipt:?}, lent bytes {kept}"), &format!("{number}, receipt {expected:?}, lent bytes stay"));
+        let input = format!("{what}: {how:?}, {lengths:?}, {} modules, a byte each {}", square.len(), hex(square));
+        let told = |number, receipt, kept| format!("{number}, receipt {receipt:?}, lent bytes {}", if kept { "stay" } else { "changed" });
+        differs("bad input", &input, &told(got, receipt, kept), &told(number, expected, true));
     }
 }
 
@@ -39,7 +38,8 @@ fn accepted(mark: &Mark, how: Reading, lengths: Lengths) {
     let mut expected = (mark.payload.clone(), mark.script.clone());
     expected.0.resize(lengths.payload, MARK);
     expected.1.resize(lengths.script, MARK);
-    same("lent buffers", &format!("{how:?}, {lengths:?}, modules {}", hex(&packed(&mark.square))), (got, payload, script), (0, expected.0, expected.1));
+    let input = format!("{how:?}, {lengths:?}, modules {}", hex(&packed(&mark.square)));
+    same("lent buffers", &input, (got, payload, script), (0, expected.0, expected.1));
 }
 
 pub fn compare(both: &mut Both) {
@@ -58,6 +58,28 @@ pub fn compare(both: &mut Both) {
         }
     }
     println!("squares: {count:9} readings of bad input, of buffers full, short and long, and of two faults at once");
+    differences(both, &mut random);
+}
+
+/// What docs/DIFFERENCES.md says of the original outside its domain: where it panics, and what it reads.
+fn differences(both: &Both, random: &mut Random) {
+    let mark = both.random_mark(random, 5, 1, 0);
+    let modules: Vec<bool> = mark.square.iter().map(|&b| b == 1).collect();
+    let long = [&modules[..], &[true; 9]].concat();
+    let short = &modules[..modules.len() - 1];
+    let read = |modules: &[bool], version, level, mask| {
+        std::panic::catch_unwind(|| decode_data(modules, version, level, mask).map(|r| r.bytes)).ok()
+    };
+    let hook = std::panic::take_hook();
+    std::panic::set_hook(Box::new(|_| {}));
+    let outside = [(&modules[..], 0, 0), (&modules, 85, 0), (&modules, 5, 4), (short, 5, 1)];
+    let panics = outside.map(|(modules, version, level)| read(modules, version, level, 0).is_none());
+    let reads = [read(&modules, 5, 1, 4), read(&long, 5, 1, 0)];
+    std::panic::set_hook(hook);
+    same("the original's panics", "version 0, version 85, level 4, a short square", panics, [true; 4]);
+    let payload = Some(Some(mark.payload.clone()));
+    same("what the original reads", "mask 4 as mask 0, a long square", reads, [payload.clone(), payload]);
+    println!("squares:         6 readings of the original outside its domain, as docs/DIFFERENCES.md has them");
 }
 
 /// The two readings of a mark.
@@ -131,7 +153,9 @@ fn beyond(both: &mut Both, mark: &Mark, square: &[u8], random: &mut Random) -> V
         let mut other = square.to_vec();
         let plan = both.plan(mark.version);
         let block = plan.blocks(mark.level)[0];
-        random.each_of(block.data + block.parity, block.parity / 2 + 2, |random, place| plan.change(&mut other, place, random.change()));
+        random.each_of(block.data + block.parity, block.parity / 2 + 2, |random, place| {
+            plan.change(&mut other, place, random.change());
+        });
         if both.one(&other, Reading::Known(mark.version, mark.level, mark.mask)).0.number == 6 {
             return other;
         }

@@ -15,7 +15,7 @@ pub fn version(random: &mut Random) -> usize {
 type Kind = (usize, fn(&mut Both, &mut Random), &'static str);
 
 const KINDS: [Kind; 6] = [
-    (40_000, within, "readings of marks with up to 8 information modules, every block up to its reach, leftover and function modules changed"),
+    (40_000, within, "readings of marks within reach, with up to 8 information modules and any other modules changed"),
     (40_000, information, "marks with 0 to 12 information modules changed"),
     (40_000, one_beyond, "marks with one block changed beyond its reach"),
     (20_000, mistaken, "marks read with another level or mask"),
@@ -31,7 +31,7 @@ pub fn compare() {
         for _ in 0..count {
             one(&mut both, &mut random);
         }
-        both.report(name);
+        both.report(name, "read");
     }
     nine(&mut both, &mut random);
     plain(&mut both);
@@ -52,7 +52,7 @@ fn clean(both: &mut Both, random: &mut Random) {
             }
         }
     }
-    both.report("readings of clean marks: each version, level and mask with each mode first");
+    both.report("readings of clean marks: each version, level and mask with each mode first", "read");
 }
 
 /// Changes `count` codewords of a block.
@@ -126,7 +126,8 @@ fn information(both: &mut Both, random: &mut Random) {
     let answer = both.as_any(&square, Reading::Side(side));
     if flips <= 8 {
         let input = format!("modules {}", hex(&super::packed(&square)));
-        same("8 information flips", &input, (answer.number, answer.level, answer.mask, &answer.payload), (0, mark.level, mark.mask, &mark.payload));
+        let told = (answer.number, answer.level, answer.mask, &answer.payload);
+        same("8 information flips", &input, told, (0, mark.level, mark.mask, &mark.payload));
     }
 }
 
@@ -156,7 +157,7 @@ fn nine(both: &mut Both, random: &mut Random) {
             }
         }
     }
-    both.report("nine information flips halfway from level 2 to level 0, each version");
+    both.report("nine information flips halfway from level 2 to level 0, each version", "read");
 }
 
 /// Changes one block beyond its reach: at random; or by another codeword of few places but for some of these, so that the block lies
@@ -251,7 +252,7 @@ fn plain(both: &mut Both) {
             }
         }
     }
-    both.report("all light and all dark squares, each version, level and mask");
+    both.report("all light and all dark squares, each version, level and mask", "read");
 }
 
 /// The marks of another writer, read as what it was given.
@@ -261,5 +262,5 @@ fn outside(both: &mut Both) {
         let answer = both.as_any(&square, Reading::Side(side));
         same("the mark of another writer", &name, (answer.number, answer.corrected, hex(&answer.payload)), (0, 0, hex(&payload)));
     }
-    both.report("marks of another writer");
+    both.report("marks of another writer", "read");
 }

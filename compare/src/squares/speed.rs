@@ -127,26 +127,26 @@ fn switches(both: &Both) -> Vec<u8> {
     plan.square(0, 0, &plan.stream(0, &bits.bytes()))
 }
 
+/// The three calls, on full squares and on the deepest reading.
 fn stack(both: &Both) {
     let mut random = Random::new(14);
-    let mark = filled(both, &mut random, 84, 0, 3);
-    let small = filled(both, &mut random, 1, 0, 3);
+    let [small, large] = [1, 84].map(|version| filled(both, &mut random, version, 0, 0).square);
     let deep = switches(both);
     let (mut payload, mut script, mut receipt) = (vec![0; ROOM], vec![0; ROOM], [0; 12]);
-    let mut square = mark.square.clone();
-    let cases: [(&str, &[u8]); 3] = [("version 1", &small.square), ("version 84", &mark.square), ("version 84, switches without end", &deep)];
-    for (name, square) in cases {
-        let version = (square.len().isqrt() - 21) / 2;
-        for (call, how) in [("hx_read_square", Reading::Side(2 * version + 21)), ("hx_read_known", Reading::Known(version, 0, 3))] {
-            let how = if name.ends_with("end") && call == "hx_read_known" { Reading::Known(version, 0, 0) } else { how };
+    for (name, square) in [("version 1", small), ("version 84", large), ("version 84, region switches without end", deep)] {
+        let side = square.len().isqrt();
+        for (call, how) in [("hx_read_square", Reading::Side(side)), ("hx_read_known", Reading::Known((side - 21) / 2, 0, 0))] {
             let bytes = stack_of(|| {
-                read(square, how, &mut payload, &mut script, &mut receipt);
+                read(&square, how, &mut payload, &mut script, &mut receipt);
             });
             println!("stack of {call}, {name}: {bytes} bytes");
         }
     }
-    let bytes = stack_of(|| {
-        write(84, 0, 3, &mark.script, &mark.payload, &mut square);
-    });
-    println!("stack of hx_write_square, version 84: {bytes} bytes");
+    for version in [1, 84] {
+        let mut mark = filled(both, &mut random, version, 0, 3);
+        let bytes = stack_of(|| {
+            write(version, 0, 3, &mark.script, &mark.payload, &mut mark.square);
+        });
+        println!("stack of hx_write_square, version {version}: {bytes} bytes");
+    }
 }

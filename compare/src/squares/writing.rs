@@ -17,8 +17,8 @@ pub fn compare(both: &mut Both) {
         same("the number of a script", &hex(script), one(both, [84, 0, 1], script, payload), number);
         numbers[number] += 1;
     }
-    let refused = format!("{} answered 8, {} answered 11, {} answered 12, {} answered 13", numbers[8], numbers[11], numbers[12], numbers[13]);
-    println!("squares: {:9} writings of scripts and payloads, as they are and changed: {} written, {refused}", numbers.iter().sum::<usize>(), numbers[0]);
+    both.numbers = numbers;
+    both.report("writings of scripts and payloads, as they are and changed", "written");
     let mut count = 0;
     for version in [1, 2, 30, 84] {
         for level in 0..4 {
