@@ -22,7 +22,8 @@ fn ours(block: &mut [u8], parity: usize) -> Answer {
     unsafe { hx_correct(block.as_mut_ptr(), block.len(), parity) }
 }
 
-fn our_parity(block: &mut [u8], parity: usize) -> usize {
+/// The parity bytes of a block by our function, which is compared with the original's products here.
+pub fn our_parity(block: &mut [u8], parity: usize) -> usize {
     // SAFETY: the pointer and the length are those of one mutable slice.
     unsafe { hx_parity(block.as_mut_ptr(), block.len(), parity) }
 }
@@ -124,12 +125,9 @@ fn damaged(
     let mut block = vec![0; length];
     random.fill(&mut block);
     encode(field, &mut block, parity);
-    let mut places: Vec<usize> = (0..length).collect();
-    for i in 0..errors.min(length) {
-        let j = i + random.below(length - i);
-        places.swap(i, j);
-        block[places[i]] ^= u8::try_from(1 + random.below(255)).unwrap();
-    }
+    random.each_of(length, errors, |random, place| {
+        block[place] ^= random.change();
+    });
     block
 }
 

@@ -8,8 +8,10 @@ include!(concat!(env!("OUT_DIR"), "/original.rs"));
 
 mod blocks;
 mod segments;
+mod squares;
 mod symbol;
 mod tools;
+mod written;
 
 /// Stands in for the module of the original that is not at hand.
 pub mod numeric {
@@ -33,7 +35,7 @@ struct Part {
     record: fn() -> (Vec<u8>, String),
 }
 
-const PARTS: [Part; 3] = [
+const PARTS: [Part; 4] = [
     Part {
         name: "blocks",
         compare: blocks::compare,
@@ -51,6 +53,12 @@ const PARTS: [Part; 3] = [
         compare: segments::compare,
         bench: segments::bench,
         record: segments::record,
+    },
+    Part {
+        name: "squares",
+        compare: squares::compare,
+        bench: squares::bench,
+        record: squares::record,
     },
 ];
 

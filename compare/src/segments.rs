@@ -1,7 +1,8 @@
 //! Segments: `parse` of the original against Segments from data, on payload bytes and acceptance; scripts and refusals beside it against
-//! a small writer of this file, which has its own tables.
+//! the second writer in written.rs.
 use crate::han_xin::access::parse;
-use crate::tools::{Random, differs, hex, line, time};
+use crate::tools::{MARK, ROOM, Random, differs, hex, line, time};
+use crate::written::{Bits, Written};
 
 #[repr(C)]
 struct Told {
@@ -21,10 +22,6 @@ unsafe extern "C" {
     fn compare_segments_check(s: *const u8, sn: usize, p: *const u8, pn: usize) -> Checked;
 }
 
-const ROOM: usize = 12_288;
-/// What lent buffers hold before a call.
-const MARK: u8 = 0xA5;
-
 fn from_data(data: &[u8], payload: &mut [u8], script: &mut [u8]) -> Told {
     // SAFETY: each slice is passed with its own length, and none overlaps another.
     unsafe { compare_segments_from_data(data.as_ptr(), data.len(), payload.as_mut_ptr(), payload.len(), script.as_mut_ptr(), script.len()) }
@@ -33,22 +30,6 @@ fn from_data(data: &[u8], payload: &mut [u8], script: &mut [u8]) -> Told {
 fn check(script: &[u8], payload: &[u8]) -> Checked {
     // SAFETY: each slice is passed with its own length.
     unsafe { compare_segments_check(script.as_ptr(), script.len(), payload.as_ptr(), payload.len()) }
-}
-
-/// Bits of data, high bit first.
-#[derive(Default, Clone)]
-struct Bits(Vec<u8>);
-
-impl Bits {
-    fn put(&mut self, n: usize, v: usize) {
-        for i in (0..n).rev() {
-            self.0.push(u8::from(v >> i & 1 == 1));
-        }
-    }
-
-    fn bytes(&self) -> Vec<u8> {
-        self.0.chunks(8).map(|c| c.iter().enumerate().map(|(i, b)| b << (7 - i)).sum()).collect()
-    }
 }
 
 /// One input with buffers that are large; then exactly full, and one short. The number of answers by kind.
@@ -108,127 +89,6 @@ impl Tally {
         println!("segments: {what}: {} accepted, {} refused", self.accepted, self.refused);
         (self.accepted, self.refused) = (0, 0);
     }
-}
-
-/// A random segment: its bits, script and payload are appended.
-fn segment(random: &mut Random, bits: &mut Bits, script: &mut Vec<u8>, payload: &mut Vec<u8>, most: usize) {
-    let mode = 1 + random.below(8);
-    let n = random.below(most + 1);
-    let from = payload.len();
-    bits.put(4, mode);
-    match mode {
-        1 => {
-            let n = n.max(1);
-            let digits: Vec<usize> = (0..n).map(|_| random.below(10)).collect();
-            for group in digits.chunks(3) {
-                bits.put(10, group.iter().fold(0, |v, d| v * 10 + d));
-            }
-            bits.put(10, 1020 + (n - 1) % 3 + 1);
-            payload.extend(digits.iter().map(|&d| b'0' + d as u8));
-        }
-        2 => {
-            let first: Vec<u8> = (b'0'..=b'9').chain(b'A'..=b'Z').chain(b'a'..=b'z').collect();
-            let second: Vec<u8> = (0..=0x1B).chain(b' '..=b'/').chain(b':'..=b'@').chain(b'['..=b'`').chain(b'{'..=0x7F).collect();
-            let mut subset = 0;
-            for _ in 0..n {
-                let (next, code) = (random.below(2), random.below(62));
-                if next != subset {
-                    bits.put(6, 62);
-                    subset = next;
-                }
-                bits.put(6, code);
-                payload.push([&first, &second][next][code]);
-            }
-            bits.put(6, 63);
-        }
-        3 => {
-            bits.put(13, n);
-            for _ in 0..n {
-                let b = random.byte();
-                bits.put(8, usize::from(b));
-                payload.push(b);
-            }
-        }
-        4 | 5 => {
-            let mut region = mode;
-            for _ in 0..n {
-                let next = 4 + random.below(2);
-                if next != region {
-                    bits.put(12, 4094);
-                    region = next;
-                }
-                let (row, column) = if region == 5 {
-                    (0xD8 + random.below(32), 0xA1 + random.below(94))
-                } else {
-                    match random.below(3) {
-                        0 => (0xB0 + random.below(40), 0xA1 + random.below(94)),
-                        1 => (0xA1 + random.below(3), 0xA1 + random.below(94)),
-                        _ => (0xA8, 0xA1 + random.below(32)),
-                    }
-                };
-                let code = match (region, row) {
-                    (5, _) => (row - 0xD8) * 94 + column - 0xA1,
-                    (_, 0xA8) => 4042 + column - 0xA1,
-                    (_, 0xA1..=0xA3) => 3760 + (row - 0xA1) * 94 + column - 0xA1,
-                    _ => (row - 0xB0) * 94 + column - 0xA1,
-                };
-                bits.put(12, code);
-                payload.extend([row as u8, column as u8]);
-            }
-            bits.put(12, 4095);
-        }
-        6 => {
-            for _ in 0..n {
-                let (a, b) = (random.below(126), random.below(190));
-                bits.put(15, a * 190 + b);
-                payload.extend([0x81 + a as u8, if b < 63 { 0x40 + b as u8 } else { 0x41 + b as u8 }]);
-            }
-            bits.put(15, 32767);
-        }
-        7 => {
-            let (a, b, c, d) = (random.below(126), random.below(10), random.below(126), random.below(10));
-            bits.put(21, a * 12600 + b * 1260 + c * 10 + d);
-            payload.extend([0x81 + a as u8, 0x30 + b as u8, 0x81 + c as u8, 0x30 + d as u8]);
-        }
-        _ => {
-            let v = match random.below(8) {
-                0 => 127,
-                1 => 128,
-                2 => 16_383,
-                3 => 16_384,
-                4 => 2_097_151,
-                k => random.below([128, 16_384, 2_097_152][k - 5]),
-            };
-            match v {
-                0..128 => bits.put(8, v),
-                128..16_384 => bits.put(16, 0x8000 | v),
-                _ => bits.put(24, 0xC0_0000 | v),
-            }
-            script.extend([8, (v >> 16) as u8, (v >> 8) as u8, v as u8]);
-        }
-    }
-    let used = payload.len() - from;
-    match mode {
-        7 => script.push(7),
-        8 => {}
-        _ => script.extend([mode as u8, (used >> 8) as u8, used as u8]),
-    }
-}
-
-/// Random segments: data, script, payload and number of bits.
-fn segments(random: &mut Random, count: usize, most: usize) -> (Vec<u8>, Vec<u8>, Vec<u8>, usize) {
-    let (mut bits, mut script, mut payload) = (Bits::default(), Vec::new(), Vec::new());
-    for _ in 0..count {
-        let (b, s, p) = (bits.0.len(), script.len(), payload.len());
-        segment(random, &mut bits, &mut script, &mut payload, most);
-        if bits.0.len() > 8 * 3886 {
-            bits.0.truncate(b);
-            script.truncate(s);
-            payload.truncate(p);
-            break;
-        }
-    }
-    (bits.bytes(), script, payload, bits.0.len())
 }
 
 pub fn compare() {
@@ -323,7 +183,8 @@ fn written(tally: &mut Tally, random: &mut Random) {
     let mut checked = 0u64;
     for turn in 0..60_000 {
         let (count, most) = if turn % 100 == 0 { (400, 60) } else { (1 + random.below(6), 12) };
-        let (data, script, payload, bits) = segments(random, count, most);
+        let Written { bits, script, payload } = Written::random(random, count, most, 8 * 3886);
+        let (data, bits) = (bits.bytes(), bits.0.len());
         let got = check(&script, &payload);
         let expected = if payload.is_empty() { (8, 0) } else { (0, bits) };
         if (got.refusal, got.bits) != expected {
@@ -361,6 +222,34 @@ fn written(tally: &mut Tally, random: &mut Random) {
     println!("segments: {checked} scripts checked against another count of bits");
 }
 
+/// Scripts and payloads with the number that document 01 gives them.
+pub const SCRIPTS: [(&[u8], &[u8], usize); 24] = [
+    (&[], &[], 8),
+    (&[], &[1], 11),
+    (&[9], &[1], 11),
+    (&[0], &[], 11),
+    (&[1], &[b'1'], 11),
+    (&[1, 0], &[b'1'], 11),
+    (&[1, 0, 0], &[], 11),
+    (&[1, 0, 1], &[b'1'], 0),
+    (&[1, 0, 1], &[b'a'], 12),
+    (&[2, 0, 0], &[], 8),
+    (&[2, 0, 1], &[0x1B], 0),
+    (&[2, 0, 1], &[0x1C], 12),
+    (&[2, 0, 1], &[], 11),
+    (&[2, 0, 1], &[65, 65], 11),
+    (&[4, 0, 1], &[0xB0], 11),
+    (&[4, 0, 2], &[0xB0, 0xA1], 0),
+    (&[4, 0, 2], &[0xB0, 0xA0], 12),
+    (&[7], &[0x81, 0x30, 0x81], 11),
+    (&[7], &[0x81, 0x30, 0x81, 0x30], 0),
+    (&[7], &[0x80, 0x30, 0x81, 0x30], 12),
+    (&[8, 0x20, 0, 0, 2, 0, 1], &[65], 11),
+    (&[8, 0x1F, 0xFF, 0xFF, 2, 0, 1], &[65], 0),
+    (&[8, 0x1F, 0xFF], &[], 11),
+    (&[2, 0, 1, 9], &[0x1C], 11),
+];
+
 /// Inputs that are turned away, and long ones.
 fn bad(tally: &mut Tally) {
     for n in [3886, 3887, 5000, 1 << 20] {
@@ -383,33 +272,7 @@ fn bad(tally: &mut Tally) {
     }
     tally.one(&switches.bytes());
     tally.say("long data, region switches that never end");
-    let scripts: [(&[u8], &[u8], usize); 24] = [
-        (&[], &[], 8),
-        (&[], &[1], 11),
-        (&[9], &[1], 11),
-        (&[0], &[], 11),
-        (&[1], &[b'1'], 11),
-        (&[1, 0], &[b'1'], 11),
-        (&[1, 0, 0], &[], 11),
-        (&[1, 0, 1], &[b'1'], 0),
-        (&[1, 0, 1], &[b'a'], 12),
-        (&[2, 0, 0], &[], 8),
-        (&[2, 0, 1], &[0x1B], 0),
-        (&[2, 0, 1], &[0x1C], 12),
-        (&[2, 0, 1], &[], 11),
-        (&[2, 0, 1], &[65, 65], 11),
-        (&[4, 0, 1], &[0xB0], 11),
-        (&[4, 0, 2], &[0xB0, 0xA1], 0),
-        (&[4, 0, 2], &[0xB0, 0xA0], 12),
-        (&[7], &[0x81, 0x30, 0x81], 11),
-        (&[7], &[0x81, 0x30, 0x81, 0x30], 0),
-        (&[7], &[0x80, 0x30, 0x81, 0x30], 12),
-        (&[8, 0x20, 0, 0, 2, 0, 1], &[65], 11),
-        (&[8, 0x1F, 0xFF, 0xFF, 2, 0, 1], &[65], 0),
-        (&[8, 0x1F, 0xFF], &[], 11),
-        (&[2, 0, 1, 9], &[0x1C], 11),
-    ];
-    for (script, payload, refusal) in scripts {
+    for (script, payload, refusal) in SCRIPTS {
         let got = check(script, payload);
         if got.refusal != refusal || (refusal != 0) != (got.bits == 0) {
             differs("check", &format!("{} {}", hex(script), hex(payload)), &got.refusal.to_string(), &refusal.to_string());
@@ -426,7 +289,7 @@ fn bad(tally: &mut Tally) {
     if (got.refusal, got.bits) != (0, 31_089) {
         differs("check", "a script of 3 x 2^20 bytes", &format!("{} {}", got.refusal, got.bits), "0 31089");
     }
-    println!("segments: {} scripts with their refusals", scripts.len() + 3);
+    println!("segments: {} scripts with their refusals", SCRIPTS.len() + 3);
 }
 
 pub fn bench() {
@@ -515,7 +378,7 @@ pub fn record() -> (Vec<u8>, String) {
     }
     for turn in 0..420 {
         let count = 1 + random.below(6);
-        let (data, ..) = segments(&mut random, count, 12);
+        let data = Written::random(&mut random, count, 12, 8 * 3886).bits.bytes();
         if turn % 3 == 1 && !data.is_empty() {
             inputs.push(data[..random.below(data.len())].to_vec());
         }

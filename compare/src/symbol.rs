@@ -1,6 +1,6 @@
 //! The symbol: version, layout, information words and places, masks and the block table, against the original's.
 use crate::han_xin::{Module, access, info_bits, info_positions, layout, nearest_info, size, version};
-use crate::tools::{Random, differs, line, time};
+use crate::tools::{Random, line, same, time};
 
 #[repr(C)]
 #[derive(Clone, Copy, PartialEq, Eq, Debug)]
@@ -75,12 +75,6 @@ fn their_nearest(v: usize, read: [u64; 2]) -> Nearest {
     }
     let (level, mask, distance) = nearest_info(v, read);
     Nearest { number: 0, level, mask, distance: usize::try_from(distance).unwrap() }
-}
-
-fn same<T: PartialEq + std::fmt::Debug>(what: &str, input: &str, ours: T, theirs: T) {
-    if ours != theirs {
-        differs(what, input, &format!("{ours:?}"), &format!("{theirs:?}"));
-    }
 }
 
 /// The numbers of a constant in a source text.

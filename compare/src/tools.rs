@@ -1,6 +1,11 @@
 //! What the parts share: numbers that look random and are the same in each run, the end at a difference, and timing.
 use std::time::Instant;
 
+/// The length of payload and script buffers that is enough for any mark.
+pub const ROOM: usize = 12_288;
+/// What lent buffers hold before a call.
+pub const MARK: u8 = 0xA5;
+
 /// xorshift64*, from a fixed seed.
 pub struct Random(u64);
 
@@ -30,6 +35,21 @@ impl Random {
             *b = self.byte();
         }
     }
+
+    /// What changes a byte: a number that is not 0.
+    pub fn change(&mut self) -> u8 {
+        u8::try_from(1 + self.below(255)).unwrap()
+    }
+
+    /// Calls on `count` different numbers below n, in random order.
+    pub fn each_of(&mut self, n: usize, count: usize, mut call: impl FnMut(&mut Self, usize)) {
+        let mut all: Vec<usize> = (0..n).collect();
+        for i in 0..count.min(n) {
+            let j = i + self.below(n - i);
+            all.swap(i, j);
+            call(self, all[i]);
+        }
+    }
 }
 
 /// Bytes in hexadecimal, to show an input.
@@ -41,6 +61,13 @@ pub fn hex(bytes: &[u8]) -> String {
 pub fn differs(what: &str, input: &str, ours: &str, theirs: &str) -> ! {
     eprintln!("compare: {what} differs\n  input: {input}\n  ours:  {ours}\n  Rust:  {theirs}");
     std::process::exit(1);
+}
+
+/// Ends at a difference between two answers.
+pub fn same<T: PartialEq + std::fmt::Debug>(what: &str, input: &str, ours: T, theirs: T) {
+    if ours != theirs {
+        differs(what, input, &format!("{ours:?}"), &format!("{theirs:?}"));
+    }
 }
 
 /// Nanoseconds of one call: the least of several rounds, each long enough to be measured.
