@@ -26,18 +26,18 @@ const KINDS: [Kind; 6] = [
 pub fn compare() {
     let mut both = Both::new();
     let mut random = Random::new(11);
+    outside(&mut both);
+    bad::compare(&mut both);
+    nine(&mut both, &mut random);
+    plain(&mut both);
     clean(&mut both, &mut random);
+    writing::compare(&mut both);
     for (count, one, name) in KINDS {
         for _ in 0..count {
             one(&mut both, &mut random);
         }
         both.report(name, "read");
     }
-    nine(&mut both, &mut random);
-    plain(&mut both);
-    outside(&mut both);
-    bad::compare(&mut both);
-    writing::compare(&mut both);
 }
 
 /// Every version, level and mask, eight marks each that start with each of the modes.
