@@ -261,6 +261,9 @@ fn outside(both: &mut Both) {
         let side = square.len().isqrt();
         let answer = both.as_any(&square, Reading::Side(side));
         same("the mark of another writer", &name, (answer.number, answer.corrected, hex(&answer.payload)), (0, 0, hex(&payload)));
+        // The name says which level and mask were asked for.
+        let told = format!("level {}, mask {},", answer.level, answer.mask);
+        same("the level and mask of another writer", &name, name.contains(&told) || name.contains("mask any"), true);
     }
     both.report("marks of another writer", "read");
 }
