@@ -70,8 +70,8 @@ pub fn same<T: PartialEq + std::fmt::Debug>(what: &str, input: &str, ours: T, th
     }
 }
 
-/// Nanoseconds of one call: the least of several rounds, each long enough to be measured.
-pub fn time(mut call: impl FnMut()) -> f64 {
+/// How often to call in a round that is long enough to be measured.
+fn turns(call: &mut impl FnMut()) -> u32 {
     let mut turns = 1u32;
     loop {
         let start = Instant::now();
@@ -79,19 +79,32 @@ pub fn time(mut call: impl FnMut()) -> f64 {
             call();
         }
         if start.elapsed().as_micros() >= 2000 {
-            break;
+            return turns;
         }
         turns *= 2;
     }
-    let mut best = f64::INFINITY;
-    for _ in 0..7 {
-        let start = Instant::now();
-        for _ in 0..turns {
-            call();
-        }
-        best = best.min(start.elapsed().as_secs_f64() * 1e9 / f64::from(turns));
+}
+
+/// Nanoseconds of one call in a round.
+fn round(call: &mut impl FnMut(), turns: u32) -> f64 {
+    let start = Instant::now();
+    for _ in 0..turns {
+        call();
     }
-    best
+    start.elapsed().as_secs_f64() * 1e9 / f64::from(turns)
+}
+
+/// Nanoseconds of one call: the least of several rounds.
+pub fn time(mut call: impl FnMut()) -> f64 {
+    let n = turns(&mut call);
+    (0..7).map(|_| round(&mut call, n)).fold(f64::INFINITY, f64::min)
+}
+
+/// The same of two calls by turns, so that what else the machine does meets both.
+pub fn time_both(mut ours: impl FnMut(), mut theirs: impl FnMut()) -> (f64, f64) {
+    let (n, m) = (turns(&mut ours), turns(&mut theirs));
+    let least = |(a, b): (f64, f64), (c, d): (f64, f64)| (a.min(c), b.min(d));
+    (0..9).map(|_| (round(&mut ours, n), round(&mut theirs, m))).fold((f64::INFINITY, f64::INFINITY), least)
 }
 
 /// One line of the benchmark.

@@ -66,20 +66,20 @@ fn differences(both: &Both, random: &mut Random) {
     let mark = both.random_mark(random, 5, 1, 0);
     let modules: Vec<bool> = mark.square.iter().map(|&b| b == 1).collect();
     let long = [&modules[..], &[true; 9]].concat();
-    let short = &modules[..modules.len() - 1];
+    let (half, short) = (&modules[..modules.len() / 2], &modules[..modules.len() - 1]);
     let read = |modules: &[bool], version, level, mask| {
         std::panic::catch_unwind(|| decode_data(modules, version, level, mask).map(|r| r.bytes)).ok()
     };
     let hook = std::panic::take_hook();
     std::panic::set_hook(Box::new(|_| {}));
-    let outside = [(&modules[..], 0, 0), (&modules, 85, 0), (&modules, 5, 4), (short, 5, 1)];
+    let outside = [(&modules[..], 0, 0), (&modules, 85, 0), (&modules, 5, 4), (half, 5, 1)];
     let panics = outside.map(|(modules, version, level)| read(modules, version, level, 0).is_none());
-    let reads = [read(&modules, 5, 1, 4), read(&long, 5, 1, 0)];
+    let reads = [read(&modules, 5, 1, 4), read(&long, 5, 1, 0), read(short, 5, 1, 0)];
     std::panic::set_hook(hook);
-    same("the original's panics", "version 0, version 85, level 4, a short square", panics, [true; 4]);
-    let payload = Some(Some(mark.payload.clone()));
-    same("what the original reads", "mask 4 as mask 0, a long square", reads, [payload.clone(), payload]);
-    println!("squares:         6 readings of the original outside its domain, as docs/DIFFERENCES.md has them");
+    same("the original's panics", "version 0, version 85, level 4, half a square", panics, [true; 4]);
+    let payload = [(); 3].map(|()| Some(Some(mark.payload.clone())));
+    same("what the original reads", "mask 4 as mask 0, a long square, one that lacks its last module", reads, payload);
+    println!("squares:         7 readings of the original outside its domain, as docs/DIFFERENCES.md has them");
 }
 
 /// The two readings of a mark.

@@ -26,18 +26,18 @@ const KINDS: [Kind; 6] = [
 pub fn compare() {
     let mut both = Both::new();
     let mut random = Random::new(11);
+    outside(&mut both);
+    bad::compare(&mut both);
+    nine(&mut both, &mut random);
+    plain(&mut both);
     clean(&mut both, &mut random);
+    writing::compare(&mut both);
     for (count, one, name) in KINDS {
         for _ in 0..count {
             one(&mut both, &mut random);
         }
         both.report(name, "read");
     }
-    nine(&mut both, &mut random);
-    plain(&mut both);
-    outside(&mut both);
-    bad::compare(&mut both);
-    writing::compare(&mut both);
 }
 
 /// Every version, level and mask, eight marks each that start with each of the modes.
@@ -261,6 +261,9 @@ fn outside(both: &mut Both) {
         let side = square.len().isqrt();
         let answer = both.as_any(&square, Reading::Side(side));
         same("the mark of another writer", &name, (answer.number, answer.corrected, hex(&answer.payload)), (0, 0, hex(&payload)));
+        // The name says which level and mask were asked for.
+        let told = format!("level {}, mask {},", answer.level, answer.mask);
+        same("the level and mask of another writer", &name, name.contains(&told) || name.contains("mask any"), true);
     }
     both.report("marks of another writer", "read");
 }

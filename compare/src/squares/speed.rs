@@ -2,7 +2,7 @@
 use super::kinds::damage_full;
 use super::{Both, Mark, Reading, read, write};
 use crate::han_xin::decode_matrix;
-use crate::tools::{ROOM, Random, line, time};
+use crate::tools::{ROOM, Random, line, time, time_both};
 use crate::written::Written;
 use std::hint::black_box;
 use std::io::Write as _;
@@ -37,12 +37,13 @@ fn filled(both: &Both, random: &mut Random, version: usize, level: usize, mask: 
 fn reading(name: &str, square: &[u8]) {
     let (side, modules) = (square.len().isqrt(), square.iter().map(|&b| b == 1).collect::<Vec<_>>());
     let (mut payload, mut script, mut receipt) = (vec![0; ROOM], vec![0; ROOM], [0; 12]);
-    let ours = time(|| {
+    let our_call = || {
         black_box(read(black_box(square), Reading::Side(side), &mut payload, &mut script, &mut receipt));
-    });
-    let theirs = time(|| {
+    };
+    let their_call = || {
         black_box(decode_matrix(black_box(&modules), side));
-    });
+    };
+    let (ours, theirs) = time_both(our_call, their_call);
     assert_eq!(receipt[0], 0);
     line(name, ours, theirs);
 }
