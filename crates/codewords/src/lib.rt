@@ -28,12 +28,6 @@ pub struct Codeword {
     pub place: Place,
 }
 
-fn wide(x: u8) -> usize
-    ensures { λ r. ⌜ r ≡ x ⌝ }
-{
-    x as usize
-}
-
 // Whether data mask `mask` inverts (1) the module at i = row + 1 and j = column + 1.
 pub fn masked(mask: usize, i: usize, j: usize) -> usize
     requires { ⌜ (0 < i) × (i < 70000) × (0 < j) × (j < 70000) ⌝ }
@@ -79,7 +73,7 @@ fn push_module(byte: Byte, kind: u8, dark: u8, p: Place, mask: usize) -> Byte
     }
     let m = masked(mask, p.row + 1, p.column + 1);
     Byte {
-        value: byte.value * 2 + (wide(dark) ^ m),
+        value: byte.value * 2 + (bits::wide(dark) ^ m),
         bits: byte.bits + 1,
     }
 }

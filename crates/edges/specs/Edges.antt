@@ -1,14 +1,14 @@
 -- Document 01, "Edges": those marked P, in its order. Each is a definition that contracts cite, applied, and the value that 01 gives.
-use mathlib.Core.Bool.{Bool, true, false, _&&_}
+use mathlib.Core.Bool.{Bool, true, _&&_}
 use mathlib.Core.List.{List, [], _∷_}
 use Prim.Native.Nat.{ℕ}
-use lib.Dec.{eqb}
 use lib.ListN.{getD, take, replicate}
 use Rattle.field.specs.Field.{power}
 use Rattle.symbol.specs.Version.{sideRefusal, sideVersion}
 use Rattle.information.specs.Information.{infoBits}
 use Rattle.codewords.specs.Codewords.{order}
 use Rattle.segments.specs.FromData.{Outcome, fromData}
+use Rattle.script.specs.Writer.{same}
 
 pub record Edge : Type 0 where
   pub given : List ℕ
@@ -46,12 +46,6 @@ edges =
     ∷ []
 
 -- ---- what it means that they hold
-
-unfoldable pub same : List ℕ → List ℕ → Bool
-same [] [] = true
-same [] (y ∷ ys) = false
-same (x ∷ xs) [] = false
-same (x ∷ xs) (y ∷ ys) = eqb x y && same xs ys
 
 unfoldable pub hold : List Edge → Bool
 hold [] = true

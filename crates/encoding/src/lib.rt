@@ -13,12 +13,6 @@ ghost use Rattle.script.specs.Check.{commandsOf, encoded};
 ghost use Rattle.encoding.specs.Written.{Written};
 ghost use Rattle.encoding.specs.Fits.{Fits};
 
-fn wide(x: u8) -> usize
-    ensures { λ r. ⌜ (r ≡ x) × (r < 256) ⌝ }
-{
-    x as usize
-}
-
 // Writes the n low bits of a number, and says where the next go.
 fn put(buf: &mut [u8], at: usize, n: usize, v: usize) -> usize
     requires { ⌜ (length (now buf) ≤ 4096) × (at + n ≤ 8 * length (now buf)) × (n ≤ 24) ⌝ }
@@ -82,7 +76,7 @@ fn digit(run: &[u8], j: usize) -> usize
     requires { ⌜ j < length (now run) ⌝ }
     ensures { λ r. ⌜ (r ≡ getD (now (run .entry)) j 0 - 48) × (r < 256) ⌝ }
 {
-    script::minus(wide(run[j]), 48)
+    script::minus(bits::wide(run[j]), 48)
 }
 
 // The digits of a run in groups of three, and the end with the number of the last group's digits.
@@ -117,7 +111,7 @@ fn write_bytes(buf: &mut [u8], from: usize, run: &[u8]) -> usize
     let mut at = from;
     let mut j: usize = 0;
     while j < run.len() {
-        at = put(buf, at, 8, wide(run[j]));
+        at = put(buf, at, 8, bits::wide(run[j]));
         j += 1;
     }
     at

@@ -36,12 +36,6 @@ pub enum Check {
     Empty,
 }
 
-fn wide(x: u8) -> usize
-    ensures { λ r. ⌜ (r ≡ x) × (r < 256) ⌝ }
-{
-    x as usize
-}
-
 // The value of a byte in a subset of the text mode, where it has one.
 pub fn code(first: bool, b: usize) -> usize
     ensures { λ r. ⌜ r ≡ codeOf first b ⌝ }
@@ -154,10 +148,10 @@ pub fn four_code(run: &[u8]) -> usize
     if run.len() < 4 {
         return 0;
     }
-    minus(wide(run[0]), 0x81) * 12600
-        + minus(wide(run[1]), 0x30) * 1260
-        + minus(wide(run[2]), 0x81) * 10
-        + minus(wide(run[3]), 0x30)
+    minus(bits::wide(run[0]), 0x81) * 12600
+        + minus(bits::wide(run[1]), 0x30) * 1260
+        + minus(bits::wide(run[2]), 0x81) * 10
+        + minus(bits::wide(run[3]), 0x30)
 }
 
 // The four-byte mode has four bytes.
@@ -171,16 +165,16 @@ fn in_four(run: &[u8]) -> bool
     if run.len() != 4 {
         return false;
     }
-    if 0x81 + w / 12600 != wide(run[0]) {
+    if 0x81 + w / 12600 != bits::wide(run[0]) {
         return false;
     }
-    if 0x30 + w % 12600 / 1260 != wide(run[1]) {
+    if 0x30 + w % 12600 / 1260 != bits::wide(run[1]) {
         return false;
     }
-    if 0x81 + w % 1260 / 10 != wide(run[2]) {
+    if 0x81 + w % 1260 / 10 != bits::wide(run[2]) {
         return false;
     }
-    0x30 + w % 10 == wide(run[3])
+    0x30 + w % 10 == bits::wide(run[3])
 }
 
 fn is_digit(b: usize) -> bool
@@ -198,7 +192,7 @@ fn all_digits(run: &[u8]) -> bool
 {
     let mut j: usize = 0;
     while j < run.len() {
-        if !is_digit(wide(run[j])) {
+        if !is_digit(bits::wide(run[j])) {
             return false;
         }
         j += 1;
@@ -247,15 +241,15 @@ pub fn glyph_at(mode: usize, first: bool, run: &[u8], j: usize) -> Glyph
     ensures { λ r. ⌜ Glyphed mode first (drop j (now (run .entry))) r ⌝ }
 {
     if mode == 2 {
-        return text_glyph(first, wide(run[j]));
+        return text_glyph(first, bits::wide(run[j]));
     }
     if run.len() - j < 2 {
         return Glyph::Lacking;
     }
     if mode == 6 {
-        return double_glyph(wide(run[j]), wide(run[j + 1]));
+        return double_glyph(bits::wide(run[j]), bits::wide(run[j + 1]));
     }
-    region_glyph(first, wide(run[j]), wide(run[j + 1]))
+    region_glyph(first, bits::wide(run[j]), bits::wide(run[j + 1]))
 }
 
 pub fn step(mode: usize) -> usize
@@ -376,8 +370,8 @@ fn run_at(script: &[u8], i: usize) -> Command
     if script.len() - i < 3 {
         return Command::Wrong;
     }
-    let mode = wide(script[i]);
-    let n = wide(script[i + 1]) * 256 + wide(script[i + 2]);
+    let mode = bits::wide(script[i]);
+    let n = bits::wide(script[i + 1]) * 256 + bits::wide(script[i + 2]);
     if is_allowed(mode, n) {
         return Command::Run(mode, n);
     }
@@ -392,7 +386,9 @@ fn eci_at(script: &[u8], i: usize) -> Command
     if script.len() - i < 4 {
         return Command::Wrong;
     }
-    let v = wide(script[i + 1]) * 65536 + wide(script[i + 2]) * 256 + wide(script[i + 3]);
+    let v = bits::wide(script[i + 1]) * 65536
+        + bits::wide(script[i + 2]) * 256
+        + bits::wide(script[i + 3]);
     if 2097151 < v {
         return Command::Wrong;
     }
@@ -404,7 +400,7 @@ pub fn command_at(script: &[u8], i: usize) -> Command
     requires { ⌜ i < length (now script) ⌝ }
     ensures { λ r. ⌜ r ≡ commandAt (drop i (now (script .entry))) ⌝ }
 {
-    let m = wide(script[i]);
+    let m = bits::wide(script[i]);
     if m == 7 {
         return Command::Run(7, 4);
     }
