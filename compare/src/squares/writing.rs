@@ -27,6 +27,8 @@ pub fn compare(both: &mut Both) {
         }
     }
     println!("squares: {count:9} writings of bad input, of scripts exactly full and one bit over, and of two faults at once");
+    // The full marks were read as well: they count as writings, above.
+    both.numbers = [0; 14];
 }
 
 /// One writing on both sides: its number.
