@@ -7,45 +7,15 @@ use corrector::Correction;
 use libc::STDIN_FILENO;
 use libc::STDOUT_FILENO;
 
-fn wide(x: u8) -> usize
-    ensures { λ r. ⌜ r < 256 ⌝ }
-{
-    x as usize
-}
-
 fn two(high: u8, low: u8) -> usize
     ensures { λ r. ⌜ r < 65536 ⌝ }
 {
-    wide(high) * 256 + wide(low)
-}
-
-fn digit(x: u8) -> u8 {
-    if x < 10 {
-        48 + x
-    } else if x < 16 {
-        55 + x
-    } else {
-        63
-    }
-}
-
-fn byte(b: u8) {
-    let pair = [digit(b / 16), digit(b % 16)];
-    io::write_all(STDOUT_FILENO, &pair);
+    bits::wide(high) * 256 + bits::wide(low)
 }
 
 fn number(n: usize) {
     io::print_decimal(STDOUT_FILENO, n as u64);
     io::write_all(STDOUT_FILENO, b" ");
-}
-
-fn bytes(block: &[u8]) {
-    let mut i = 0;
-    while i < block.len() {
-        byte(block[i]);
-        i += 1;
-    }
-    io::write_all(STDOUT_FILENO, b"\n");
 }
 
 fn one(block: &mut [u8], parity: usize) {
@@ -63,7 +33,8 @@ fn one(block: &mut [u8], parity: usize) {
             number(0);
         }
     }
-    bytes(block);
+    replay::hex(block, block.len());
+    io::write_all(STDOUT_FILENO, b"\n");
 }
 
 // The record at a place, and the place behind it; the end of the list where no whole record is left.

@@ -5,44 +5,13 @@ use libc::STDIN_FILENO;
 use libc::STDOUT_FILENO;
 use segments::Answer;
 
-fn wide(x: u8) -> usize
-    ensures { λ r. ⌜ r < 256 ⌝ }
-{
-    x as usize
-}
-
-// A nibble as a hexadecimal digit.
-fn nibble(x: u8) -> u8 {
-    let n = x % 16;
-    if n < 10 {
-        return 48 + n;
-    }
-    55 + n
-}
-
-fn put(b: u8) {
-    let pair = [nibble(b / 16), nibble(b)];
-    io::write_all(STDOUT_FILENO, &pair);
-}
-
-fn line(payload: &[u8], n: usize) {
-    if payload.len() < n {
-        return;
-    }
-    let mut i: usize = 0;
-    while i < n {
-        put(payload[i]);
-        i += 1;
-    }
-    io::write_all(STDOUT_FILENO, b"\n");
-}
-
 fn one(codewords: &[u8]) {
     let mut payload = [0u8; 12288];
     let mut script = [0u8; 12288];
     let answer = segments::from_data(codewords, &mut payload, &mut script);
     if let Answer::Read(n, _) = answer {
-        line(&payload, n);
+        replay::hex(&payload, n);
+        io::write_all(STDOUT_FILENO, b"\n");
     } else {
         io::write_all(STDOUT_FILENO, b"-\n");
     }
@@ -54,7 +23,7 @@ fn all(records: &[u8]) {
         if records.len() - i < 2 {
             return;
         }
-        let n = wide(records[i]) * 256 + wide(records[i + 1]);
+        let n = bits::wide(records[i]) * 256 + bits::wide(records[i + 1]);
         let from = i + 2;
         if records.len() - from < n {
             return;

@@ -4,37 +4,6 @@ ghost use Prim.Native.Nat.{_<_, _≤_};
 use libc::STDIN_FILENO;
 use libc::STDOUT_FILENO;
 
-fn wide(x: u8) -> usize
-    ensures { λ r. ⌜ r < 256 ⌝ }
-{
-    x as usize
-}
-
-// A nibble as a hexadecimal digit.
-fn nibble(x: u8) -> u8 {
-    let n = x % 16;
-    if n < 10 {
-        return 48 + n;
-    }
-    55 + n
-}
-
-fn put(b: u8) {
-    let pair = [nibble(b / 16), nibble(b)];
-    io::write_all(STDOUT_FILENO, &pair);
-}
-
-fn hex(payload: &[u8], n: usize) {
-    if payload.len() < n {
-        return;
-    }
-    let mut i: usize = 0;
-    while i < n {
-        put(payload[i]);
-        i += 1;
-    }
-}
-
 // Module i of modules that stand 8 to a byte, high bit first.
 fn module(packed: &[u8], i: usize) -> u8 {
     let at = i / 8;
@@ -58,8 +27,11 @@ fn line(payload: &[u8], receipt: &[u8]) {
     if receipt.len() < 12 {
         return;
     }
-    hex(payload, wide(receipt[7]) * 256 + wide(receipt[8]));
-    let count = wide(receipt[4]) * 256 + wide(receipt[5]);
+    replay::hex(
+        payload,
+        bits::wide(receipt[7]) * 256 + bits::wide(receipt[8]),
+    );
+    let count = bits::wide(receipt[4]) * 256 + bits::wide(receipt[5]);
     io::write_all(STDOUT_FILENO, b" ");
     io::print_decimal(STDOUT_FILENO, count as u64);
     io::write_all(STDOUT_FILENO, b"\n");
@@ -104,7 +76,7 @@ fn record(packed: &[u8], side: usize)
 fn all(records: &[u8]) {
     let mut i: usize = 0;
     while i < records.len() {
-        let side = wide(records[i]);
+        let side = bits::wide(records[i]);
         if 189 < side {
             return;
         }

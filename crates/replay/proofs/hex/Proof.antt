@@ -2,8 +2,8 @@ use Prim.Native.Nat.{_≤_, _-_}
 use native.Mathlib.Omega.{arith}
 use borrow.Author.Needs.{needs}
 use lib.ListN.{length}
-use Rattle.replay_squares.proofs.hex.Statement.{statement}
-use Rattle.replay_squares.proofs.hex.Tie as tie
+use Rattle.replay.proofs.hex.Statement.{statement}
+use Rattle.replay.proofs.hex.Tie as tie
 
 abbrev Inv-loop : tie.InvT-loop
 Inv-loop payload n i₀ i = (n ≤ length payload) × (i ≤ n)
