@@ -6,6 +6,7 @@ use Prim.Native.Nat.{ℕ, _≤_, _<_, _*_, _-_, _+_}
 use lib.ListN.{length, drop}
 use Rattle.bits.specs.Bits.{bitsOf}
 use Rattle.bits.proofs.Words.{WordAt, word-read, word-few}
+use Rattle.bit_reader.proofs.Inside.{read-inside}
 use Rattle.segments.specs.declared.Count.{Count}
 use Rattle.segments.specs.Segments.{segmentOf, parse, segmentsOf}
 use Rattle.segments.specs.Passes.{Passed}
@@ -24,8 +25,8 @@ abbrev μ-loop : tie.MeasureT-loop
 loop-holds : tie.Need-loop-holds Inv-loop μ-loop
 loop-holds c = (refl, refl, omega arith, omega arith, omega arith, (8 * length (c .before .before .before .args .s .now) + 1, omega arith, λ r x y h. h))
 
-read-bits-requires : tie.Need-read-bits-requires Inv-loop μ-loop
-read-bits-requires c κs = search needs
+mode-requires : tie.Need-mode-requires Inv-loop μ-loop
+mode-requires c κs = search needs
 
 enum-known-got : tie.Need-enum-known-got Inv-loop μ-loop
 enum-known-got c = c .match .keys1
@@ -44,7 +45,7 @@ returns c =
     let b = c .before .before in
     let l = b .before .loop in
     let a = b .before .before .before .before .before .args in
-    l .inv .5 .2 _ _ _ (pass-few (a .s .now) (l .at) (l .n) (l .m) (l .out) (l .script) (l .inv .5 .0) (omega arith) (word-few 4 (l .at) (a .s .now) (b .read-bits .result) (b .read-bits .ensures) (c .enum-told .given .1)))
+    l .inv .5 .2 _ _ _ (pass-few (a .s .now) (l .at) (l .n) (l .m) (l .out) (l .script) (l .inv .5 .0) (omega arith) (word-few 4 (l .at) (a .s .now) (b .mode .result) (b .mode .ensures ∙ read-inside (a .s .now) (l .at) 4 (omega arith) (omega arith) (omega arith)) (c .enum-told .given .1)))
 
 -- what was read, where a word was read
 word : (c : tie.After-known-told Inv-loop μ-loop)
@@ -53,7 +54,7 @@ word c =
     let b = c .before .before .before in
     let l = b .before .loop in
     let a = b .before .before .before .before .before .args in
-    word-read 4 (l .at) (a .s .now) (b .read-bits .result) (b .read-bits .ensures) (c .before .got .given .0 .0) (omega arith) (omega arith) (c .before .got .given .1)
+    word-read 4 (l .at) (a .s .now) (b .mode .result) (b .mode .ensures ∙ read-inside (a .s .now) (l .at) 4 (omega arith) (omega arith) (omega arith)) (c .before .got .given .0 .0) (omega arith) (omega arith) (c .before .got .given .1)
 
 same-length-3 : tie.Need-same-length-3 Inv-loop μ-loop
 same-length-3 c = c .before .before .before .before .before .loop .inv .0
@@ -170,7 +171,7 @@ pass-spec =
     Inv-loop
     μ-loop
     loop-holds
-    read-bits-requires
+    mode-requires
     enum-known-got
     enum-told
     same-length

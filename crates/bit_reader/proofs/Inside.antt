@@ -1,0 +1,13 @@
+-- Within the data, the bit reader gives what the bits from its position on say. Assumes nothing.
+use mathlib.Core.Path.{_≡_, refl}
+use mathlib.Core.List.{List}
+use Prim.Native.Nat.{ℕ, _*_, _≤_}
+use native.Mathlib.Omega.{arith}
+use borrow.Author.Tests.{le-ltb}
+use lib.ListN.{length, drop}
+use Rattle.bits.specs.Bits.{bitsOf, readOf}
+use Rattle.bit_reader.specs.Read.{readAt}
+
+pub read-inside : (s : List ℕ) (at n : ℕ) → length s ≤ 4096 → at ≤ 8 * length s → n ≤ 21 → readAt s at n ≡ readOf n (drop at (bitsOf s))
+unfolding readAt
+read-inside s at n h k l = simp (le-ltb 4096 (length s) h, le-ltb (length s * 8) at (omega arith), le-ltb 21 n l)

@@ -1,0 +1,2 @@
+-- Laws of the bit reader.
+pub mod Inside

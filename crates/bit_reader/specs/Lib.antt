@@ -1,0 +1,2 @@
+-- What the bit reader gives.
+pub mod Read
