@@ -462,19 +462,21 @@ pub enum Step {
     Lacking,
 }
 
+// Where a pass stands: the position, and the lengths of payload and script so far.
+pub struct Place {
+    pub at: usize,
+    pub payload: usize,
+    pub script: usize,
+}
+
 // One segment of a mode, and its command.
-pub fn segment(
-    s: &[u8],
-    from: usize,
-    mode: usize,
-    out: &mut [u8],
-    n: usize,
-    script: &mut [u8],
-    m: usize,
-) -> Step
-    requires { ⌜ (length (now s) ≤ 4096) × (from ≤ 8 * length (now s)) × (n ≤ from) × (m + 4 ≤ from) × (mode < 16) ⌝ }
-    ensures { λ r. ⌜ Stepped (now (s .entry)) from n m (now (out .entry)) (now (script .entry)) (segmentOf mode (drop from (bitsOf (now (s .entry))))) r (now (out .exit)) (now (script .exit)) ⌝ }
+pub fn segment(s: &[u8], place: Place, mode: usize, out: &mut [u8], script: &mut [u8]) -> Step
+    requires { ⌜ (length (now s) ≤ 4096) × (place .at ≤ 8 * length (now s)) × (place .payload ≤ place .at) × (place .script + 4 ≤ place .at) × (mode < 16) ⌝ }
+    ensures { λ r. ⌜ Stepped (now (s .entry)) (place .at) (place .payload) (place .script) (now (out .entry)) (now (script .entry)) (segmentOf mode (drop (place .at) (bitsOf (now (s .entry))))) r (now (out .exit)) (now (script .exit)) ⌝ }
 {
+    let from = place.at;
+    let n = place.payload;
+    let m = place.script;
     if mode == 8 {
         let designator = eci_value(s, from);
         return match designator {
@@ -513,7 +515,12 @@ fn pass(s: &[u8], out: &mut [u8], script: &mut [u8]) -> Count
         if mode == 0 {
             return Count::Done(n, m);
         }
-        let next = segment(s, at + 4, mode, out, n, script, m);
+        let place = Place {
+            at: at + 4,
+            payload: n,
+            script: m,
+        };
+        let next = segment(s, place, mode, out, script);
         match next {
             Step::On(place, k, j) => {
                 at = place;

@@ -69,8 +69,8 @@ returns-2 c =
     let a = k .before .before .before .before .before .before .before .before .args in
     l .inv .5 .2 _ _ _ (pass-end (a .s .now) (l .at) (l .n) (l .m) (l .out) (l .script) (k .before .got .given .0 .0) (word k) (l .inv .5 .0) (omega arith) (c .if1 .taken))
 
-add-segment : tie.Need-add-segment Inv-loop μ-loop
-add-segment c = omega arith
+add-t15 : tie.Need-add-t15 Inv-loop μ-loop
+add-t15 c = omega arith
 
 segment-requires : tie.Need-segment-requires Inv-loop μ-loop
 segment-requires c κs =
@@ -94,7 +94,7 @@ room c =
     let l = k .before .before .before .before .loop in
     let a = k .before .before .before .before .before .before .before .before .args in
     let q = g .segment in
-    step-room (a .s .now) (l .at + 4) (l .n) (l .m) (l .out) (l .script) (segmentOf (k .before .got .given .0 .0) (drop (l .at + 4) (bitsOf (a .s .now)))) (q .result) (v .0 .0) (v .0 .1 .0) (v .0 .1 .1 .0) (q .last .1 .1 .1 .0) (q .last .1 .1 .1 .1 .1 .0) (q .ensures) (v .1)
+    step-room (a .s .now) (l .at + 4) (l .n) (l .m) (l .out) (l .script) (segmentOf (k .before .got .given .0 .0) (drop (l .at + 4) (bitsOf (a .s .now)))) (q .result) (v .0 .0) (v .0 .1 .0) (v .0 .1 .1 .0) (q .last .1 .1 .1 .0) (q .last .1 .1 .1 .1 .0) (q .ensures) (v .1)
 
 loop-less : tie.Need-loop-less Inv-loop μ-loop
 loop-less c =
@@ -115,14 +115,14 @@ loop-again c =
     let a = k .before .before .before .before .before .before .before .before .args in
     let q = g .segment in (
       q .kept .1 .1 .1 .0 ∙ l .inv .0,
-      q .kept .1 .1 .1 .1 .1 .0 ∙ l .inv .1,
+      q .kept .1 .1 .1 .1 .0 ∙ l .inv .1,
       omega arith,
       omega arith,
       omega arith,
       (
         l .inv .5 .0 - 1,
         omega arith,
-        λ t x y h. l .inv .5 .2 t x y (pass-on (a .s .now) (l .at) (l .n) (l .m) (l .out) (l .script) (k .before .got .given .0 .0) w (l .inv .5 .0) (omega arith) (e .if1 .left) (q .result) (q .last .1 .1 .1 .0) (q .last .1 .1 .1 .1 .1 .0) (q .ensures) (v .0 .0) (v .0 .1 .0) (v .0 .1 .1 .0) (v .1) t x y h),
+        λ t x y h. l .inv .5 .2 t x y (pass-on (a .s .now) (l .at) (l .n) (l .m) (l .out) (l .script) (k .before .got .given .0 .0) w (l .inv .5 .0) (omega arith) (e .if1 .left) (q .result) (q .last .1 .1 .1 .0) (q .last .1 .1 .1 .1 .0) (q .ensures) (v .0 .0) (v .0 .1 .0) (v .0 .1 .1 .0) (v .1) t x y h),
       ),
     )
 
@@ -133,7 +133,7 @@ same-length-5 : tie.Need-same-length-5 Inv-loop μ-loop
 same-length-5 c = c .before .before .before .before .before .before .segment .kept .1 .1 .1 .0 ∙ c .before .before .before .before .before .before .before .before .before .before .before .before .before .before .loop .inv .0
 
 same-length-6 : tie.Need-same-length-6 Inv-loop μ-loop
-same-length-6 c = c .before .before .before .before .before .before .segment .kept .1 .1 .1 .1 .1 .0 ∙ c .before .before .before .before .before .before .before .before .before .before .before .before .before .before .loop .inv .1
+same-length-6 c = c .before .before .before .before .before .before .segment .kept .1 .1 .1 .1 .0 ∙ c .before .before .before .before .before .before .before .before .before .before .before .before .before .before .loop .inv .1
 
 returns-3 : tie.Need-returns-3 Inv-loop μ-loop
 returns-3 c =
@@ -143,7 +143,7 @@ returns-3 c =
     let l = k .before .before .before .before .loop in
     let a = k .before .before .before .before .before .before .before .before .args in
     let q = g .segment in
-    l .inv .5 .2 _ _ _ (pass-cut (a .s .now) (l .at) (l .n) (l .m) (l .out) (l .script) (k .before .got .given .0 .0) (word k) (l .inv .5 .0) (omega arith) (e .if1 .left) (q .result) (q .last .1 .1 .1 .0) (q .last .1 .1 .1 .1 .1 .0) (q .ensures) (c .enum-told2 .given .1))
+    l .inv .5 .2 _ _ _ (pass-cut (a .s .now) (l .at) (l .n) (l .m) (l .out) (l .script) (k .before .got .given .0 .0) (word k) (l .inv .5 .0) (omega arith) (e .if1 .left) (q .result) (q .last .1 .1 .1 .0) (q .last .1 .1 .1 .1 .0) (q .ensures) (c .enum-told2 .given .1))
 
 enum-told-3 : tie.Need-enum-told-3 Inv-loop μ-loop
 enum-told-3 c = c .match2 .keys3
@@ -152,7 +152,7 @@ same-length-7 : tie.Need-same-length-7 Inv-loop μ-loop
 same-length-7 c = c .before .before .before .before .before .before .segment .kept .1 .1 .1 .0 ∙ c .before .before .before .before .before .before .before .before .before .before .before .before .before .before .loop .inv .0
 
 same-length-8 : tie.Need-same-length-8 Inv-loop μ-loop
-same-length-8 c = c .before .before .before .before .before .before .segment .kept .1 .1 .1 .1 .1 .0 ∙ c .before .before .before .before .before .before .before .before .before .before .before .before .before .before .loop .inv .1
+same-length-8 c = c .before .before .before .before .before .before .segment .kept .1 .1 .1 .1 .0 ∙ c .before .before .before .before .before .before .before .before .before .before .before .before .before .before .loop .inv .1
 
 returns-4 : tie.Need-returns-4 Inv-loop μ-loop
 returns-4 c =
@@ -162,7 +162,7 @@ returns-4 c =
     let l = k .before .before .before .before .loop in
     let a = k .before .before .before .before .before .before .before .before .args in
     let q = g .segment in
-    l .inv .5 .2 _ _ _ (pass-lacks (a .s .now) (l .at) (l .n) (l .m) (l .out) (l .script) (k .before .got .given .0 .0) (word k) (l .inv .5 .0) (omega arith) (e .if1 .left) (q .result) (q .last .1 .1 .1 .0) (q .last .1 .1 .1 .1 .1 .0) (q .ensures) (c .enum-told3 .given .1))
+    l .inv .5 .2 _ _ _ (pass-lacks (a .s .now) (l .at) (l .n) (l .m) (l .out) (l .script) (k .before .got .given .0 .0) (word k) (l .inv .5 .0) (omega arith) (e .if1 .left) (q .result) (q .last .1 .1 .1 .0) (q .last .1 .1 .1 .1 .0) (q .ensures) (c .enum-told3 .given .1))
 
 pub pass-spec : {M : Type 1} → statement M
 pass-spec =
@@ -180,7 +180,7 @@ pass-spec =
     same-length-3
     same-length-4
     returns-2
-    add-segment
+    add-t15
     segment-requires
     enum-known-next
     loop-less

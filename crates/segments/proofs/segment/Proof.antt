@@ -16,11 +16,11 @@ put-eci-requires c κs =
     let b = c .before .before .before .before in
     let a = b .before .before .before .before .before .args in
     let v = c .before .before .designator .given in
-    let l = eci-bound (a .s .now) (a .from) (a .n) (a .m) (a .out .now) (a .script .now) (a .mode) (omega arith) (omega arith) (b .eci-value .result) (v .0 .0) (v .0 .1 .0) (b .eci-value .ensures) (v .1) in
+    let l = eci-bound (a .s .now) (a .place .at) (a .place .payload) (a .place .script) (a .out .now) (a .script .now) (a .mode) (omega arith) (omega arith) (b .eci-value .result) (v .0 .0) (v .0 .1 .0) (b .eci-value .ensures) (v .1) in
     (omega arith, omega arith)
 
-add-t20 : tie.Need-add-t20
-add-t20 c = search needs
+add-t21 : tie.Need-add-t21
+add-t21 c = search needs
 
 enum-told : tie.Need-enum-told
 enum-told c = search needs
@@ -36,19 +36,19 @@ returns c =
     let b = c .before .before .before .before .before .before .before in
     let a = b .before .before .before .before .before .args in
     let v = c .before .before .before .before .before .designator .given in
-    eci-on (a .s .now) (a .from) (a .n) (a .m) (a .out .now) (a .script .now) (a .mode) (omega arith) (omega arith) (b .before .if1 .taken) (v .0 .0) (v .0 .1 .0) (b .eci-value .result) (c .before .before .put-eci .last .0) (b .eci-value .ensures) (v .1) (c .before .before .put-eci .ensures)
+    eci-on (a .s .now) (a .place .at) (a .place .payload) (a .place .script) (a .out .now) (a .script .now) (a .mode) (omega arith) (omega arith) (b .before .if1 .taken) (v .0 .0) (v .0 .1 .0) (b .eci-value .result) (c .before .before .put-eci .last .0) (b .eci-value .ensures) (v .1) (c .before .before .put-eci .ensures)
 
 returns-2 : tie.Need-returns-2
 returns-2 c =
     let b = c .before .before in
     let a = b .before .before .before .before .before .args in
-    eci-stop-cut (a .s .now) (a .from) (a .n) (a .m) (a .out .now) (a .script .now) (a .mode) (omega arith) (omega arith) (b .before .if1 .taken) (b .eci-value .result) (a .out .now) (a .script .now) (b .eci-value .ensures) (c .enum-told .given .1)
+    eci-stop-cut (a .s .now) (a .place .at) (a .place .payload) (a .place .script) (a .out .now) (a .script .now) (a .mode) (omega arith) (omega arith) (b .before .if1 .taken) (b .eci-value .result) (a .out .now) (a .script .now) (b .eci-value .ensures) (c .enum-told .given .1)
 
 returns-3 : tie.Need-returns-3
 returns-3 c =
     let b = c .before .before in
     let a = b .before .before .before .before .before .args in
-    eci-stop-lacks (a .s .now) (a .from) (a .n) (a .m) (a .out .now) (a .script .now) (a .mode) (omega arith) (omega arith) (b .before .if1 .taken) (b .eci-value .result) (a .out .now) (a .script .now) (b .eci-value .ensures) (c .enum-told2 .given .1)
+    eci-stop-lacks (a .s .now) (a .place .at) (a .place .payload) (a .place .script) (a .out .now) (a .script .now) (a .mode) (omega arith) (omega arith) (b .before .if1 .taken) (b .eci-value .result) (a .out .now) (a .script .now) (b .eci-value .ensures) (c .enum-told2 .given .1)
 
 run-of-mode-requires : tie.Need-run-of-mode-requires
 run-of-mode-requires c κs = search needs
@@ -61,7 +61,7 @@ sub-put-command c =
     let b = c .before .before .before .before .before .before in
     let a = b .before .before .before .before .before .before .args in
     let v = c .before .before .read .given in
-    let i = inside (a .s .now) (a .from) (a .n) (b .run-of-mode .result) (v .0 .0) (v .0 .1 .0) (b .run-of-mode .ensures .1) (v .1) in
+    let i = inside (a .s .now) (a .place .at) (a .place .payload) (b .run-of-mode .result) (v .0 .0) (v .0 .1 .0) (b .run-of-mode .ensures .1) (v .1) in
     omega arith
 
 put-command-requires : tie.Need-put-command-requires
@@ -69,13 +69,13 @@ put-command-requires c κs =
     let b = c .before .before .before .before .before .before in
     let a = b .before .before .before .before .before .before .args in
     let v = c .before .before .read .given in
-    let i = inside (a .s .now) (a .from) (a .n) (b .run-of-mode .result) (v .0 .0) (v .0 .1 .0) (b .run-of-mode .ensures .1) (v .1) in
+    let i = inside (a .s .now) (a .place .at) (a .place .payload) (b .run-of-mode .result) (v .0 .0) (v .0 .1 .0) (b .run-of-mode .ensures .1) (v .1) in
     (omega arith, omega arith, omega arith)
 
-add-t26 : tie.Need-add-t26
-add-t26 c =
+add-t27 : tie.Need-add-t27
+add-t27 c =
     let a = c .before .before .before .before .before .before .before .before .before .before .before .before .before .before .before .args in
-    omega (arith, command-length (a .mode) (c .before .before .before .before .before .read .given .0 .1 .0 - a .n), c .before .before .put-command .ensures .0)
+    omega (arith, command-length (a .mode) (c .before .before .before .before .before .read .given .0 .1 .0 - a .place .payload), c .before .before .put-command .ensures .0)
 
 enum-told-3 : tie.Need-enum-told-3
 enum-told-3 c = search needs
@@ -96,8 +96,8 @@ returns-4 c =
     let v = c .before .before .before .before .before .read .given in
     let q = b .run-of-mode in
     let p = c .before .before .put-command in
-    let i = inside (a .s .now) (a .from) (a .n) (q .result) (v .0 .0) (v .0 .1 .0) (q .ensures .1) (v .1) in
-    run-on (a .s .now) (a .from) (a .n) (a .m) (a .out .now) (a .script .now) (a .mode) (omega arith) (omega arith) (b .before .before .if1 .left) (q .result) (q .last .1 .1 .0) (q .ensures .0) (v .0 .0) (v .0 .1 .0) (p .result) (p .last .0) (v .1) (i .1) (i .3) (p .ensures .0) (p .ensures .1)
+    let i = inside (a .s .now) (a .place .at) (a .place .payload) (q .result) (v .0 .0) (v .0 .1 .0) (q .ensures .1) (v .1) in
+    run-on (a .s .now) (a .place .at) (a .place .payload) (a .place .script) (a .out .now) (a .script .now) (a .mode) (omega arith) (omega arith) (b .before .before .if1 .left) (q .result) (q .last .1 .1 .0) (q .ensures .0) (v .0 .0) (v .0 .1 .0) (p .result) (p .last .0) (v .1) (i .1) (i .3) (p .ensures .0) (p .ensures .1)
 
 same-length-4 : tie.Need-same-length-4
 same-length-4 c = search needs
@@ -107,7 +107,7 @@ returns-5 c =
     let b = c .before .before .before .before in
     let a = b .before .before .before .before .before .before .args in
     let q = b .run-of-mode in
-    run-stop-cut (a .s .now) (a .from) (a .n) (a .m) (a .out .now) (a .script .now) (a .mode) (omega arith) (omega arith) (b .before .before .if1 .left) (q .result) (q .last .1 .1 .0) (q .ensures .0) (q .last .1 .1 .0) (a .script .now) (c .enum-told3 .given .1)
+    run-stop-cut (a .s .now) (a .place .at) (a .place .payload) (a .place .script) (a .out .now) (a .script .now) (a .mode) (omega arith) (omega arith) (b .before .before .if1 .left) (q .result) (q .last .1 .1 .0) (q .ensures .0) (q .last .1 .1 .0) (a .script .now) (c .enum-told3 .given .1)
 
 same-length-5 : tie.Need-same-length-5
 same-length-5 c = search needs
@@ -117,7 +117,7 @@ returns-6 c =
     let b = c .before .before .before .before in
     let a = b .before .before .before .before .before .before .args in
     let q = b .run-of-mode in
-    run-stop-lacks (a .s .now) (a .from) (a .n) (a .m) (a .out .now) (a .script .now) (a .mode) (omega arith) (omega arith) (b .before .before .if1 .left) (q .result) (q .last .1 .1 .0) (q .ensures .0) (q .last .1 .1 .0) (a .script .now) (c .enum-told4 .given .1)
+    run-stop-lacks (a .s .now) (a .place .at) (a .place .payload) (a .place .script) (a .out .now) (a .script .now) (a .mode) (omega arith) (omega arith) (b .before .before .if1 .left) (q .result) (q .last .1 .1 .0) (q .ensures .0) (q .last .1 .1 .0) (a .script .now) (c .enum-told4 .given .1)
 
 pub segment-spec : {M : Type 1} → statement M
 segment-spec =
@@ -126,7 +126,7 @@ segment-spec =
     eci-value-requires
     enum-known-designator
     put-eci-requires
-    add-t20
+    add-t21
     enum-told
     enum-told-2
     same-length
@@ -137,7 +137,7 @@ segment-spec =
     enum-known-read
     sub-put-command
     put-command-requires
-    add-t26
+    add-t27
     enum-told-3
     enum-told-4
     same-length-2
