@@ -52,8 +52,9 @@ loop-less c = omega arith
 
 loop-again : tie.Need-loop-again Inv-loop μ-loop
 loop-again c =
+    let start = c .before .before .before .before .before in
     let l = c .before .before .before .loop in
-    let a = c .before .before .before .before .before .args in
+    let a = start .args in
     let k : l .i - a .at / 8 + 1 ≡ l .i + 1 - a .at / 8 = omega arith in
     let j : a .at / 8 + (l .i - a .at / 8) ≡ l .i = omega arith in
     let b : c .wide .result ≡ getD (a .s .now) (a .at / 8 + (l .i - a .at / 8)) 0 = rw j (c .wide .ensures .0) in

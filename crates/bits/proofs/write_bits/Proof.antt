@@ -43,9 +43,12 @@ loop-less c = omega arith
 
 loop-again : tie.Need-loop-again Inv-loop μ-loop
 loop-again c =
-    let a = c .before .before .before .before .before .before .before .args in
-    let l = c .before .before .before .before .before .loop in
-    (c .before .before .write-bit .kept .0 ∙ l .inv .0, omega arith, l .inv .2 ∙ write-more (bitsOf (l .buf)) (a .at) (a .n) (l .i) (a .v) (omega arith) ∙ ap (λ (B : List ℕ). sets B (a .at + (l .i + 1)) (lowBits (a .n - (l .i + 1)) (a .v))) (sym (c .before .before .write-bit .ensures)))
+    let start = c .before .before .before .before .before .before .before in
+    let loop = c .before .before .before .before .before .loop in
+    let write-bit = c .before .before .write-bit in
+    let a = start .args in
+    let l = loop in
+    (write-bit .kept .0 ∙ l .inv .0, omega arith, l .inv .2 ∙ write-more (bitsOf (l .buf)) (a .at) (a .n) (l .i) (a .v) (omega arith) ∙ ap (λ (B : List ℕ). sets B (a .at + (l .i + 1)) (lowBits (a .n - (l .i + 1)) (a .v))) (sym (write-bit .ensures)))
 
 same-length : tie.Need-same-length Inv-loop μ-loop
 same-length c = omega arith

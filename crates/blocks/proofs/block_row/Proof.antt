@@ -45,11 +45,17 @@ loop-less c = omega arith
 
 loop-again : tie.Need-loop-again Inv-loop μ-loop
 unfolding blocks
-loop-again c = (omega arith, length-set (c .before .loop .row) (c .before .loop .n) _ ∙ c .before .loop .inv .1, copied-more (λ k. getD blocks ((4 * (c .before .before .args .version - 1) + c .before .before .args .level) * 9 + k) 0) (c .before .loop .row) (c .before .loop .n) _ (omega (arith, c .before .loop .inv .1)) refl (c .before .loop .inv .2))
+loop-again c =
+    let start = c .before .before in
+    let loop = c .before .loop in
+    (omega arith, length-set (loop .row) (loop .n) _ ∙ loop .inv .1, copied-more (λ k. getD blocks ((4 * (start .args .version - 1) + start .args .level) * 9 + k) 0) (loop .row) (loop .n) _ (omega (arith, loop .inv .1)) refl (loop .inv .2))
 
 returns : tie.Need-returns Inv-loop μ-loop
 unfolding blocks
-returns c = row-copied (c .before .before .args .version) (c .before .before .args .level) (c .before .before .pre .0) (c .before .before .pre .1) (c .before .before .pre .2) (c .before .loop .row) (c .before .loop .inv .1) (λ k h. c .before .loop .inv .2 k (omega arith))
+returns c =
+    let start = c .before .before in
+    let loop = c .before .loop in
+    row-copied (start .args .version) (start .args .level) (start .pre .0) (start .pre .1) (start .pre .2) (loop .row) (loop .inv .1) (λ k h. loop .inv .2 k (omega arith))
 
 pub block-row-spec : {M : Type 1} → statement M
 block-row-spec =

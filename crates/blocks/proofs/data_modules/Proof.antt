@@ -34,10 +34,16 @@ loop-less : tie.Need-loop-less Inv-loop μ-loop
 loop-less c = omega arith
 
 loop-again : tie.Need-loop-again Inv-loop μ-loop
-loop-again c = (omega arith, omega (arith, c .data-module .ensures .1), modules-more (c .before .before .before .before .before .args .kinds .now) (c .before .before .before .before .before .args .n) (c .before .before .before .loop .i) (c .before .before .before .loop .count) (c .data-module .result) (c .before .before .before .before .before .pre) (c .before .before .loop-test .taken) (c .data-module .ensures .0) (c .before .before .before .loop .inv .2))
+loop-again c =
+    let start = c .before .before .before .before .before in
+    let loop = c .before .before .before .loop in
+    (omega arith, omega (arith, c .data-module .ensures .1), modules-more (start .args .kinds .now) (start .args .n) (loop .i) (loop .count) (c .data-module .result) (start .pre) (c .before .before .loop-test .taken) (c .data-module .ensures .0) (loop .inv .2))
 
 returns : tie.Need-returns Inv-loop μ-loop
-returns c = let e : c .before .loop .i ≡ c .before .before .before .args .n = omega (arith, c .loop-test .left, c .before .loop .inv .0) in c .before .loop .inv .2 ∙ ap (λ (k : ℕ). dataModules (take k (c .before .before .before .args .kinds .now))) e
+returns c =
+    let start = c .before .before .before in
+    let loop = c .before .loop in
+    let e : loop .i ≡ start .args .n = omega (arith, c .loop-test .left, loop .inv .0) in loop .inv .2 ∙ ap (λ (k : ℕ). dataModules (take k (start .args .kinds .now))) e
 
 pub data-modules-spec : {M : Type 1} → statement M
 data-modules-spec =

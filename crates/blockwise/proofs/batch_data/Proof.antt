@@ -27,7 +27,9 @@ mul-result : tie.Need-mul-result
 mul-result c = omega (arith, mul-le-mul (c .before .number .ensures .1) (c .number2 .ensures .1))
 
 returns : tie.Need-returns
-returns c = (ap₂ _*_ (c .before .number .ensures .0) (c .number2 .ensures .0) ∙ sym (data-batch _ _ _), omega (arith, mul-le-mul (c .before .number .ensures .1) (c .number2 .ensures .1)))
+returns c =
+    let number = c .before .number in
+    (ap₂ _*_ (number .ensures .0) (c .number2 .ensures .0) ∙ sym (data-batch _ _ _), omega (arith, mul-le-mul (number .ensures .1) (c .number2 .ensures .1)))
 
 pub batch-data-spec : {M : Type 1} → statement M
 batch-data-spec =

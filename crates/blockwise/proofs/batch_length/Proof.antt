@@ -39,13 +39,18 @@ add-result : tie.Need-add-result
 add-result c = search needs
 
 mul-result : tie.Need-mul-result
-mul-result c = omega (arith, bounded (c .before .before .number .result) (c .before .number2 .result) (c .number3 .result) (c .before .before .number .ensures .1) (c .before .number2 .ensures .1) (c .number3 .ensures .1))
+mul-result c =
+    let number = c .before .before .number in
+    let number2 = c .before .number2 in
+    omega (arith, bounded (number .result) (number2 .result) (c .number3 .result) (number .ensures .1) (number2 .ensures .1) (c .number3 .ensures .1))
 
 returns : tie.Need-returns
-returns c = (
-  ap₂ _*_ (c .before .before .number .ensures .0) (ap₂ _+_ (c .before .number2 .ensures .0) (c .number3 .ensures .0)) ∙ sym (total-batch _ _ _),
-  bounded (c .before .before .number .result) (c .before .number2 .result) (c .number3 .result) (c .before .before .number .ensures .1) (c .before .number2 .ensures .1) (c .number3 .ensures .1),
-)
+returns c =
+    let number = c .before .before .number in
+    let number2 = c .before .number2 in (
+      ap₂ _*_ (number .ensures .0) (ap₂ _+_ (number2 .ensures .0) (c .number3 .ensures .0)) ∙ sym (total-batch _ _ _),
+      bounded (number .result) (number2 .result) (c .number3 .result) (number .ensures .1) (number2 .ensures .1) (c .number3 .ensures .1),
+    )
 
 pub batch-length-spec : {M : Type 1} → statement M
 batch-length-spec =

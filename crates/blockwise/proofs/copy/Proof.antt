@@ -37,17 +37,22 @@ loop-less : tie.Need-loop-less Inv-loop μ-loop
 loop-less c = search needs
 
 loop-again : tie.Need-loop-again Inv-loop μ-loop
-loop-again c = (
-  omega arith,
-  search needs,
-  copy-more _ (c .before .before .before .args .src .now) (c .before .before .before .args .dst .now) (c .before .before .before .args .to) (c .before .before .before .args .from) (c .before .before .loop .i) (c .before .before .loop .inv .2) (omega arith) (omega arith),
-)
+loop-again c =
+    let start = c .before .before .before in
+    let loop = c .before .before .loop in (
+      omega arith,
+      search needs,
+      copy-more _ (start .args .src .now) (start .args .dst .now) (start .args .to) (start .args .from) (loop .i) (loop .inv .2) (omega arith) (omega arith),
+    )
 
 same-length : tie.Need-same-length Inv-loop μ-loop
 same-length c = c .before .loop .inv .1
 
 returns : tie.Need-returns Inv-loop μ-loop
-returns c = copy-end _ (c .before .before .args .src .now) (c .before .before .args .dst .now) (c .before .before .args .to) (c .before .before .args .from) (c .before .loop .i) (c .before .before .args .n) (c .before .loop .inv .2) (c .before .loop .inv .0) (omega arith)
+returns c =
+    let start = c .before .before in
+    let loop = c .before .loop in
+    copy-end _ (start .args .src .now) (start .args .dst .now) (start .args .to) (start .args .from) (loop .i) (start .args .n) (loop .inv .2) (loop .inv .0) (omega arith)
 
 pub copy-spec : {M : Type 1} → statement M
 copy-spec =

@@ -49,8 +49,13 @@ loop-holds c = (omega arith, omega arith, refl, done-none _ _)
 
 correct-block-requires : tie.Need-correct-block-requires Inv-loop μ-loop
 correct-block-requires c κs =
-    let q = numbers-fit (c .before .before .before .before .before .before .before .before .args .row .now) (c .before .before .before .before .before .before .before .before .args .k) (c .before .before .before .before .before .number .result) (c .before .before .before .before .number2 .result) (c .before .before .before .number3 .result) (c .before .before .before .before .before .number .ensures .0) (c .before .before .before .before .number2 .ensures .0) (c .before .before .before .number3 .ensures .0) (c .before .before .before .before .before .before .before .before .pre .1 .2) (omega arith) in
-    (c .before .before .before .before .before .before .before .before .pre .0, (q .0, q .1, q .2, omega (arith, c .before .before .loop .inv .2, block-in (c .before .before .before .before .number2 .result) (c .before .before .before .number3 .result) (c .before .before .before .before .before .before .before .before .args .from) (c .before .before .before .before .before .number .result) (c .before .before .before .before .before .before .before .before .args .stream .now) (omega (arith, c .before .before .before .before .before .before .before .before .pre .1 .3, ap totalSize (batch-is (c .before .before .before .before .before .before .before .before .args .row .now) (c .before .before .before .before .before .before .before .before .args .k) _ _ _ (c .before .before .before .before .before .number .ensures .0) (c .before .before .before .before .number2 .ensures .0) (c .before .before .before .number3 .ensures .0)))) (c .before .before .loop .i) (c .before .before .loop .at) (c .before .before .loop .n) (c .before .before .loop .stream) (c .before .loop-test .taken) (c .before .before .loop .inv .1) (c .before .before .loop .inv .3))))
+    let start = c .before .before .before .before .before .before .before .before in
+    let number = c .before .before .before .before .before .number in
+    let number2 = c .before .before .before .before .number2 in
+    let number3 = c .before .before .before .number3 in
+    let loop = c .before .before .loop in
+    let q = numbers-fit (start .args .row .now) (start .args .k) (number .result) (number2 .result) (number3 .result) (number .ensures .0) (number2 .ensures .0) (number3 .ensures .0) (start .pre .1 .2) (omega arith) in
+    (start .pre .0, (q .0, q .1, q .2, omega (arith, loop .inv .2, block-in (number2 .result) (number3 .result) (start .args .from) (number .result) (start .args .stream .now) (omega (arith, start .pre .1 .3, ap totalSize (batch-is (start .args .row .now) (start .args .k) _ _ _ (number .ensures .0) (number2 .ensures .0) (number3 .ensures .0)))) (loop .i) (loop .at) (loop .n) (loop .stream) (c .before .loop-test .taken) (loop .inv .1) (loop .inv .3))))
 
 enum-known-r : tie.Need-enum-known-r Inv-loop μ-loop
 enum-known-r c = search needs
@@ -63,17 +68,46 @@ same-length c = search needs
 
 returns : tie.Need-returns Inv-loop μ-loop
 returns c =
-    ap (λ (bs : List Shape). refusalOf (corrected bs (drop (c .before .before .before .before .before .before .before .before .before .before .before .before .before .args .from) (c .before .before .before .before .before .before .before .before .before .before .before .before .before .args .stream .now)))) (batch-is (c .before .before .before .before .before .before .before .before .before .before .before .before .before .args .row .now) (c .before .before .before .before .before .before .before .before .before .before .before .before .before .args .k) _ _ _ (c .before .before .before .before .before .before .before .before .before .before .number .ensures .0) (c .before .before .before .before .before .before .before .before .before .number2 .ensures .0) (c .before .before .before .before .before .before .before .before .number3 .ensures .0))
-    ∙ block-refused (c .before .before .before .before .before .before .before .before .before .number2 .result) (c .before .before .before .before .before .before .before .before .number3 .result) (c .before .before .before .before .before .before .before .before .before .before .before .before .before .args .from) (c .before .before .before .before .before .before .before .before .before .before .number .result) (c .before .before .before .before .before .before .before .before .before .before .before .before .before .args .stream .now) (omega (arith, c .before .before .before .before .before .before .before .before .before .before .before .before .before .pre .1 .3, ap totalSize (batch-is (c .before .before .before .before .before .before .before .before .before .before .before .before .before .args .row .now) (c .before .before .before .before .before .before .before .before .before .before .before .before .before .args .k) _ _ _ (c .before .before .before .before .before .before .before .before .before .before .number .ensures .0) (c .before .before .before .before .before .before .before .before .before .number2 .ensures .0) (c .before .before .before .before .before .before .before .before .number3 .ensures .0)))) (c .before .before .before .before .before .before .before .loop .i) (c .before .before .before .before .before .before .before .loop .at) (c .before .before .before .before .before .before .before .loop .n) (c .before .before .before .before .before .before .before .loop .stream) (c .before .before .before .before .before .before .loop-test .taken) (c .before .before .before .before .before .before .before .loop .inv .1) (c .before .before .before .before .before .before .before .loop .inv .3) (stopped (batch 1 (c .before .before .before .before .before .before .before .before .before .number2 .result) (c .before .before .before .before .before .before .before .before .number3 .result)) (c .before .before .before .before .before .before .before .loop .at) (c .before .before .before .before .before .before .before .loop .stream) (c .before .before .before .before .correct-block .last .1 .0) (c .before .before .before .before .correct-block .result) (c .enum-told .given .1) (c .before .before .before .before .correct-block .ensures))
+    let start = c .before .before .before .before .before .before .before .before .before .before .before .before .before in
+    let number = c .before .before .before .before .before .before .before .before .before .before .number in
+    let number2 = c .before .before .before .before .before .before .before .before .before .number2 in
+    let number3 = c .before .before .before .before .before .before .before .before .number3 in
+    let loop = c .before .before .before .before .before .before .before .loop in
+    let loop-test = c .before .before .before .before .before .before .loop-test in
+    let correct-block = c .before .before .before .before .correct-block in
+    ap (λ (bs : List Shape). refusalOf (corrected bs (drop (start .args .from) (start .args .stream .now)))) (batch-is (start .args .row .now) (start .args .k) _ _ _ (number .ensures .0) (number2 .ensures .0) (number3 .ensures .0))
+    ∙ block-refused (number2 .result) (number3 .result) (start .args .from) (number .result) (start .args .stream .now) (omega (arith, start .pre .1 .3, ap totalSize (batch-is (start .args .row .now) (start .args .k) _ _ _ (number .ensures .0) (number2 .ensures .0) (number3 .ensures .0)))) (loop .i) (loop .at) (loop .n) (loop .stream) (loop-test .taken) (loop .inv .1) (loop .inv .3) (stopped (batch 1 (number2 .result) (number3 .result)) (loop .at) (loop .stream) (correct-block .last .1 .0) (correct-block .result) (c .enum-told .given .1) (correct-block .ensures))
 
 add-n : tie.Need-add-n Inv-loop μ-loop
-add-n c = omega (arith, block-count (c .before .before .before .before .before .before .before .before .before .before .number2 .result) (c .before .before .before .before .before .before .before .before .before .number3 .result) (c .before .before .before .before .before .before .before .before .before .before .before .before .before .before .args .from) (c .before .before .before .before .before .before .before .before .before .before .before .number .result) (c .before .before .before .before .before .before .before .before .before .before .before .before .before .before .args .stream .now) (omega (arith, c .before .before .before .before .before .before .before .before .before .before .before .before .before .before .pre .1 .3, ap totalSize (batch-is (c .before .before .before .before .before .before .before .before .before .before .before .before .before .before .args .row .now) (c .before .before .before .before .before .before .before .before .before .before .before .before .before .before .args .k) _ _ _ (c .before .before .before .before .before .before .before .before .before .before .before .number .ensures .0) (c .before .before .before .before .before .before .before .before .before .before .number2 .ensures .0) (c .before .before .before .before .before .before .before .before .before .number3 .ensures .0)))) (c .before .before .before .before .before .before .before .before .loop .i) (c .before .before .before .before .before .before .before .before .loop .at) (c .before .before .before .before .before .before .before .before .loop .n) (c .before .before .before .before .before .before .before .before .loop .stream) (c .before .before .before .before .before .before .before .loop-test .taken) (c .before .before .before .before .before .before .before .before .loop .inv .1) (c .before .before .before .before .before .before .before .before .loop .inv .3) _ _ (accepted (batch 1 (c .before .before .before .before .before .before .before .before .before .before .number2 .result) (c .before .before .before .before .before .before .before .before .before .number3 .result)) (c .before .before .before .before .before .before .before .before .loop .at) (c .before .before .before .before .before .before .before .before .loop .stream) (c .before .before .before .before .before .correct-block .last .1 .0) (c .before .before .before .before .before .correct-block .result) _ (c .before .r .given .1) (c .before .before .before .before .before .correct-block .ensures)))
+add-n c =
+    let start = c .before .before .before .before .before .before .before .before .before .before .before .before .before .before in
+    let number = c .before .before .before .before .before .before .before .before .before .before .before .number in
+    let number2 = c .before .before .before .before .before .before .before .before .before .before .number2 in
+    let number3 = c .before .before .before .before .before .before .before .before .before .number3 in
+    let loop = c .before .before .before .before .before .before .before .before .loop in
+    let loop-test = c .before .before .before .before .before .before .before .loop-test in
+    let correct-block = c .before .before .before .before .before .correct-block in
+    omega (arith, block-count (number2 .result) (number3 .result) (start .args .from) (number .result) (start .args .stream .now) (omega (arith, start .pre .1 .3, ap totalSize (batch-is (start .args .row .now) (start .args .k) _ _ _ (number .ensures .0) (number2 .ensures .0) (number3 .ensures .0)))) (loop .i) (loop .at) (loop .n) (loop .stream) (loop-test .taken) (loop .inv .1) (loop .inv .3) _ _ (accepted (batch 1 (number2 .result) (number3 .result)) (loop .at) (loop .stream) (correct-block .last .1 .0) (correct-block .result) _ (c .before .r .given .1) (correct-block .ensures)))
 
 add-at : tie.Need-add-at Inv-loop μ-loop
-add-at c = omega (arith, block-in (c .before .before .before .before .before .before .before .before .before .before .number2 .result) (c .before .before .before .before .before .before .before .before .before .number3 .result) (c .before .before .before .before .before .before .before .before .before .before .before .before .before .before .args .from) (c .before .before .before .before .before .before .before .before .before .before .before .number .result) (c .before .before .before .before .before .before .before .before .before .before .before .before .before .before .args .stream .now) (omega (arith, c .before .before .before .before .before .before .before .before .before .before .before .before .before .before .pre .1 .3, ap totalSize (batch-is (c .before .before .before .before .before .before .before .before .before .before .before .before .before .before .args .row .now) (c .before .before .before .before .before .before .before .before .before .before .before .before .before .before .args .k) _ _ _ (c .before .before .before .before .before .before .before .before .before .before .before .number .ensures .0) (c .before .before .before .before .before .before .before .before .before .before .number2 .ensures .0) (c .before .before .before .before .before .before .before .before .before .number3 .ensures .0)))) (c .before .before .before .before .before .before .before .before .loop .i) (c .before .before .before .before .before .before .before .before .loop .at) (c .before .before .before .before .before .before .before .before .loop .n) (c .before .before .before .before .before .before .before .before .loop .stream) (c .before .before .before .before .before .before .before .loop-test .taken) (c .before .before .before .before .before .before .before .before .loop .inv .1) (c .before .before .before .before .before .before .before .before .loop .inv .3))
+add-at c =
+    let start = c .before .before .before .before .before .before .before .before .before .before .before .before .before .before in
+    let number = c .before .before .before .before .before .before .before .before .before .before .before .number in
+    let number2 = c .before .before .before .before .before .before .before .before .before .before .number2 in
+    let number3 = c .before .before .before .before .before .before .before .before .before .number3 in
+    let loop = c .before .before .before .before .before .before .before .before .loop in
+    let loop-test = c .before .before .before .before .before .before .before .loop-test in
+    omega (arith, block-in (number2 .result) (number3 .result) (start .args .from) (number .result) (start .args .stream .now) (omega (arith, start .pre .1 .3, ap totalSize (batch-is (start .args .row .now) (start .args .k) _ _ _ (number .ensures .0) (number2 .ensures .0) (number3 .ensures .0)))) (loop .i) (loop .at) (loop .n) (loop .stream) (loop-test .taken) (loop .inv .1) (loop .inv .3))
 
 add-at-2 : tie.Need-add-at-2 Inv-loop μ-loop
-add-at-2 c = omega (arith, block-in (c .before .before .before .before .before .before .before .before .before .before .number2 .result) (c .before .before .before .before .before .before .before .before .before .number3 .result) (c .before .before .before .before .before .before .before .before .before .before .before .before .before .before .args .from) (c .before .before .before .before .before .before .before .before .before .before .before .number .result) (c .before .before .before .before .before .before .before .before .before .before .before .before .before .before .args .stream .now) (omega (arith, c .before .before .before .before .before .before .before .before .before .before .before .before .before .before .pre .1 .3, ap totalSize (batch-is (c .before .before .before .before .before .before .before .before .before .before .before .before .before .before .args .row .now) (c .before .before .before .before .before .before .before .before .before .before .before .before .before .before .args .k) _ _ _ (c .before .before .before .before .before .before .before .before .before .before .before .number .ensures .0) (c .before .before .before .before .before .before .before .before .before .before .number2 .ensures .0) (c .before .before .before .before .before .before .before .before .before .number3 .ensures .0)))) (c .before .before .before .before .before .before .before .before .loop .i) (c .before .before .before .before .before .before .before .before .loop .at) (c .before .before .before .before .before .before .before .before .loop .n) (c .before .before .before .before .before .before .before .before .loop .stream) (c .before .before .before .before .before .before .before .loop-test .taken) (c .before .before .before .before .before .before .before .before .loop .inv .1) (c .before .before .before .before .before .before .before .before .loop .inv .3))
+add-at-2 c =
+    let start = c .before .before .before .before .before .before .before .before .before .before .before .before .before .before in
+    let number = c .before .before .before .before .before .before .before .before .before .before .before .number in
+    let number2 = c .before .before .before .before .before .before .before .before .before .before .number2 in
+    let number3 = c .before .before .before .before .before .before .before .before .before .number3 in
+    let loop = c .before .before .before .before .before .before .before .before .loop in
+    let loop-test = c .before .before .before .before .before .before .before .loop-test in
+    omega (arith, block-in (number2 .result) (number3 .result) (start .args .from) (number .result) (start .args .stream .now) (omega (arith, start .pre .1 .3, ap totalSize (batch-is (start .args .row .now) (start .args .k) _ _ _ (number .ensures .0) (number2 .ensures .0) (number3 .ensures .0)))) (loop .i) (loop .at) (loop .n) (loop .stream) (loop-test .taken) (loop .inv .1) (loop .inv .3))
 
 add-i : tie.Need-add-i Inv-loop μ-loop
 add-i c = search needs
@@ -82,18 +116,29 @@ loop-less : tie.Need-loop-less Inv-loop μ-loop
 loop-less c = search needs
 
 loop-again : tie.Need-loop-again Inv-loop μ-loop
-loop-again c = (
-  omega arith,
-  omega (arith, c .before .before .before .before .before .before .before .before .loop .inv .1),
-  c .before .before .before .before .before .correct-block .kept .1 .0 ∙ c .before .before .before .before .before .before .before .before .loop .inv .2,
-  block-done (c .before .before .before .before .before .before .before .before .before .before .number2 .result) (c .before .before .before .before .before .before .before .before .before .number3 .result) (c .before .before .before .before .before .before .before .before .before .before .before .before .before .before .args .from) (c .before .before .before .before .before .before .before .before .before .before .before .number .result) (c .before .before .before .before .before .before .before .before .before .before .before .before .before .before .args .stream .now) (omega (arith, c .before .before .before .before .before .before .before .before .before .before .before .before .before .before .pre .1 .3, ap totalSize (batch-is (c .before .before .before .before .before .before .before .before .before .before .before .before .before .before .args .row .now) (c .before .before .before .before .before .before .before .before .before .before .before .before .before .before .args .k) _ _ _ (c .before .before .before .before .before .before .before .before .before .before .before .number .ensures .0) (c .before .before .before .before .before .before .before .before .before .before .number2 .ensures .0) (c .before .before .before .before .before .before .before .before .before .number3 .ensures .0)))) (c .before .before .before .before .before .before .before .before .loop .i) (c .before .before .before .before .before .before .before .before .loop .at) (c .before .before .before .before .before .before .before .before .loop .n) (c .before .before .before .before .before .before .before .before .loop .stream) (c .before .before .before .before .before .before .before .loop-test .taken) (c .before .before .before .before .before .before .before .before .loop .inv .1) (c .before .before .before .before .before .before .before .before .loop .inv .3) _ _ (accepted (batch 1 (c .before .before .before .before .before .before .before .before .before .before .number2 .result) (c .before .before .before .before .before .before .before .before .before .number3 .result)) (c .before .before .before .before .before .before .before .before .loop .at) (c .before .before .before .before .before .before .before .before .loop .stream) (c .before .before .before .before .before .correct-block .last .1 .0) (c .before .before .before .before .before .correct-block .result) _ (c .before .r .given .1) (c .before .before .before .before .before .correct-block .ensures)),
-)
+loop-again c =
+    let start = c .before .before .before .before .before .before .before .before .before .before .before .before .before .before in
+    let number = c .before .before .before .before .before .before .before .before .before .before .before .number in
+    let number2 = c .before .before .before .before .before .before .before .before .before .before .number2 in
+    let number3 = c .before .before .before .before .before .before .before .before .before .number3 in
+    let loop = c .before .before .before .before .before .before .before .before .loop in
+    let loop-test = c .before .before .before .before .before .before .before .loop-test in
+    let correct-block = c .before .before .before .before .before .correct-block in (
+      omega arith,
+      omega (arith, loop .inv .1),
+      correct-block .kept .1 .0 ∙ loop .inv .2,
+      block-done (number2 .result) (number3 .result) (start .args .from) (number .result) (start .args .stream .now) (omega (arith, start .pre .1 .3, ap totalSize (batch-is (start .args .row .now) (start .args .k) _ _ _ (number .ensures .0) (number2 .ensures .0) (number3 .ensures .0)))) (loop .i) (loop .at) (loop .n) (loop .stream) (loop-test .taken) (loop .inv .1) (loop .inv .3) _ _ (accepted (batch 1 (number2 .result) (number3 .result)) (loop .at) (loop .stream) (correct-block .last .1 .0) (correct-block .result) _ (c .before .r .given .1) (correct-block .ensures)),
+    )
 
 same-length-2 : tie.Need-same-length-2 Inv-loop μ-loop
 same-length-2 c = c .before .loop .inv .2
 
 returns-2 : tie.Need-returns-2 Inv-loop μ-loop
-returns-2 c = batch-end _ _ _ _ (batch-is (c .before .before .before .before .before .before .before .args .row .now) (c .before .before .before .before .before .before .before .args .k) _ _ _ (c .before .before .before .before .number .ensures .0) (c .before .before .before .number2 .ensures .0) (c .before .before .number3 .ensures .0)) _ _ _ _ _ (c .before .loop .inv .0) (omega arith) (c .before .loop .inv .3)
+returns-2 c =
+    let start = c .before .before .before .before .before .before .before in
+    let number = c .before .before .before .before .number in
+    let loop = c .before .loop in
+    batch-end _ _ _ _ (batch-is (start .args .row .now) (start .args .k) _ _ _ (number .ensures .0) (c .before .before .before .number2 .ensures .0) (c .before .before .number3 .ensures .0)) _ _ _ _ _ (loop .inv .0) (omega arith) (loop .inv .3)
 
 pub correct-batch-spec : {M : Type 1} → statement M
 correct-batch-spec =

@@ -41,8 +41,10 @@ same-length c = search needs
 returns : tie.Need-returns
 unfolding outcome
 returns c =
-    one-done _ (c .before .before .before .before .before .before .before .before .pre .0 .1) (c .before .before .before .before .before .before .before .before .args .info) (c .before .before .before .before .before .before .before .before .args .parity) (c .before .before .before .before .before .before .before .before .args .from) _ (c .before .before .before .before .before .before .before .before .args .stream .now) refl (omega (arith, c .before .before .before .before .before .before .before .before .pre .1 .3)) _ _
-    (sym (ap (λ (x : Correction). outcome x (c .before .before .before .before .before .correct-over .last .1 .1 .0)) (c .before .n .given .1)) ∙ c .before .before .before .before .before .correct-over .ensures)
+    let start = c .before .before .before .before .before .before .before .before in
+    let correct-over = c .before .before .before .before .before .correct-over in
+    one-done _ (start .pre .0 .1) (start .args .info) (start .args .parity) (start .args .from) _ (start .args .stream .now) refl (omega (arith, start .pre .1 .3)) _ _
+    (sym (ap (λ (x : Correction). outcome x (correct-over .last .1 .1 .0)) (c .before .n .given .1)) ∙ correct-over .ensures)
 
 same-length-2 : tie.Need-same-length-2
 same-length-2 c = search needs
@@ -50,8 +52,10 @@ same-length-2 c = search needs
 returns-2 : tie.Need-returns-2
 unfolding outcome
 returns-2 c =
-    absurd (one-fit _ (c .before .before .before .before .before .before .before .pre .0 .1) (c .before .before .before .before .before .before .before .args .info) (c .before .before .before .before .before .before .before .args .parity) (c .before .before .before .before .before .before .before .args .from) _ (c .before .before .before .before .before .before .before .args .stream .now) refl (omega (arith, c .before .before .before .before .before .before .before .pre .1 .3)) (c .before .before .before .before .before .before .before .pre .1 .0) (c .before .before .before .before .before .before .before .pre .1 .1) (c .before .before .before .before .before .before .before .pre .1 .2) _
-    (sym (ap (λ (x : Correction). outcome x (c .before .before .before .before .correct-over .last .1 .1 .0)) (c .enum-told .given .1)) ∙ c .before .before .before .before .correct-over .ensures))
+    let start = c .before .before .before .before .before .before .before in
+    let correct-over = c .before .before .before .before .correct-over in
+    absurd (one-fit _ (start .pre .0 .1) (start .args .info) (start .args .parity) (start .args .from) _ (start .args .stream .now) refl (omega (arith, start .pre .1 .3)) (start .pre .1 .0) (start .pre .1 .1) (start .pre .1 .2) _
+    (sym (ap (λ (x : Correction). outcome x (correct-over .last .1 .1 .0)) (c .enum-told .given .1)) ∙ correct-over .ensures))
 
 same-length-3 : tie.Need-same-length-3
 same-length-3 c = search needs
@@ -59,8 +63,10 @@ same-length-3 c = search needs
 returns-3 : tie.Need-returns-3
 unfolding outcome
 returns-3 c =
-    one-refused _ (c .before .before .before .before .before .before .before .pre .0 .1) (c .before .before .before .before .before .before .before .args .info) (c .before .before .before .before .before .before .before .args .parity) (c .before .before .before .before .before .before .before .args .from) _ (c .before .before .before .before .before .before .before .args .stream .now) refl (omega (arith, c .before .before .before .before .before .before .before .pre .1 .3)) _
-    (sym (ap (λ (x : Correction). outcome x (c .before .before .before .before .correct-over .last .1 .1 .0)) (c .enum-told2 .given .1)) ∙ c .before .before .before .before .correct-over .ensures)
+    let start = c .before .before .before .before .before .before .before in
+    let correct-over = c .before .before .before .before .correct-over in
+    one-refused _ (start .pre .0 .1) (start .args .info) (start .args .parity) (start .args .from) _ (start .args .stream .now) refl (omega (arith, start .pre .1 .3)) _
+    (sym (ap (λ (x : Correction). outcome x (correct-over .last .1 .1 .0)) (c .enum-told2 .given .1)) ∙ correct-over .ensures)
 
 pub correct-block-spec : {M : Type 1} → statement M
 correct-block-spec =

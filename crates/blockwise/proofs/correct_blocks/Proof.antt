@@ -24,7 +24,10 @@ loop-holds c = (omega arith, refl, refl, done-none _ _)
 
 correct-batch-requires : tie.Need-correct-batch-requires Inv-loop μ-loop
 correct-batch-requires c κs =
-    (c .before .before .before .before .before .pre .0, (c .before .before .before .before .before .pre .1 .0, c .before .loop-test .taken, row-batch _ _ (c .before .before .before .before .before .pre .1 .1) (c .before .before .loop .k) (c .before .loop-test .taken), omega (arith, c .before .before .loop .inv .2, batch-in (c .before .before .before .before .before .args .row .now) (c .before .before .before .before .before .args .stream .now) (c .before .before .before .before .before .pre .1 .2) (c .before .before .loop .k) (c .before .before .loop .at) (c .before .before .loop .total) (c .before .before .loop .stream) (c .before .loop-test .taken) (c .before .before .loop .inv .1) (c .before .before .loop .inv .3))))
+    let start = c .before .before .before .before .before in
+    let loop = c .before .before .loop in
+    let loop-test = c .before .loop-test in
+    (start .pre .0, (start .pre .1 .0, loop-test .taken, row-batch _ _ (start .pre .1 .1) (loop .k) (loop-test .taken), omega (arith, loop .inv .2, batch-in (start .args .row .now) (start .args .stream .now) (start .pre .1 .2) (loop .k) (loop .at) (loop .total) (loop .stream) (loop-test .taken) (loop .inv .1) (loop .inv .3))))
 
 enum-known-r : tie.Need-enum-known-r Inv-loop μ-loop
 enum-known-r c = search needs
@@ -37,19 +40,32 @@ same-length c = search needs
 
 returns : tie.Need-returns Inv-loop μ-loop
 unfolding numberOf
-returns c = (
-  sym (ap refusalOf (corrected-front (c .before .before .before .before .before .before .before .before .before .before .args .row .now) (c .before .before .before .before .before .before .before .before .before .before .args .stream .now) (c .before .before .before .before .before .before .before .before .before .before .pre .1 .2)) ∙ batch-refused (c .before .before .before .before .before .before .before .before .before .before .args .row .now) (c .before .before .before .before .before .before .before .before .before .before .args .stream .now) (c .before .before .before .before .before .before .before .before .before .before .pre .1 .2) (c .before .before .before .before .before .before .before .loop .k) (c .before .before .before .before .before .before .before .loop .at) (c .before .before .before .before .before .before .before .loop .total) (c .before .before .before .before .before .before .before .loop .stream) (c .before .before .before .before .before .before .loop-test .taken) (c .before .before .before .before .before .before .before .loop .inv .1) (c .before .before .before .before .before .before .before .loop .inv .3) (stopped (batchAt (c .before .before .before .before .before .before .before .before .before .before .args .row .now) (c .before .before .before .before .before .before .before .loop .k)) (c .before .before .before .before .before .before .before .loop .at) (c .before .before .before .before .before .before .before .loop .stream) (c .before .before .before .before .correct-batch .last .1 .0) (c .before .before .before .before .correct-batch .result) (c .enum-told .given .1) (c .before .before .before .before .correct-batch .ensures))),
-  λ e. absurd (omega (arith, e)),
-)
+returns c =
+    let start = c .before .before .before .before .before .before .before .before .before .before in
+    let loop = c .before .before .before .before .before .before .before .loop in
+    let loop-test = c .before .before .before .before .before .before .loop-test in
+    let correct-batch = c .before .before .before .before .correct-batch in (
+      sym (ap refusalOf (corrected-front (start .args .row .now) (start .args .stream .now) (start .pre .1 .2)) ∙ batch-refused (start .args .row .now) (start .args .stream .now) (start .pre .1 .2) (loop .k) (loop .at) (loop .total) (loop .stream) (loop-test .taken) (loop .inv .1) (loop .inv .3) (stopped (batchAt (start .args .row .now) (loop .k)) (loop .at) (loop .stream) (correct-batch .last .1 .0) (correct-batch .result) (c .enum-told .given .1) (correct-batch .ensures))),
+      λ e. absurd (omega (arith, e)),
+    )
 
 add-total : tie.Need-add-total Inv-loop μ-loop
-add-total c = omega (arith, batch-count (c .before .before .before .before .before .before .before .before .before .before .before .args .row .now) (c .before .before .before .before .before .before .before .before .before .before .before .args .stream .now) (c .before .before .before .before .before .before .before .before .before .before .before .pre .1 .2) (c .before .before .before .before .before .before .before .before .loop .k) (c .before .before .before .before .before .before .before .before .loop .at) (c .before .before .before .before .before .before .before .before .loop .total) (c .before .before .before .before .before .before .before .before .loop .stream) (c .before .before .before .before .before .before .before .loop-test .taken) (c .before .before .before .before .before .before .before .before .loop .inv .1) (c .before .before .before .before .before .before .before .before .loop .inv .3) _ _ (accepted (batchAt (c .before .before .before .before .before .before .before .before .before .before .before .args .row .now) (c .before .before .before .before .before .before .before .before .loop .k)) (c .before .before .before .before .before .before .before .before .loop .at) (c .before .before .before .before .before .before .before .before .loop .stream) (c .before .before .before .before .before .correct-batch .last .1 .0) (c .before .before .before .before .before .correct-batch .result) _ (c .before .r .given .1) (c .before .before .before .before .before .correct-batch .ensures)))
+add-total c =
+    let start = c .before .before .before .before .before .before .before .before .before .before .before in
+    let loop = c .before .before .before .before .before .before .before .before .loop in
+    let loop-test = c .before .before .before .before .before .before .before .loop-test in
+    let correct-batch = c .before .before .before .before .before .correct-batch in
+    omega (arith, batch-count (start .args .row .now) (start .args .stream .now) (start .pre .1 .2) (loop .k) (loop .at) (loop .total) (loop .stream) (loop-test .taken) (loop .inv .1) (loop .inv .3) _ _ (accepted (batchAt (start .args .row .now) (loop .k)) (loop .at) (loop .stream) (correct-batch .last .1 .0) (correct-batch .result) _ (c .before .r .given .1) (correct-batch .ensures)))
 
 batch-length-requires : tie.Need-batch-length-requires Inv-loop μ-loop
 batch-length-requires c κs = search needs
 
 add-at : tie.Need-add-at Inv-loop μ-loop
-add-at c = omega (arith, c .batch-length .ensures .0, batch-in (c .before .before .before .before .before .before .before .before .before .before .before .before .args .row .now) (c .before .before .before .before .before .before .before .before .before .before .before .before .args .stream .now) (c .before .before .before .before .before .before .before .before .before .before .before .before .pre .1 .2) (c .before .before .before .before .before .before .before .before .before .loop .k) (c .before .before .before .before .before .before .before .before .before .loop .at) (c .before .before .before .before .before .before .before .before .before .loop .total) (c .before .before .before .before .before .before .before .before .before .loop .stream) (c .before .before .before .before .before .before .before .before .loop-test .taken) (c .before .before .before .before .before .before .before .before .before .loop .inv .1) (c .before .before .before .before .before .before .before .before .before .loop .inv .3))
+add-at c =
+    let start = c .before .before .before .before .before .before .before .before .before .before .before .before in
+    let loop = c .before .before .before .before .before .before .before .before .before .loop in
+    let loop-test = c .before .before .before .before .before .before .before .before .loop-test in
+    omega (arith, c .batch-length .ensures .0, batch-in (start .args .row .now) (start .args .stream .now) (start .pre .1 .2) (loop .k) (loop .at) (loop .total) (loop .stream) (loop-test .taken) (loop .inv .1) (loop .inv .3))
 
 add-k : tie.Need-add-k Inv-loop μ-loop
 add-k c = search needs
@@ -58,19 +74,26 @@ loop-less : tie.Need-loop-less Inv-loop μ-loop
 loop-less c = search needs
 
 loop-again : tie.Need-loop-again Inv-loop μ-loop
-loop-again c = (
-  omega arith,
-  batch-place _ _ _ _ (c .before .before .before .before .before .before .before .before .before .loop .inv .1) (c .batch-length .ensures .0),
-  c .before .before .before .before .before .before .correct-batch .kept .1 .0 ∙ c .before .before .before .before .before .before .before .before .before .loop .inv .2,
-  batch-done (c .before .before .before .before .before .before .before .before .before .before .before .before .args .row .now) (c .before .before .before .before .before .before .before .before .before .before .before .before .args .stream .now) (c .before .before .before .before .before .before .before .before .before .before .before .before .pre .1 .2) (c .before .before .before .before .before .before .before .before .before .loop .k) (c .before .before .before .before .before .before .before .before .before .loop .at) (c .before .before .before .before .before .before .before .before .before .loop .total) (c .before .before .before .before .before .before .before .before .before .loop .stream) (c .before .before .before .before .before .before .before .before .loop-test .taken) (c .before .before .before .before .before .before .before .before .before .loop .inv .1) (c .before .before .before .before .before .before .before .before .before .loop .inv .3) _ _ (accepted (batchAt (c .before .before .before .before .before .before .before .before .before .before .before .before .args .row .now) (c .before .before .before .before .before .before .before .before .before .loop .k)) (c .before .before .before .before .before .before .before .before .before .loop .at) (c .before .before .before .before .before .before .before .before .before .loop .stream) (c .before .before .before .before .before .before .correct-batch .last .1 .0) (c .before .before .before .before .before .before .correct-batch .result) _ (c .before .before .r .given .1) (c .before .before .before .before .before .before .correct-batch .ensures)),
-)
+loop-again c =
+    let start = c .before .before .before .before .before .before .before .before .before .before .before .before in
+    let loop = c .before .before .before .before .before .before .before .before .before .loop in
+    let loop-test = c .before .before .before .before .before .before .before .before .loop-test in
+    let correct-batch = c .before .before .before .before .before .before .correct-batch in (
+      omega arith,
+      batch-place _ _ _ _ (loop .inv .1) (c .batch-length .ensures .0),
+      correct-batch .kept .1 .0 ∙ loop .inv .2,
+      batch-done (start .args .row .now) (start .args .stream .now) (start .pre .1 .2) (loop .k) (loop .at) (loop .total) (loop .stream) (loop-test .taken) (loop .inv .1) (loop .inv .3) _ _ (accepted (batchAt (start .args .row .now) (loop .k)) (loop .at) (loop .stream) (correct-batch .last .1 .0) (correct-batch .result) _ (c .before .before .r .given .1) (correct-batch .ensures)),
+    )
 
 same-length-2 : tie.Need-same-length-2 Inv-loop μ-loop
 same-length-2 c = c .before .loop .inv .2
 
 returns-2 : tie.Need-returns-2 Inv-loop μ-loop
 unfolding numberOf correctionsOf
-returns-2 c = let q = row-done _ _ _ _ _ (c .before .before .before .before .pre .1 .2) (c .before .loop .inv .0) (omega arith) (c .before .loop .inv .3) in (q .0, λ e. (q .1, q .2))
+returns-2 c =
+    let start = c .before .before .before .before in
+    let loop = c .before .loop in
+    let q = row-done _ _ _ _ _ (start .pre .1 .2) (loop .inv .0) (omega arith) (loop .inv .3) in (q .0, λ e. (q .1, q .2))
 
 pub correct-blocks-spec : {M : Type 1} → statement M
 correct-blocks-spec =

@@ -42,29 +42,60 @@ number-requires-3 : tie.Need-number-requires-3 Inv-loop μ-loop
 number-requires-3 c κs = search needs
 
 data-before-requires : tie.Need-data-before-requires Inv-loop μ-loop
-data-before-requires c κs = (c .before .before .before .before .before .before .pre .0, omega (arith, c .before .before .before .before .before .before .pre .1))
+data-before-requires c κs =
+    let start = c .before .before .before .before .before .before in
+    (start .pre .0, omega (arith, start .pre .1))
 
 length-before-requires : tie.Need-length-before-requires Inv-loop μ-loop
-length-before-requires c κs = (c .before .before .before .before .before .before .before .pre .0, omega (arith, c .before .before .before .before .before .before .before .pre .1))
+length-before-requires c κs =
+    let start = c .before .before .before .before .before .before .before in
+    (start .pre .0, omega (arith, start .pre .1))
 
 loop-holds : tie.Need-loop-holds Inv-loop μ-loop
 unfolding batch
 loop-holds c = (omega arith, omega (arith, c .before .data-before .ensures), omega (arith, c .length-before .ensures), gathers-none _ _ _)
 
 copy-requires : tie.Need-copy-requires Inv-loop μ-loop
-copy-requires c κs = (
-  omega (arith, c .before .before .loop .inv .1, c .before .before .loop .inv .3 .size, c .before .before .before .before .before .before .before .before .before .before .before .pre .3, data-room (c .before .before .before .before .before .before .before .before .before .before .before .args .row .now) (c .before .before .before .before .before .before .before .before .before .before .before .args .k) (c .before .before .before .before .before .before .before .number .result) (c .before .before .before .before .before .before .number2 .result) (c .before .before .before .before .before .number3 .result) (c .before .before .before .before .before .before .before .before .before .before .before .pre .1) (c .before .before .before .before .before .before .before .number .ensures .0) (c .before .before .before .before .before .before .number2 .ensures .0) (c .before .before .before .before .before .number3 .ensures .0) (c .before .before .loop .i) (c .before .loop-test .taken)),
-  omega (arith, c .before .before .loop .inv .2, c .before .before .before .before .before .before .before .before .before .before .before .pre .2, stream-room (c .before .before .before .before .before .before .before .before .before .before .before .args .row .now) (c .before .before .before .before .before .before .before .before .before .before .before .args .k) (c .before .before .before .before .before .before .before .number .result) (c .before .before .before .before .before .before .number2 .result) (c .before .before .before .before .before .number3 .result) (c .before .before .before .before .before .before .before .before .before .before .before .pre .1) (c .before .before .before .before .before .before .before .number .ensures .0) (c .before .before .before .before .before .before .number2 .ensures .0) (c .before .before .before .before .before .number3 .ensures .0) (c .before .before .loop .i) (c .before .loop-test .taken)),
-)
+copy-requires c κs =
+    let start = c .before .before .before .before .before .before .before .before .before .before .before in
+    let number = c .before .before .before .before .before .before .before .number in
+    let number2 = c .before .before .before .before .before .before .number2 in
+    let number3 = c .before .before .before .before .before .number3 in
+    let loop = c .before .before .loop in
+    let loop-test = c .before .loop-test in (
+      omega (arith, loop .inv .1, loop .inv .3 .size, start .pre .3, data-room (start .args .row .now) (start .args .k) (number .result) (number2 .result) (number3 .result) (start .pre .1) (number .ensures .0) (number2 .ensures .0) (number3 .ensures .0) (loop .i) (loop-test .taken)),
+      omega (arith, loop .inv .2, start .pre .2, stream-room (start .args .row .now) (start .args .k) (number .result) (number2 .result) (number3 .result) (start .pre .1) (number .ensures .0) (number2 .ensures .0) (number3 .ensures .0) (loop .i) (loop-test .taken)),
+    )
 
 add-at : tie.Need-add-at Inv-loop μ-loop
-add-at c = omega (arith, c .before .before .before .before .before .loop .inv .1, c .before .before .before .before .before .before .before .before .before .before .before .before .before .before .pre .3, data-room (c .before .before .before .before .before .before .before .before .before .before .before .before .before .before .args .row .now) (c .before .before .before .before .before .before .before .before .before .before .before .before .before .before .args .k) (c .before .before .before .before .before .before .before .before .before .before .number .result) (c .before .before .before .before .before .before .before .before .before .number2 .result) (c .before .before .before .before .before .before .before .before .number3 .result) (c .before .before .before .before .before .before .before .before .before .before .before .before .before .before .pre .1) (c .before .before .before .before .before .before .before .before .before .before .number .ensures .0) (c .before .before .before .before .before .before .before .before .before .number2 .ensures .0) (c .before .before .before .before .before .before .before .before .number3 .ensures .0) (c .before .before .before .before .before .loop .i) (c .before .before .before .before .loop-test .taken))
+add-at c =
+    let start = c .before .before .before .before .before .before .before .before .before .before .before .before .before .before in
+    let number = c .before .before .before .before .before .before .before .before .before .before .number in
+    let number2 = c .before .before .before .before .before .before .before .before .before .number2 in
+    let number3 = c .before .before .before .before .before .before .before .before .number3 in
+    let loop = c .before .before .before .before .before .loop in
+    let loop-test = c .before .before .before .before .loop-test in
+    omega (arith, loop .inv .1, start .pre .3, data-room (start .args .row .now) (start .args .k) (number .result) (number2 .result) (number3 .result) (start .pre .1) (number .ensures .0) (number2 .ensures .0) (number3 .ensures .0) (loop .i) (loop-test .taken))
 
 add-from : tie.Need-add-from Inv-loop μ-loop
-add-from c = omega (arith, c .before .before .before .before .before .loop .inv .2, c .before .before .before .before .before .before .before .before .before .before .before .before .before .before .pre .2, stream-room (c .before .before .before .before .before .before .before .before .before .before .before .before .before .before .args .row .now) (c .before .before .before .before .before .before .before .before .before .before .before .before .before .before .args .k) (c .before .before .before .before .before .before .before .before .before .before .number .result) (c .before .before .before .before .before .before .before .before .before .number2 .result) (c .before .before .before .before .before .before .before .before .number3 .result) (c .before .before .before .before .before .before .before .before .before .before .before .before .before .before .pre .1) (c .before .before .before .before .before .before .before .before .before .before .number .ensures .0) (c .before .before .before .before .before .before .before .before .before .number2 .ensures .0) (c .before .before .before .before .before .before .before .before .number3 .ensures .0) (c .before .before .before .before .before .loop .i) (c .before .before .before .before .loop-test .taken))
+add-from c =
+    let start = c .before .before .before .before .before .before .before .before .before .before .before .before .before .before in
+    let number = c .before .before .before .before .before .before .before .before .before .before .number in
+    let number2 = c .before .before .before .before .before .before .before .before .before .number2 in
+    let number3 = c .before .before .before .before .before .before .before .before .number3 in
+    let loop = c .before .before .before .before .before .loop in
+    let loop-test = c .before .before .before .before .loop-test in
+    omega (arith, loop .inv .2, start .pre .2, stream-room (start .args .row .now) (start .args .k) (number .result) (number2 .result) (number3 .result) (start .pre .1) (number .ensures .0) (number2 .ensures .0) (number3 .ensures .0) (loop .i) (loop-test .taken))
 
 add-from-2 : tie.Need-add-from-2 Inv-loop μ-loop
-add-from-2 c = omega (arith, c .before .before .before .before .before .loop .inv .2, c .before .before .before .before .before .before .before .before .before .before .before .before .before .before .pre .2, stream-room (c .before .before .before .before .before .before .before .before .before .before .before .before .before .before .args .row .now) (c .before .before .before .before .before .before .before .before .before .before .before .before .before .before .args .k) (c .before .before .before .before .before .before .before .before .before .before .number .result) (c .before .before .before .before .before .before .before .before .before .number2 .result) (c .before .before .before .before .before .before .before .before .number3 .result) (c .before .before .before .before .before .before .before .before .before .before .before .before .before .before .pre .1) (c .before .before .before .before .before .before .before .before .before .before .number .ensures .0) (c .before .before .before .before .before .before .before .before .before .number2 .ensures .0) (c .before .before .before .before .before .before .before .before .number3 .ensures .0) (c .before .before .before .before .before .loop .i) (c .before .before .before .before .loop-test .taken))
+add-from-2 c =
+    let start = c .before .before .before .before .before .before .before .before .before .before .before .before .before .before in
+    let number = c .before .before .before .before .before .before .before .before .before .before .number in
+    let number2 = c .before .before .before .before .before .before .before .before .before .number2 in
+    let number3 = c .before .before .before .before .before .before .before .before .number3 in
+    let loop = c .before .before .before .before .before .loop in
+    let loop-test = c .before .before .before .before .loop-test in
+    omega (arith, loop .inv .2, start .pre .2, stream-room (start .args .row .now) (start .args .k) (number .result) (number2 .result) (number3 .result) (start .pre .1) (number .ensures .0) (number2 .ensures .0) (number3 .ensures .0) (loop .i) (loop-test .taken))
 
 add-i : tie.Need-add-i Inv-loop μ-loop
 add-i c = search needs
@@ -73,19 +104,32 @@ loop-less : tie.Need-loop-less Inv-loop μ-loop
 loop-less c = search needs
 
 loop-again : tie.Need-loop-again Inv-loop μ-loop
-loop-again c = (
-  omega arith,
-  omega (arith, c .before .before .before .before .before .loop .inv .1),
-  omega (arith, c .before .before .before .before .before .loop .inv .2),
-  gathers-next (c .before .before .before .before .before .before .before .before .before .number2 .result) (c .before .before .before .before .before .before .before .before .number3 .result) (c .before .before .before .before .before .loop .i) _ (totalSize (batches (c .before .before .before .before .before .before .before .before .before .before .before .before .before .before .args .k) (c .before .before .before .before .before .before .before .before .before .before .before .before .before .before .args .row .now))) (c .before .before .before .before .before .before .before .before .before .before .before .before .before .before .args .stream .now) (c .before .before .before .before .before .loop .at) (c .before .before .before .before .before .loop .from) _ _ _ (c .before .before .before .before .before .loop .inv .1) (c .before .before .before .before .before .loop .inv .2) (omega (arith, c .before .before .before .before .before .loop .inv .1, c .before .before .before .before .before .before .before .before .before .before .before .before .before .before .pre .3, data-room (c .before .before .before .before .before .before .before .before .before .before .before .before .before .before .args .row .now) (c .before .before .before .before .before .before .before .before .before .before .before .before .before .before .args .k) (c .before .before .before .before .before .before .before .before .before .before .number .result) (c .before .before .before .before .before .before .before .before .before .number2 .result) (c .before .before .before .before .before .before .before .before .number3 .result) (c .before .before .before .before .before .before .before .before .before .before .before .before .before .before .pre .1) (c .before .before .before .before .before .before .before .before .before .before .number .ensures .0) (c .before .before .before .before .before .before .before .before .before .number2 .ensures .0) (c .before .before .before .before .before .before .before .before .number3 .ensures .0) (c .before .before .before .before .before .loop .i) (c .before .before .before .before .loop-test .taken))) (c .before .before .before .before .before .loop .inv .3)
-      (one-gathered (c .before .before .before .before .before .before .before .before .before .number2 .result) (c .before .before .before .before .before .before .before .before .number3 .result) (c .before .before .before .before .before .loop .at) (c .before .before .before .before .before .loop .from) (c .before .before .before .before .before .before .before .before .before .before .before .before .before .before .args .stream .now) _ _ (c .before .before .copy .kept .0) (c .before .before .copy .ensures)),
-)
+loop-again c =
+    let start = c .before .before .before .before .before .before .before .before .before .before .before .before .before .before in
+    let number = c .before .before .before .before .before .before .before .before .before .before .number in
+    let number2 = c .before .before .before .before .before .before .before .before .before .number2 in
+    let number3 = c .before .before .before .before .before .before .before .before .number3 in
+    let loop = c .before .before .before .before .before .loop in
+    let loop-test = c .before .before .before .before .loop-test in
+    let copy = c .before .before .copy in (
+      omega arith,
+      omega (arith, loop .inv .1),
+      omega (arith, loop .inv .2),
+      gathers-next (number2 .result) (number3 .result) (loop .i) _ (totalSize (batches (start .args .k) (start .args .row .now))) (start .args .stream .now) (loop .at) (loop .from) _ _ _ (loop .inv .1) (loop .inv .2) (omega (arith, loop .inv .1, start .pre .3, data-room (start .args .row .now) (start .args .k) (number .result) (number2 .result) (number3 .result) (start .pre .1) (number .ensures .0) (number2 .ensures .0) (number3 .ensures .0) (loop .i) (loop-test .taken))) (loop .inv .3)
+          (one-gathered (number2 .result) (number3 .result) (loop .at) (loop .from) (start .args .stream .now) _ _ (copy .kept .0) (copy .ensures)),
+    )
 
 same-length : tie.Need-same-length Inv-loop μ-loop
 same-length c = c .before .loop .inv .3 .size
 
 returns : tie.Need-returns Inv-loop μ-loop
-returns c = gathers-end (c .before .before .before .before .before .number2 .result) (c .before .before .before .before .number3 .result) (c .before .loop .i) _ (totalSize (batches (c .before .before .before .before .before .before .before .before .before .before .args .k) (c .before .before .before .before .before .before .before .before .before .before .args .row .now))) (c .before .before .before .before .before .before .before .before .before .before .args .stream .now) (c .before .before .before .before .before .before .number .result) _ (batch-is (c .before .before .before .before .before .before .before .before .before .before .args .row .now) (c .before .before .before .before .before .before .before .before .before .before .args .k) _ _ _ (c .before .before .before .before .before .before .number .ensures .0) (c .before .before .before .before .before .number2 .ensures .0) (c .before .before .before .before .number3 .ensures .0)) (c .before .loop .inv .0) (omega arith) _ _ (c .before .loop .inv .3)
+returns c =
+    let start = c .before .before .before .before .before .before .before .before .before .before in
+    let number = c .before .before .before .before .before .before .number in
+    let number2 = c .before .before .before .before .before .number2 in
+    let number3 = c .before .before .before .before .number3 in
+    let loop = c .before .loop in
+    gathers-end (number2 .result) (number3 .result) (loop .i) _ (totalSize (batches (start .args .k) (start .args .row .now))) (start .args .stream .now) (number .result) _ (batch-is (start .args .row .now) (start .args .k) _ _ _ (number .ensures .0) (number2 .ensures .0) (number3 .ensures .0)) (loop .inv .0) (omega arith) _ _ (loop .inv .3)
 
 pub gather-batch-spec : {M : Type 1} → statement M
 gather-batch-spec =

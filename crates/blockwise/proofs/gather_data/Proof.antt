@@ -20,7 +20,9 @@ unfolding batches
 loop-holds c = (omega arith, gathers-none _ _ _)
 
 gather-batch-requires : tie.Need-gather-batch-requires Inv-loop μ-loop
-gather-batch-requires c κs = (c .before .before .before .before .before .before .pre .0, c .before .loop-test .taken, c .before .before .before .before .before .before .pre .1, omega (arith, c .before .before .before .before .before .before .pre .2, c .before .before .loop .inv .1 .size))
+gather-batch-requires c κs =
+    let start = c .before .before .before .before .before .before in
+    (start .pre .0, c .before .loop-test .taken, start .pre .1, omega (arith, start .pre .2, c .before .before .loop .inv .1 .size))
 
 add-k : tie.Need-add-k Inv-loop μ-loop
 add-k c = search needs
@@ -29,7 +31,11 @@ loop-less : tie.Need-loop-less Inv-loop μ-loop
 loop-less c = search needs
 
 loop-again : tie.Need-loop-again Inv-loop μ-loop
-loop-again c = (omega arith, gathers-batch (c .before .before .before .before .before .before .before .before .before .args .row .now) (c .before .before .before .before .before .loop .k) (c .before .before .before .before .loop-test .taken) (c .before .before .before .before .before .before .before .before .before .args .stream .now) _ _ _ (c .before .before .before .before .before .before .before .before .before .pre .2) (c .before .before .before .before .before .loop .inv .1) (c .before .before .gather-batch .ensures))
+loop-again c =
+    let start = c .before .before .before .before .before .before .before .before .before in
+    let loop = c .before .before .before .before .before .loop in
+    let loop-test = c .before .before .before .before .loop-test in
+    (omega arith, gathers-batch (start .args .row .now) (loop .k) (loop-test .taken) (start .args .stream .now) _ _ _ (start .pre .2) (loop .inv .1) (c .before .before .gather-batch .ensures))
 
 data-before-requires : tie.Need-data-before-requires Inv-loop μ-loop
 data-before-requires c κs = (c .before .before .before .before .before .pre .0, omega arith)
@@ -38,7 +44,10 @@ same-length : tie.Need-same-length Inv-loop μ-loop
 same-length c = c .before .before .loop .inv .1 .size
 
 returns : tie.Need-returns Inv-loop μ-loop
-returns c = gathers-row (c .before .before .before .before .before .before .args .row .now) (c .before .before .loop .k) (c .before .before .loop .inv .0) (omega arith) (c .before .before .before .before .before .before .args .stream .now) _ _ _ (c .data-before .ensures) (c .before .before .loop .inv .1)
+returns c =
+    let start = c .before .before .before .before .before .before in
+    let loop = c .before .before .loop in
+    gathers-row (start .args .row .now) (loop .k) (loop .inv .0) (omega arith) (start .args .stream .now) _ _ _ (c .data-before .ensures) (loop .inv .1)
 
 pub gather-data-spec : {M : Type 1} → statement M
 gather-data-spec =

@@ -35,7 +35,10 @@ loop-again : tie.Need-loop-again Inv-loop μ-loop
 loop-again c = (omega arith, batch-place _ _ _ _ (c .before .before .loop .inv .1) (c .batch-length .ensures .0), omega (arith, c .batch-length .ensures .1))
 
 returns : tie.Need-returns Inv-loop μ-loop
-returns c = c .before .loop .inv .1 ∙ (let z : c .before .loop .i ≡ c .before .before .before .args .k = omega arith in ap (λ (x : ℕ). totalSize (batches x (c .before .before .before .args .row .now))) z)
+returns c =
+    let start = c .before .before .before in
+    let loop = c .before .loop in
+    loop .inv .1 ∙ (let z : loop .i ≡ start .args .k = omega arith in ap (λ (x : ℕ). totalSize (batches x (start .args .row .now))) z)
 
 pub length-before-spec : {M : Type 1} → statement M
 length-before-spec =

@@ -24,7 +24,9 @@ number-requires : tie.Need-number-requires Inv-loop μ-loop
 number-requires c κs = search needs
 
 returns : tie.Need-returns Inv-loop μ-loop
-returns c = writes-zero (c .before .before .before .before .before .args .row .now) (c .before .before .before .before .before .args .k) _ _ _ _ (c .before .number .ensures .0) (c .if1 .taken)
+returns c =
+    let start = c .before .before .before .before .before in
+    writes-zero (start .args .row .now) (start .args .k) _ _ _ _ (c .before .number .ensures .0) (c .if1 .taken)
 
 mul-number-2 : tie.Need-mul-number-2 Inv-loop μ-loop
 mul-number-2 c = search needs
@@ -46,14 +48,21 @@ number-requires-3 c κs = search needs
 
 generator-requires : tie.Need-generator-requires Inv-loop μ-loop
 generator-requires c κs =
-    let q = numbers-fit (c .before .before .before .before .before .before .before .args .row .now) (c .before .before .before .before .before .before .before .args .k) (c .before .before .before .number .result) (c .before .number2 .result) (c .number3 .result) (c .before .before .before .number .ensures .0) (c .before .number2 .ensures .0) (c .number3 .ensures .0) (row-batch _ _ (c .before .before .before .before .before .before .before .pre .1 .2) (c .before .before .before .before .before .before .before .args .k) (c .before .before .before .before .before .before .before .pre .1 .1)) (let z = c .before .before .if1 .left in omega arith) in
-    (c .before .before .before .before .before .before .before .pre .0 .0, (omega arith, omega (arith, q .0, q .2)))
+    let start = c .before .before .before .before .before .before .before in
+    let number = c .before .before .before .number in
+    let number2 = c .before .number2 in
+    let q = numbers-fit (start .args .row .now) (start .args .k) (number .result) (number2 .result) (c .number3 .result) (number .ensures .0) (number2 .ensures .0) (c .number3 .ensures .0) (row-batch _ _ (start .pre .1 .2) (start .args .k) (start .pre .1 .1)) (let z = c .before .before .if1 .left in omega arith) in
+    (start .pre .0 .0, (omega arith, omega (arith, q .0, q .2)))
 
 data-before-requires : tie.Need-data-before-requires Inv-loop μ-loop
-data-before-requires c κs = (c .before .before .before .before .before .before .before .before .pre .1 .0, omega (arith, c .before .before .before .before .before .before .before .before .pre .1 .1))
+data-before-requires c κs =
+    let start = c .before .before .before .before .before .before .before .before in
+    (start .pre .1 .0, omega (arith, start .pre .1 .1))
 
 length-before-requires : tie.Need-length-before-requires Inv-loop μ-loop
-length-before-requires c κs = (c .before .before .before .before .before .before .before .before .before .pre .1 .0, omega (arith, c .before .before .before .before .before .before .before .before .before .pre .1 .1))
+length-before-requires c κs =
+    let start = c .before .before .before .before .before .before .before .before .before in
+    (start .pre .1 .0, omega (arith, start .pre .1 .1))
 
 loop-holds : tie.Need-loop-holds Inv-loop μ-loop
 unfolding batch
@@ -66,48 +75,112 @@ add-write-block : tie.Need-add-write-block Inv-loop μ-loop
 add-write-block c = search needs
 
 add-write-block-2 : tie.Need-add-write-block-2 Inv-loop μ-loop
-add-write-block-2 c = omega (arith, c .before .before .loop .inv .2, c .before .before .loop .inv .3 .size, c .before .before .before .before .before .before .before .before .before .before .before .before .before .pre .1 .3, stream-room (c .before .before .before .before .before .before .before .before .before .before .before .before .before .args .row .now) (c .before .before .before .before .before .before .before .before .before .before .before .before .before .args .k) (c .before .before .before .before .before .before .before .before .before .number .result) (c .before .before .before .before .before .before .before .number2 .result) (c .before .before .before .before .before .before .number3 .result) (c .before .before .before .before .before .before .before .before .before .before .before .before .before .pre .1 .1) (c .before .before .before .before .before .before .before .before .before .number .ensures .0) (c .before .before .before .before .before .before .before .number2 .ensures .0) (c .before .before .before .before .before .before .number3 .ensures .0) (c .before .before .loop .i) (c .before .loop-test .taken))
+add-write-block-2 c =
+    let start = c .before .before .before .before .before .before .before .before .before .before .before .before .before in
+    let number = c .before .before .before .before .before .before .before .before .before .number in
+    let number2 = c .before .before .before .before .before .before .before .number2 in
+    let number3 = c .before .before .before .before .before .before .number3 in
+    let loop = c .before .before .loop in
+    omega (arith, loop .inv .2, loop .inv .3 .size, start .pre .1 .3, stream-room (start .args .row .now) (start .args .k) (number .result) (number2 .result) (number3 .result) (start .pre .1 .1) (number .ensures .0) (number2 .ensures .0) (number3 .ensures .0) (loop .i) (c .before .loop-test .taken))
 
 sub-write-block : tie.Need-sub-write-block Inv-loop μ-loop
 sub-write-block c = search needs
 
 part-write-block-start : tie.Need-part-write-block-start Inv-loop μ-loop
-part-write-block-start c = omega (arith, c .before .before .loop .inv .2, c .before .before .loop .inv .3 .size, c .before .before .before .before .before .before .before .before .before .before .before .before .before .pre .1 .3, stream-room (c .before .before .before .before .before .before .before .before .before .before .before .before .before .args .row .now) (c .before .before .before .before .before .before .before .before .before .before .before .before .before .args .k) (c .before .before .before .before .before .before .before .before .before .number .result) (c .before .before .before .before .before .before .before .number2 .result) (c .before .before .before .before .before .before .number3 .result) (c .before .before .before .before .before .before .before .before .before .before .before .before .before .pre .1 .1) (c .before .before .before .before .before .before .before .before .before .number .ensures .0) (c .before .before .before .before .before .before .before .number2 .ensures .0) (c .before .before .before .before .before .before .number3 .ensures .0) (c .before .before .loop .i) (c .before .loop-test .taken))
+part-write-block-start c =
+    let start = c .before .before .before .before .before .before .before .before .before .before .before .before .before in
+    let number = c .before .before .before .before .before .before .before .before .before .number in
+    let number2 = c .before .before .before .before .before .before .before .number2 in
+    let number3 = c .before .before .before .before .before .before .number3 in
+    let loop = c .before .before .loop in
+    omega (arith, loop .inv .2, loop .inv .3 .size, start .pre .1 .3, stream-room (start .args .row .now) (start .args .k) (number .result) (number2 .result) (number3 .result) (start .pre .1 .1) (number .ensures .0) (number2 .ensures .0) (number3 .ensures .0) (loop .i) (c .before .loop-test .taken))
 
 part-write-block-end : tie.Need-part-write-block-end Inv-loop μ-loop
-part-write-block-end c = omega (arith, c .before .before .loop .inv .2, c .before .before .loop .inv .3 .size, c .before .before .before .before .before .before .before .before .before .before .before .before .before .pre .1 .3, stream-room (c .before .before .before .before .before .before .before .before .before .before .before .before .before .args .row .now) (c .before .before .before .before .before .before .before .before .before .before .before .before .before .args .k) (c .before .before .before .before .before .before .before .before .before .number .result) (c .before .before .before .before .before .before .before .number2 .result) (c .before .before .before .before .before .before .number3 .result) (c .before .before .before .before .before .before .before .before .before .before .before .before .before .pre .1 .1) (c .before .before .before .before .before .before .before .before .before .number .ensures .0) (c .before .before .before .before .before .before .before .number2 .ensures .0) (c .before .before .before .before .before .before .number3 .ensures .0) (c .before .before .loop .i) (c .before .loop-test .taken))
+part-write-block-end c =
+    let start = c .before .before .before .before .before .before .before .before .before .before .before .before .before in
+    let number = c .before .before .before .before .before .before .before .before .before .number in
+    let number2 = c .before .before .before .before .before .before .before .number2 in
+    let number3 = c .before .before .before .before .before .before .number3 in
+    let loop = c .before .before .loop in
+    omega (arith, loop .inv .2, loop .inv .3 .size, start .pre .1 .3, stream-room (start .args .row .now) (start .args .k) (number .result) (number2 .result) (number3 .result) (start .pre .1 .1) (number .ensures .0) (number2 .ensures .0) (number3 .ensures .0) (loop .i) (c .before .loop-test .taken))
 
 add-write-block-3 : tie.Need-add-write-block-3 Inv-loop μ-loop
-add-write-block-3 c = omega (arith, c .before .before .before .loop .inv .1, c .before .before .before .before .before .before .before .before .before .before .before .before .before .before .pre .1 .4, data-room (c .before .before .before .before .before .before .before .before .before .before .before .before .before .before .args .row .now) (c .before .before .before .before .before .before .before .before .before .before .before .before .before .before .args .k) (c .before .before .before .before .before .before .before .before .before .before .number .result) (c .before .before .before .before .before .before .before .before .number2 .result) (c .before .before .before .before .before .before .before .number3 .result) (c .before .before .before .before .before .before .before .before .before .before .before .before .before .before .pre .1 .1) (c .before .before .before .before .before .before .before .before .before .before .number .ensures .0) (c .before .before .before .before .before .before .before .before .number2 .ensures .0) (c .before .before .before .before .before .before .before .number3 .ensures .0) (c .before .before .before .loop .i) (c .before .before .loop-test .taken))
+add-write-block-3 c =
+    let start = c .before .before .before .before .before .before .before .before .before .before .before .before .before .before in
+    let number = c .before .before .before .before .before .before .before .before .before .before .number in
+    let number2 = c .before .before .before .before .before .before .before .before .number2 in
+    let number3 = c .before .before .before .before .before .before .before .number3 in
+    let loop = c .before .before .before .loop in
+    omega (arith, loop .inv .1, start .pre .1 .4, data-room (start .args .row .now) (start .args .k) (number .result) (number2 .result) (number3 .result) (start .pre .1 .1) (number .ensures .0) (number2 .ensures .0) (number3 .ensures .0) (loop .i) (c .before .before .loop-test .taken))
 
 sub-write-block-2 : tie.Need-sub-write-block-2 Inv-loop μ-loop
 sub-write-block-2 c = search needs
 
 part-write-block-start-2 : tie.Need-part-write-block-start-2 Inv-loop μ-loop
-part-write-block-start-2 c = omega (arith, c .before .before .before .loop .inv .1, c .before .before .before .before .before .before .before .before .before .before .before .before .before .before .pre .1 .4, data-room (c .before .before .before .before .before .before .before .before .before .before .before .before .before .before .args .row .now) (c .before .before .before .before .before .before .before .before .before .before .before .before .before .before .args .k) (c .before .before .before .before .before .before .before .before .before .before .number .result) (c .before .before .before .before .before .before .before .before .number2 .result) (c .before .before .before .before .before .before .before .number3 .result) (c .before .before .before .before .before .before .before .before .before .before .before .before .before .before .pre .1 .1) (c .before .before .before .before .before .before .before .before .before .before .number .ensures .0) (c .before .before .before .before .before .before .before .before .number2 .ensures .0) (c .before .before .before .before .before .before .before .number3 .ensures .0) (c .before .before .before .loop .i) (c .before .before .loop-test .taken))
+part-write-block-start-2 c =
+    let start = c .before .before .before .before .before .before .before .before .before .before .before .before .before .before in
+    let number = c .before .before .before .before .before .before .before .before .before .before .number in
+    let number2 = c .before .before .before .before .before .before .before .before .number2 in
+    let number3 = c .before .before .before .before .before .before .before .number3 in
+    let loop = c .before .before .before .loop in
+    omega (arith, loop .inv .1, start .pre .1 .4, data-room (start .args .row .now) (start .args .k) (number .result) (number2 .result) (number3 .result) (start .pre .1 .1) (number .ensures .0) (number2 .ensures .0) (number3 .ensures .0) (loop .i) (c .before .before .loop-test .taken))
 
 part-write-block-end-2 : tie.Need-part-write-block-end-2 Inv-loop μ-loop
-part-write-block-end-2 c = omega (arith, c .before .before .before .loop .inv .1, c .before .before .before .before .before .before .before .before .before .before .before .before .before .before .pre .1 .4, data-room (c .before .before .before .before .before .before .before .before .before .before .before .before .before .before .args .row .now) (c .before .before .before .before .before .before .before .before .before .before .before .before .before .before .args .k) (c .before .before .before .before .before .before .before .before .before .before .number .result) (c .before .before .before .before .before .before .before .before .number2 .result) (c .before .before .before .before .before .before .before .number3 .result) (c .before .before .before .before .before .before .before .before .before .before .before .before .before .before .pre .1 .1) (c .before .before .before .before .before .before .before .before .before .before .number .ensures .0) (c .before .before .before .before .before .before .before .before .number2 .ensures .0) (c .before .before .before .before .before .before .before .number3 .ensures .0) (c .before .before .before .loop .i) (c .before .before .loop-test .taken))
+part-write-block-end-2 c =
+    let start = c .before .before .before .before .before .before .before .before .before .before .before .before .before .before in
+    let number = c .before .before .before .before .before .before .before .before .before .before .number in
+    let number2 = c .before .before .before .before .before .before .before .before .number2 in
+    let number3 = c .before .before .before .before .before .before .before .number3 in
+    let loop = c .before .before .before .loop in
+    omega (arith, loop .inv .1, start .pre .1 .4, data-room (start .args .row .now) (start .args .k) (number .result) (number2 .result) (number3 .result) (start .pre .1 .1) (number .ensures .0) (number2 .ensures .0) (number3 .ensures .0) (loop .i) (c .before .before .loop-test .taken))
 
 write-block-requires : tie.Need-write-block-requires Inv-loop μ-loop
 write-block-requires c κs =
-    let d = c .before .before .before .before .before .before .before .before .before .number2 .result in
-    let p = c .before .before .before .before .before .before .before .before .number3 .result in
-    let l = c .before .before .before .before .loop in
-    let q = numbers-fit (c .before .before .before .before .before .before .before .before .before .before .before .before .before .before .before .args .row .now) (c .before .before .before .before .before .before .before .before .before .before .before .before .before .before .before .args .k) (c .before .before .before .before .before .before .before .before .before .before .before .number .result) (c .before .before .before .before .before .before .before .before .before .number2 .result) (c .before .before .before .before .before .before .before .before .number3 .result) (c .before .before .before .before .before .before .before .before .before .before .before .number .ensures .0) (c .before .before .before .before .before .before .before .before .before .number2 .ensures .0) (c .before .before .before .before .before .before .before .before .number3 .ensures .0) (row-batch _ _ (c .before .before .before .before .before .before .before .before .before .before .before .before .before .before .before .pre .1 .2) (c .before .before .before .before .before .before .before .before .before .before .before .before .before .before .before .args .k) (c .before .before .before .before .before .before .before .before .before .before .before .before .before .before .before .pre .1 .1)) (omega arith) in
-    let m = part-length (l .from) (l .from + (d + p)) (d + p) (l .stream) refl (omega (arith, c .before .before .before .before .loop .inv .2, c .before .before .before .before .loop .inv .3 .size, c .before .before .before .before .before .before .before .before .before .before .before .before .before .before .before .pre .1 .3, stream-room (c .before .before .before .before .before .before .before .before .before .before .before .before .before .before .before .args .row .now) (c .before .before .before .before .before .before .before .before .before .before .before .before .before .before .before .args .k) (c .before .before .before .before .before .before .before .before .before .before .before .number .result) (c .before .before .before .before .before .before .before .before .before .number2 .result) (c .before .before .before .before .before .before .before .before .number3 .result) (c .before .before .before .before .before .before .before .before .before .before .before .before .before .before .before .pre .1 .1) (c .before .before .before .before .before .before .before .before .before .before .before .number .ensures .0) (c .before .before .before .before .before .before .before .before .before .number2 .ensures .0) (c .before .before .before .before .before .before .before .before .number3 .ensures .0) (c .before .before .before .before .loop .i) (c .before .before .before .loop-test .taken))) in
-    let n = part-length (l .at) (l .at + d) d (c .before .before .before .before .before .before .before .before .before .before .before .before .before .before .before .args .«data» .now) refl (omega (arith, c .before .before .before .before .loop .inv .1, c .before .before .before .before .before .before .before .before .before .before .before .before .before .before .before .pre .1 .4, data-room (c .before .before .before .before .before .before .before .before .before .before .before .before .before .before .before .args .row .now) (c .before .before .before .before .before .before .before .before .before .before .before .before .before .before .before .args .k) (c .before .before .before .before .before .before .before .before .before .before .before .number .result) (c .before .before .before .before .before .before .before .before .before .number2 .result) (c .before .before .before .before .before .before .before .before .number3 .result) (c .before .before .before .before .before .before .before .before .before .before .before .before .before .before .before .pre .1 .1) (c .before .before .before .before .before .before .before .before .before .before .before .number .ensures .0) (c .before .before .before .before .before .before .before .before .before .number2 .ensures .0) (c .before .before .before .before .before .before .before .before .number3 .ensures .0) (c .before .before .before .before .loop .i) (c .before .before .before .loop-test .taken))) in
-    let e : p ≡ length (take (l .from + (d + p) - l .from) (drop (l .from) (l .stream))) - length (take (l .at + d - l .at) (drop (l .at) (c .before .before .before .before .before .before .before .before .before .before .before .before .before .before .before .args .«data» .now))) = omega (arith, m, n) in
-    (c .before .before .before .before .before .before .before .before .before .before .before .before .before .before .before .pre .0, (omega (arith, m, n), omega (arith, m, q .2), c .before .before .before .before .before .before .before .generator .ensures .0, generator-as _ _ _ _ _ (c .before .before .before .before .before .before .before .before .before .before .before .before .before .before .before .pre .0 .1) e (c .before .before .before .before .before .before .before .generator .ensures .1)))
+    let start = c .before .before .before .before .before .before .before .before .before .before .before .before .before .before .before in
+    let number = c .before .before .before .before .before .before .before .before .before .before .before .number in
+    let number2 = c .before .before .before .before .before .before .before .before .before .number2 in
+    let number3 = c .before .before .before .before .before .before .before .before .number3 in
+    let generator = c .before .before .before .before .before .before .before .generator in
+    let loop = c .before .before .before .before .loop in
+    let loop-test = c .before .before .before .loop-test in
+    let d = number2 .result in
+    let p = number3 .result in
+    let l = loop in
+    let q = numbers-fit (start .args .row .now) (start .args .k) (number .result) (number2 .result) (number3 .result) (number .ensures .0) (number2 .ensures .0) (number3 .ensures .0) (row-batch _ _ (start .pre .1 .2) (start .args .k) (start .pre .1 .1)) (omega arith) in
+    let m = part-length (l .from) (l .from + (d + p)) (d + p) (l .stream) refl (omega (arith, loop .inv .2, loop .inv .3 .size, start .pre .1 .3, stream-room (start .args .row .now) (start .args .k) (number .result) (number2 .result) (number3 .result) (start .pre .1 .1) (number .ensures .0) (number2 .ensures .0) (number3 .ensures .0) (loop .i) (loop-test .taken))) in
+    let n = part-length (l .at) (l .at + d) d (start .args .«data» .now) refl (omega (arith, loop .inv .1, start .pre .1 .4, data-room (start .args .row .now) (start .args .k) (number .result) (number2 .result) (number3 .result) (start .pre .1 .1) (number .ensures .0) (number2 .ensures .0) (number3 .ensures .0) (loop .i) (loop-test .taken))) in
+    let e : p ≡ length (take (l .from + (d + p) - l .from) (drop (l .from) (l .stream))) - length (take (l .at + d - l .at) (drop (l .at) (start .args .«data» .now))) = omega (arith, m, n) in
+    (start .pre .0, (omega (arith, m, n), omega (arith, m, q .2), generator .ensures .0, generator-as _ _ _ _ _ (start .pre .0 .1) e (generator .ensures .1)))
 
 add-at : tie.Need-add-at Inv-loop μ-loop
-add-at c = omega (arith, c .before .before .before .before .before .before .before .loop .inv .1, c .before .before .before .before .before .before .before .before .before .before .before .before .before .before .before .before .before .before .pre .1 .4, data-room (c .before .before .before .before .before .before .before .before .before .before .before .before .before .before .before .before .before .before .args .row .now) (c .before .before .before .before .before .before .before .before .before .before .before .before .before .before .before .before .before .before .args .k) (c .before .before .before .before .before .before .before .before .before .before .before .before .before .before .number .result) (c .before .before .before .before .before .before .before .before .before .before .before .before .number2 .result) (c .before .before .before .before .before .before .before .before .before .before .before .number3 .result) (c .before .before .before .before .before .before .before .before .before .before .before .before .before .before .before .before .before .before .pre .1 .1) (c .before .before .before .before .before .before .before .before .before .before .before .before .before .before .number .ensures .0) (c .before .before .before .before .before .before .before .before .before .before .before .before .number2 .ensures .0) (c .before .before .before .before .before .before .before .before .before .before .before .number3 .ensures .0) (c .before .before .before .before .before .before .before .loop .i) (c .before .before .before .before .before .before .loop-test .taken))
+add-at c =
+    let start = c .before .before .before .before .before .before .before .before .before .before .before .before .before .before .before .before .before .before in
+    let number = c .before .before .before .before .before .before .before .before .before .before .before .before .before .before .number in
+    let number2 = c .before .before .before .before .before .before .before .before .before .before .before .before .number2 in
+    let number3 = c .before .before .before .before .before .before .before .before .before .before .before .number3 in
+    let loop = c .before .before .before .before .before .before .before .loop in
+    let loop-test = c .before .before .before .before .before .before .loop-test in
+    omega (arith, loop .inv .1, start .pre .1 .4, data-room (start .args .row .now) (start .args .k) (number .result) (number2 .result) (number3 .result) (start .pre .1 .1) (number .ensures .0) (number2 .ensures .0) (number3 .ensures .0) (loop .i) (loop-test .taken))
 
 add-from : tie.Need-add-from Inv-loop μ-loop
-add-from c = omega (arith, c .before .before .before .before .before .before .before .loop .inv .2, c .before .before .before .before .before .before .before .loop .inv .3 .size, c .before .before .before .before .before .before .before .before .before .before .before .before .before .before .before .before .before .before .pre .1 .3, stream-room (c .before .before .before .before .before .before .before .before .before .before .before .before .before .before .before .before .before .before .args .row .now) (c .before .before .before .before .before .before .before .before .before .before .before .before .before .before .before .before .before .before .args .k) (c .before .before .before .before .before .before .before .before .before .before .before .before .before .before .number .result) (c .before .before .before .before .before .before .before .before .before .before .before .before .number2 .result) (c .before .before .before .before .before .before .before .before .before .before .before .number3 .result) (c .before .before .before .before .before .before .before .before .before .before .before .before .before .before .before .before .before .before .pre .1 .1) (c .before .before .before .before .before .before .before .before .before .before .before .before .before .before .number .ensures .0) (c .before .before .before .before .before .before .before .before .before .before .before .before .number2 .ensures .0) (c .before .before .before .before .before .before .before .before .before .before .before .number3 .ensures .0) (c .before .before .before .before .before .before .before .loop .i) (c .before .before .before .before .before .before .loop-test .taken))
+add-from c =
+    let start = c .before .before .before .before .before .before .before .before .before .before .before .before .before .before .before .before .before .before in
+    let number = c .before .before .before .before .before .before .before .before .before .before .before .before .before .before .number in
+    let number2 = c .before .before .before .before .before .before .before .before .before .before .before .before .number2 in
+    let number3 = c .before .before .before .before .before .before .before .before .before .before .before .number3 in
+    let loop = c .before .before .before .before .before .before .before .loop in
+    let loop-test = c .before .before .before .before .before .before .loop-test in
+    omega (arith, loop .inv .2, loop .inv .3 .size, start .pre .1 .3, stream-room (start .args .row .now) (start .args .k) (number .result) (number2 .result) (number3 .result) (start .pre .1 .1) (number .ensures .0) (number2 .ensures .0) (number3 .ensures .0) (loop .i) (loop-test .taken))
 
 add-from-2 : tie.Need-add-from-2 Inv-loop μ-loop
-add-from-2 c = omega (arith, c .before .before .before .before .before .before .before .loop .inv .2, c .before .before .before .before .before .before .before .loop .inv .3 .size, c .before .before .before .before .before .before .before .before .before .before .before .before .before .before .before .before .before .before .pre .1 .3, stream-room (c .before .before .before .before .before .before .before .before .before .before .before .before .before .before .before .before .before .before .args .row .now) (c .before .before .before .before .before .before .before .before .before .before .before .before .before .before .before .before .before .before .args .k) (c .before .before .before .before .before .before .before .before .before .before .before .before .before .before .number .result) (c .before .before .before .before .before .before .before .before .before .before .before .before .number2 .result) (c .before .before .before .before .before .before .before .before .before .before .before .number3 .result) (c .before .before .before .before .before .before .before .before .before .before .before .before .before .before .before .before .before .before .pre .1 .1) (c .before .before .before .before .before .before .before .before .before .before .before .before .before .before .number .ensures .0) (c .before .before .before .before .before .before .before .before .before .before .before .before .number2 .ensures .0) (c .before .before .before .before .before .before .before .before .before .before .before .number3 .ensures .0) (c .before .before .before .before .before .before .before .loop .i) (c .before .before .before .before .before .before .loop-test .taken))
+add-from-2 c =
+    let start = c .before .before .before .before .before .before .before .before .before .before .before .before .before .before .before .before .before .before in
+    let number = c .before .before .before .before .before .before .before .before .before .before .before .before .before .before .number in
+    let number2 = c .before .before .before .before .before .before .before .before .before .before .before .before .number2 in
+    let number3 = c .before .before .before .before .before .before .before .before .before .before .before .number3 in
+    let loop = c .before .before .before .before .before .before .before .loop in
+    let loop-test = c .before .before .before .before .before .before .loop-test in
+    omega (arith, loop .inv .2, loop .inv .3 .size, start .pre .1 .3, stream-room (start .args .row .now) (start .args .k) (number .result) (number2 .result) (number3 .result) (start .pre .1 .1) (number .ensures .0) (number2 .ensures .0) (number3 .ensures .0) (loop .i) (loop-test .taken))
 
 add-i : tie.Need-add-i Inv-loop μ-loop
 add-i c = search needs
@@ -116,19 +189,32 @@ loop-less : tie.Need-loop-less Inv-loop μ-loop
 loop-less c = search needs
 
 loop-again : tie.Need-loop-again Inv-loop μ-loop
-loop-again c = (
-  omega arith,
-  omega (arith, c .before .before .before .before .before .before .before .loop .inv .1),
-  omega (arith, c .before .before .before .before .before .before .before .loop .inv .2),
-  writes-next (c .before .before .before .before .before .before .before .before .before .before .before .before .number2 .result) (c .before .before .before .before .before .before .before .before .before .before .before .number3 .result) (c .before .before .before .before .before .before .before .loop .i) _ (totalData (batches (c .before .before .before .before .before .before .before .before .before .before .before .before .before .before .before .before .before .before .args .k) (c .before .before .before .before .before .before .before .before .before .before .before .before .before .before .before .before .before .before .args .row .now))) (c .before .before .before .before .before .before .before .before .before .before .before .before .before .before .before .before .before .before .args .«data» .now) (c .before .before .before .before .before .before .before .loop .from) (c .before .before .before .before .before .before .before .loop .at) _ _ _ (c .before .before .before .before .before .before .before .loop .inv .2) (c .before .before .before .before .before .before .before .loop .inv .1) (omega (arith, c .before .before .before .before .before .before .before .loop .inv .2, c .before .before .before .before .before .before .before .loop .inv .3 .size, c .before .before .before .before .before .before .before .before .before .before .before .before .before .before .before .before .before .before .pre .1 .3, stream-room (c .before .before .before .before .before .before .before .before .before .before .before .before .before .before .before .before .before .before .args .row .now) (c .before .before .before .before .before .before .before .before .before .before .before .before .before .before .before .before .before .before .args .k) (c .before .before .before .before .before .before .before .before .before .before .before .before .before .before .number .result) (c .before .before .before .before .before .before .before .before .before .before .before .before .number2 .result) (c .before .before .before .before .before .before .before .before .before .before .before .number3 .result) (c .before .before .before .before .before .before .before .before .before .before .before .before .before .before .before .before .before .before .pre .1 .1) (c .before .before .before .before .before .before .before .before .before .before .before .before .before .before .number .ensures .0) (c .before .before .before .before .before .before .before .before .before .before .before .before .number2 .ensures .0) (c .before .before .before .before .before .before .before .before .before .before .before .number3 .ensures .0) (c .before .before .before .before .before .before .before .loop .i) (c .before .before .before .before .before .before .loop-test .taken))) (c .before .before .before .before .before .before .before .loop .inv .3)
-      (one-written (c .before .before .before .before .before .before .before .before .before .before .before .before .number2 .result) (c .before .before .before .before .before .before .before .before .before .before .before .number3 .result) (c .before .before .before .before .before .before .before .loop .from) _ (c .before .before .before .before .before .before .before .loop .at) _ (c .before .before .before .before .before .before .before .before .before .before .before .before .before .before .before .before .before .before .args .«data» .now) (c .before .before .before .before .before .before .before .loop .stream) (c .before .before .write-block .last .1 .1 .0) refl refl (omega (arith, c .before .before .before .before .before .before .before .loop .inv .2, c .before .before .before .before .before .before .before .loop .inv .3 .size, c .before .before .before .before .before .before .before .before .before .before .before .before .before .before .before .before .before .before .pre .1 .3, stream-room (c .before .before .before .before .before .before .before .before .before .before .before .before .before .before .before .before .before .before .args .row .now) (c .before .before .before .before .before .before .before .before .before .before .before .before .before .before .before .before .before .before .args .k) (c .before .before .before .before .before .before .before .before .before .before .before .before .before .before .number .result) (c .before .before .before .before .before .before .before .before .before .before .before .before .number2 .result) (c .before .before .before .before .before .before .before .before .before .before .before .number3 .result) (c .before .before .before .before .before .before .before .before .before .before .before .before .before .before .before .before .before .before .pre .1 .1) (c .before .before .before .before .before .before .before .before .before .before .before .before .before .before .number .ensures .0) (c .before .before .before .before .before .before .before .before .before .before .before .before .number2 .ensures .0) (c .before .before .before .before .before .before .before .before .before .before .before .number3 .ensures .0) (c .before .before .before .before .before .before .before .loop .i) (c .before .before .before .before .before .before .loop-test .taken))) (omega (arith, c .before .before .before .before .before .before .before .loop .inv .1, c .before .before .before .before .before .before .before .before .before .before .before .before .before .before .before .before .before .before .pre .1 .4, data-room (c .before .before .before .before .before .before .before .before .before .before .before .before .before .before .before .before .before .before .args .row .now) (c .before .before .before .before .before .before .before .before .before .before .before .before .before .before .before .before .before .before .args .k) (c .before .before .before .before .before .before .before .before .before .before .before .before .before .before .number .result) (c .before .before .before .before .before .before .before .before .before .before .before .before .number2 .result) (c .before .before .before .before .before .before .before .before .before .before .before .number3 .result) (c .before .before .before .before .before .before .before .before .before .before .before .before .before .before .before .before .before .before .pre .1 .1) (c .before .before .before .before .before .before .before .before .before .before .before .before .before .before .number .ensures .0) (c .before .before .before .before .before .before .before .before .before .before .before .before .number2 .ensures .0) (c .before .before .before .before .before .before .before .before .before .before .before .number3 .ensures .0) (c .before .before .before .before .before .before .before .loop .i) (c .before .before .before .before .before .before .loop-test .taken))) (c .before .before .write-block .kept .1 .1 .0) (c .before .before .write-block .ensures)),
-)
+loop-again c =
+    let start = c .before .before .before .before .before .before .before .before .before .before .before .before .before .before .before .before .before .before in
+    let number = c .before .before .before .before .before .before .before .before .before .before .before .before .before .before .number in
+    let number2 = c .before .before .before .before .before .before .before .before .before .before .before .before .number2 in
+    let number3 = c .before .before .before .before .before .before .before .before .before .before .before .number3 in
+    let loop = c .before .before .before .before .before .before .before .loop in
+    let loop-test = c .before .before .before .before .before .before .loop-test in
+    let write-block = c .before .before .write-block in (
+      omega arith,
+      omega (arith, loop .inv .1),
+      omega (arith, loop .inv .2),
+      writes-next (number2 .result) (number3 .result) (loop .i) _ (totalData (batches (start .args .k) (start .args .row .now))) (start .args .«data» .now) (loop .from) (loop .at) _ _ _ (loop .inv .2) (loop .inv .1) (omega (arith, loop .inv .2, loop .inv .3 .size, start .pre .1 .3, stream-room (start .args .row .now) (start .args .k) (number .result) (number2 .result) (number3 .result) (start .pre .1 .1) (number .ensures .0) (number2 .ensures .0) (number3 .ensures .0) (loop .i) (loop-test .taken))) (loop .inv .3)
+          (one-written (number2 .result) (number3 .result) (loop .from) _ (loop .at) _ (start .args .«data» .now) (loop .stream) (write-block .last .1 .1 .0) refl refl (omega (arith, loop .inv .2, loop .inv .3 .size, start .pre .1 .3, stream-room (start .args .row .now) (start .args .k) (number .result) (number2 .result) (number3 .result) (start .pre .1 .1) (number .ensures .0) (number2 .ensures .0) (number3 .ensures .0) (loop .i) (loop-test .taken))) (omega (arith, loop .inv .1, start .pre .1 .4, data-room (start .args .row .now) (start .args .k) (number .result) (number2 .result) (number3 .result) (start .pre .1 .1) (number .ensures .0) (number2 .ensures .0) (number3 .ensures .0) (loop .i) (loop-test .taken))) (write-block .kept .1 .1 .0) (write-block .ensures)),
+    )
 
 same-length : tie.Need-same-length Inv-loop μ-loop
 same-length c = c .before .loop .inv .3 .size
 
 returns-2 : tie.Need-returns-2 Inv-loop μ-loop
-returns-2 c = writes-end (c .before .before .before .before .before .before .number2 .result) (c .before .before .before .before .before .number3 .result) (c .before .loop .i) _ (totalData (batches (c .before .before .before .before .before .before .before .before .before .before .before .before .args .k) (c .before .before .before .before .before .before .before .before .before .before .before .before .args .row .now))) (c .before .before .before .before .before .before .before .before .before .before .before .before .args .«data» .now) (c .before .before .before .before .before .before .before .before .number .result) _ (batch-is (c .before .before .before .before .before .before .before .before .before .before .before .before .args .row .now) (c .before .before .before .before .before .before .before .before .before .before .before .before .args .k) _ _ _ (c .before .before .before .before .before .before .before .before .number .ensures .0) (c .before .before .before .before .before .before .number2 .ensures .0) (c .before .before .before .before .before .number3 .ensures .0)) (c .before .loop .inv .0) (omega arith) _ _ (c .before .loop .inv .3)
+returns-2 c =
+    let start = c .before .before .before .before .before .before .before .before .before .before .before .before in
+    let number = c .before .before .before .before .before .before .before .before .number in
+    let number2 = c .before .before .before .before .before .before .number2 in
+    let number3 = c .before .before .before .before .before .number3 in
+    let loop = c .before .loop in
+    writes-end (number2 .result) (number3 .result) (loop .i) _ (totalData (batches (start .args .k) (start .args .row .now))) (start .args .«data» .now) (number .result) _ (batch-is (start .args .row .now) (start .args .k) _ _ _ (number .ensures .0) (number2 .ensures .0) (number3 .ensures .0)) (loop .inv .0) (omega arith) _ _ (loop .inv .3)
 
 pub write-batch-spec : {M : Type 1} → statement M
 write-batch-spec =

@@ -12,22 +12,26 @@ copy-requires : tie.Need-copy-requires
 copy-requires c κs = search needs
 
 write-parity-requires : tie.Need-write-parity-requires
-write-parity-requires c κs = (
-  c .before .before .before .before .before .before .before .before .pre .0 .0,
-  (
-    (omega (arith, c .before .before .before .copy .kept .0, c .before .before .before .before .before .before .before .before .pre .1 .0), omega (arith, c .before .before .before .copy .kept .0, c .before .before .before .before .before .before .before .before .pre .1 .1), omega (arith, c .before .before .before .copy .kept .0, c .before .before .before .before .before .before .before .before .pre .1 .1, c .before .before .before .before .before .before .before .before .pre .1 .2)),
-    generator-as _ 0x163 _ _ _ refl (ap (λ (n : ℕ). n - length (c .before .before .before .before .before .before .before .before .args .info .now)) (sym (c .before .before .before .copy .kept .0))) (c .before .before .before .before .before .before .before .before .pre .1 .3) .monic,
-  ),
-)
+write-parity-requires c κs =
+    let start = c .before .before .before .before .before .before .before .before in
+    let copy = c .before .before .before .copy in (
+      start .pre .0 .0,
+      (
+        (omega (arith, copy .kept .0, start .pre .1 .0), omega (arith, copy .kept .0, start .pre .1 .1), omega (arith, copy .kept .0, start .pre .1 .1, start .pre .1 .2)),
+        generator-as _ 0x163 _ _ _ refl (ap (λ (n : ℕ). n - length (start .args .info .now)) (sym (copy .kept .0))) (start .pre .1 .3) .monic,
+      ),
+    )
 
 same-length : tie.Need-same-length
 same-length c = search needs
 
 returns : tie.Need-returns
 returns c =
-    front-written _ (c .before .before .before .before .before .before .before .before .before .before .before .pre .0 .1) (c .before .before .before .before .before .before .before .before .before .before .before .args .block .now) (c .before .before .before .before .before .before .before .before .before .before .before .args .info .now) (c .before .before .before .before .before .before .copy .last .0) _ (c .before .before .before .before .before .before .before .before .before .before .before .pre .1 .0) (c .before .before .before .before .before .before .copy .ensures)
-    (c .before .before .write-parity .ensures 1 (generator-as 0x163 _ _ _ _ (sym (c .before .before .before .before .before .before .before .before .before .before .before .pre .0 .1)) (ap (λ (n : ℕ). n - length (c .before .before .before .before .before .before .before .before .before .before .before .args .info .now)) (sym (c .before .before .before .before .before .before .copy .kept .0))) (c .before .before .before .before .before .before .before .before .before .before .before .pre .1 .3)))
-    (c .before .before .before .before .before .before .copy .kept .0)
+    let start = c .before .before .before .before .before .before .before .before .before .before .before in
+    let copy = c .before .before .before .before .before .before .copy in
+    front-written _ (start .pre .0 .1) (start .args .block .now) (start .args .info .now) (copy .last .0) _ (start .pre .1 .0) (copy .ensures)
+    (c .before .before .write-parity .ensures 1 (generator-as 0x163 _ _ _ _ (sym (start .pre .0 .1)) (ap (λ (n : ℕ). n - length (start .args .info .now)) (sym (copy .kept .0))) (start .pre .1 .3)))
+    (copy .kept .0)
 
 pub write-block-spec : {M : Type 1} → statement M
 write-block-spec = tie.close (tie.spec copy-requires write-parity-requires same-length returns)

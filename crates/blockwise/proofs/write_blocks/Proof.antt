@@ -20,7 +20,9 @@ unfolding batches
 loop-holds c = (omega arith, writes-none _ _ _)
 
 write-batch-requires : tie.Need-write-batch-requires Inv-loop μ-loop
-write-batch-requires c κs = (c .before .before .before .before .before .before .pre .0, (c .before .before .before .before .before .before .pre .1 .0, c .before .loop-test .taken, c .before .before .before .before .before .before .pre .1 .1, omega (arith, c .before .before .before .before .before .before .pre .1 .2, c .before .before .loop .inv .1 .size), c .before .before .before .before .before .before .pre .1 .3))
+write-batch-requires c κs =
+    let start = c .before .before .before .before .before .before in
+    (start .pre .0, (start .pre .1 .0, c .before .loop-test .taken, start .pre .1 .1, omega (arith, start .pre .1 .2, c .before .before .loop .inv .1 .size), start .pre .1 .3))
 
 add-k : tie.Need-add-k Inv-loop μ-loop
 add-k c = search needs
@@ -29,13 +31,20 @@ loop-less : tie.Need-loop-less Inv-loop μ-loop
 loop-less c = search needs
 
 loop-again : tie.Need-loop-again Inv-loop μ-loop
-loop-again c = (omega arith, writes-batch (c .before .before .before .before .before .before .before .before .before .args .row .now) (c .before .before .before .before .before .loop .k) (c .before .before .before .before .loop-test .taken) (c .before .before .before .before .before .before .before .before .before .args .«data» .now) _ _ _ (c .before .before .before .before .before .before .before .before .before .pre .1 .2) (c .before .before .before .before .before .loop .inv .1) (c .before .before .write-batch .ensures))
+loop-again c =
+    let start = c .before .before .before .before .before .before .before .before .before in
+    let loop = c .before .before .before .before .before .loop in
+    let loop-test = c .before .before .before .before .loop-test in
+    (omega arith, writes-batch (start .args .row .now) (loop .k) (loop-test .taken) (start .args .«data» .now) _ _ _ (start .pre .1 .2) (loop .inv .1) (c .before .before .write-batch .ensures))
 
 same-length : tie.Need-same-length Inv-loop μ-loop
 same-length c = c .before .loop .inv .1 .size
 
 returns : tie.Need-returns Inv-loop μ-loop
-returns c = writes-row (c .before .before .before .before .before .args .row .now) (c .before .loop .k) (c .before .loop .inv .0) (omega arith) (c .before .before .before .before .before .args .«data» .now) _ _ (c .before .loop .inv .1)
+returns c =
+    let start = c .before .before .before .before .before in
+    let loop = c .before .loop in
+    writes-row (start .args .row .now) (loop .k) (loop .inv .0) (omega arith) (start .args .«data» .now) _ _ (loop .inv .1)
 
 pub write-blocks-spec : {M : Type 1} → statement M
 write-blocks-spec =

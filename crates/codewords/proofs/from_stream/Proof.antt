@@ -14,7 +14,9 @@ abbrev μ-loop : tie.MeasureT-loop
 μ-loop out₀ stream total i₀ start₀ out i start = 13 - start
 
 loop-holds : tie.Need-loop-holds Inv-loop μ-loop
-loop-holds c = (collect-first (c .before .before .args .total) (c .before .before .args .stream .now) (c .before .before .args .out .now) (c .before .before .pre .0) (c .before .before .pre .1) (c .before .before .pre .2), refl, omega arith, refl)
+loop-holds c =
+    let start = c .before .before in
+    (collect-first (start .args .total) (start .args .stream .now) (start .args .out .now) (start .pre .0) (start .pre .1) (start .pre .2), refl, omega arith, refl)
 
 collect-start-requires : tie.Need-collect-start-requires Inv-loop μ-loop
 collect-start-requires c κs = (c .before .before .loop .inv .0, c .before .loop-test .taken)
@@ -26,7 +28,11 @@ loop-less : tie.Need-loop-less Inv-loop μ-loop
 loop-less c = omega (arith, c .before .before .before .before .loop-test .taken)
 
 loop-again : tie.Need-loop-again Inv-loop μ-loop
-loop-again c = (c .before .before .collect-start .ensures .0, c .before .before .collect-start .ensures .1 ∙ c .before .before .before .before .before .loop .inv .1, omega (arith, c .before .before .before .before .loop-test .taken), c .before .before .collect-start .kept .0 ∙ c .before .before .before .before .before .loop .inv .3)
+loop-again c =
+    let loop = c .before .before .before .before .before .loop in
+    let loop-test = c .before .before .before .before .loop-test in
+    let collect-start = c .before .before .collect-start in
+    (collect-start .ensures .0, collect-start .ensures .1 ∙ loop .inv .1, omega (arith, loop-test .taken), collect-start .kept .0 ∙ loop .inv .3)
 
 same-length : tie.Need-same-length Inv-loop μ-loop
 same-length c = c .before .loop .inv .3

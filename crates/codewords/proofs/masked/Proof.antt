@@ -28,7 +28,9 @@ sub-result-2 : tie.Need-sub-result-2
 sub-result-2 c = search needs
 
 returns-3 : tie.Need-returns-3
-returns-3 c = (mask-two (c .before .before .before .args .mask) (c .before .before .before .args .i) (c .before .before .before .args .j) (omega arith), omega arith)
+returns-3 c =
+    let start = c .before .before .before in
+    (mask-two (start .args .mask) (start .args .i) (start .args .j) (omega arith), omega arith)
 
 rem-result : tie.Need-rem-result
 rem-result c = search needs
@@ -37,19 +39,27 @@ rem-result-2 : tie.Need-rem-result-2
 rem-result-2 c = search needs
 
 add-result-4 : tie.Need-add-result-4
-add-result-4 c = omega (arith, mod-lt (c .before .before .before .args .i) {m = c .before .before .before .args .j} (omega arith), mod-lt (c .before .before .before .args .j) {m = c .before .before .before .args .i} (omega arith))
+add-result-4 c =
+    let start = c .before .before .before in
+    omega (arith, mod-lt (start .args .i) {m = start .args .j} (omega arith), mod-lt (start .args .j) {m = start .args .i} (omega arith))
 
 add-result-5 : tie.Need-add-result-5
-add-result-5 c = omega (arith, mod-lt (c .before .before .before .args .i) {m = c .before .before .before .args .j} (omega arith), mod-lt (c .before .before .before .args .j) {m = c .before .before .before .args .i} (omega arith))
+add-result-5 c =
+    let start = c .before .before .before in
+    omega (arith, mod-lt (start .args .i) {m = start .args .j} (omega arith), mod-lt (start .args .j) {m = start .args .i} (omega arith))
 
 add-result-6 : tie.Need-add-result-6
-add-result-6 c = omega (arith, mod-lt (c .before .before .before .args .i) {m = c .before .before .before .args .j} (omega arith), mod-lt (c .before .before .before .args .j) {m = c .before .before .before .args .i} (omega arith))
+add-result-6 c =
+    let start = c .before .before .before in
+    omega (arith, mod-lt (start .args .i) {m = start .args .j} (omega arith), mod-lt (start .args .j) {m = start .args .i} (omega arith))
 
 sub-result-3 : tie.Need-sub-result-3
 sub-result-3 c = search needs
 
 returns-4 : tie.Need-returns-4
-returns-4 c = (mask-three (c .before .before .before .args .mask) (c .before .before .before .args .i) (c .before .before .before .args .j) (omega arith) (omega arith) (omega arith), omega arith)
+returns-4 c =
+    let start = c .before .before .before in
+    (mask-three (start .args .mask) (start .args .i) (start .args .j) (omega arith) (omega arith) (omega arith), omega arith)
 
 pub masked-spec : {M : Type 1} → statement M
 masked-spec =

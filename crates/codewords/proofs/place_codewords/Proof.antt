@@ -18,13 +18,21 @@ abbrev μ-loop : tie.MeasureT-loop
 μ-loop square₀ kinds codewords total side mask place₀ t₀ i₀ square place t i = length square₀ - i
 
 loop-holds : tie.Need-loop-holds Inv-loop μ-loop
-loop-holds c = (placing-begun (maskBit (c .before .before .before .args .side) (c .before .before .before .args .mask)) (c .before .before .before .args .kinds .now) (c .before .before .before .args .square .now) (bitsOf (take (c .before .before .before .args .total) (c .before .before .before .args .codewords .now))), record { here = first-place (c .before .before .before .args .side) (c .before .before .before .pre .2); inside = c .before .before .before .pre .2 }, refl, omega arith)
+loop-holds c =
+    let start = c .before .before .before in
+    (placing-begun (maskBit (start .args .side) (start .args .mask)) (start .args .kinds .now) (start .args .square .now) (bitsOf (take (start .args .total) (start .args .codewords .now))), record { here = first-place (start .args .side) (start .pre .2); inside = start .pre .2 }, refl, omega arith)
 
 shared-slice-read-kind : tie.Need-shared-slice-read-kind Inv-loop μ-loop
-shared-slice-read-kind c = omega (arith, c .before .before .before .before .before .before .pre .0, c .before .loop-test .taken, c .before .before .loop .inv .0 .size)
+shared-slice-read-kind c =
+    let start = c .before .before .before .before .before .before in
+    omega (arith, start .pre .0, c .before .loop-test .taken, c .before .before .loop .inv .0 .size)
 
 module-of-requires : tie.Need-module-of-requires Inv-loop μ-loop
-module-of-requires c κs = (c .before .before .before .before .before .before .pre .3, c .before .before .before .before .before .before .pre .4, omega (arith, row-le (c .before .before .loop .inv .1), c .before .before .loop .inv .2, c .before .loop-test .taken, c .before .before .loop .inv .0 .size, c .before .before .before .before .before .before .pre .1), omega (arith, column-le (c .before .before .loop .inv .1), c .before .before .loop .inv .2, c .before .loop-test .taken, c .before .before .loop .inv .0 .size, c .before .before .before .before .before .before .pre .1))
+module-of-requires c κs =
+    let start = c .before .before .before .before .before .before in
+    let loop = c .before .before .loop in
+    let loop-test = c .before .loop-test in
+    (start .pre .3, start .pre .4, omega (arith, row-le (loop .inv .1), loop .inv .2, loop-test .taken, loop .inv .0 .size, start .pre .1), omega (arith, column-le (loop .inv .1), loop .inv .2, loop-test .taken, loop .inv .0 .size, start .pre .1))
 
 slice-write-square : tie.Need-slice-write-square Inv-loop μ-loop
 slice-write-square c = c .before .before .loop-test .taken
@@ -36,22 +44,37 @@ next-bit-requires : tie.Need-next-bit-requires Inv-loop μ-loop
 next-bit-requires c κs = c .before .before .before .loop .inv .3
 
 next-place-requires : tie.Need-next-place-requires Inv-loop μ-loop
-next-place-requires c κs = (c .before .before .before .before .loop .inv .1, omega (arith, c .before .before .before .before .loop .inv .2, c .before .before .before .loop-test .taken, c .before .before .before .before .loop .inv .0 .size, c .before .before .before .before .before .before .before .before .pre .1))
+next-place-requires c κs =
+    let start = c .before .before .before .before .before .before .before .before in
+    let loop = c .before .before .before .before .loop in
+    (loop .inv .1, omega (arith, loop .inv .2, c .before .before .before .loop-test .taken, loop .inv .0 .size, start .pre .1))
 
 add-i : tie.Need-add-i Inv-loop μ-loop
-add-i c = omega (arith, c .before .before .before .before .loop-test .taken, c .before .before .before .before .before .loop .inv .0 .size, c .before .before .before .before .before .before .before .before .before .pre .1)
+add-i c =
+    let start = c .before .before .before .before .before .before .before .before .before in
+    let loop = c .before .before .before .before .before .loop in
+    let loop-test = c .before .before .before .before .loop-test in
+    omega (arith, loop-test .taken, loop .inv .0 .size, start .pre .1)
 
 loop-less : tie.Need-loop-less Inv-loop μ-loop
 loop-less c = omega (arith, c .before .before .before .before .loop-test .taken, c .before .before .before .before .before .loop .inv .0 .size)
 
 loop-again : tie.Need-loop-again Inv-loop μ-loop
-loop-again c = (placing-more (maskBit (c .before .before .before .before .before .before .before .before .before .args .side) (c .before .before .before .before .before .before .before .before .before .args .mask)) (c .before .before .before .before .before .loop .inv .0) (c .before .before .before .before .before .before .before .before .before .pre .0) (omega (arith, c .before .before .before .before .loop-test .taken, c .before .before .before .before .before .loop .inv .0 .size)) (c .before .before .module-of .ensures ∙ ap (λ (b : ℕ). moduleOf b (getD (c .before .before .before .before .before .before .before .before .before .args .kinds .now) (c .before .before .before .before .before .loop .i) 0) (drop (c .before .before .before .before .before .loop .t) (bitsOf (take (c .before .before .before .before .before .before .before .before .before .args .total) (c .before .before .before .before .before .before .before .before .before .args .codewords .now))))) (sym (mask-place (c .before .before .before .before .before .before .before .before .before .args .side) (c .before .before .before .before .before .before .before .before .before .args .mask) (c .before .before .before .before .before .loop .inv .1)) ∙ ap (maskBit (c .before .before .before .before .before .before .before .before .before .args .side) (c .before .before .before .before .before .before .before .before .before .args .mask)) (c .before .before .before .before .before .loop .inv .2))) (rest-next (getD (c .before .before .before .before .before .before .before .before .before .args .kinds .now) (c .before .before .before .before .before .loop .i) 0) (c .before .before .before .before .before .loop .t) (c .before .next-bit .result) (bitsOf (take (c .before .before .before .before .before .before .before .before .before .args .total) (c .before .before .before .before .before .before .before .before .before .args .codewords .now))) (let l = length-front (c .before .before .before .before .before .before .before .before .before .args .total) (c .before .before .before .before .before .before .before .before .before .args .codewords .now) (c .before .before .before .before .before .before .before .before .before .pre .3) in (λ e h. c .before .next-bit .ensures .1 .0 e (omega arith), c .before .next-bit .ensures .1 .1, λ h. c .before .next-bit .ensures .1 .2 (omega arith)))), c .next-place .ensures .0, omega (arith, c .next-place .ensures .1, c .before .before .before .before .before .loop .inv .2), c .before .next-bit .ensures .0)
+loop-again c =
+    let start = c .before .before .before .before .before .before .before .before .before in
+    let loop = c .before .before .before .before .before .loop in
+    let loop-test = c .before .before .before .before .loop-test in
+    let next-bit = c .before .next-bit in
+    (placing-more (maskBit (start .args .side) (start .args .mask)) (loop .inv .0) (start .pre .0) (omega (arith, loop-test .taken, loop .inv .0 .size)) (c .before .before .module-of .ensures ∙ ap (λ (b : ℕ). moduleOf b (getD (start .args .kinds .now) (loop .i) 0) (drop (loop .t) (bitsOf (take (start .args .total) (start .args .codewords .now))))) (sym (mask-place (start .args .side) (start .args .mask) (loop .inv .1)) ∙ ap (maskBit (start .args .side) (start .args .mask)) (loop .inv .2))) (rest-next (getD (start .args .kinds .now) (loop .i) 0) (loop .t) (next-bit .result) (bitsOf (take (start .args .total) (start .args .codewords .now))) (let l = length-front (start .args .total) (start .args .codewords .now) (start .pre .3) in (λ e h. next-bit .ensures .1 .0 e (omega arith), next-bit .ensures .1 .1, λ h. next-bit .ensures .1 .2 (omega arith)))), c .next-place .ensures .0, omega (arith, c .next-place .ensures .1, loop .inv .2), next-bit .ensures .0)
 
 same-length : tie.Need-same-length Inv-loop μ-loop
 same-length c = c .before .loop .inv .0 .size
 
 returns : tie.Need-returns Inv-loop μ-loop
-returns c = placing-done (maskBit (c .before .before .before .before .before .args .side) (c .before .before .before .before .before .args .mask)) (c .before .loop .inv .0) (c .before .before .before .before .before .pre .0) (omega (arith, c .loop-test .left, c .before .loop .inv .0 .size))
+returns c =
+    let start = c .before .before .before .before .before in
+    let loop = c .before .loop in
+    placing-done (maskBit (start .args .side) (start .args .mask)) (loop .inv .0) (start .pre .0) (omega (arith, c .loop-test .left, loop .inv .0 .size))
 
 pub place-codewords-spec : {M : Type 1} → statement M
 place-codewords-spec =

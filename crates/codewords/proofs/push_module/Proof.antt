@@ -25,13 +25,19 @@ wide-requires : tie.Need-wide-requires
 wide-requires c κs = search needs
 
 add-t11 : tie.Need-add-t11
-add-t11 c = omega (arith, c .before .before .before .before .before .before .pre .0, xor-lt 1 (c .wide .result) (c .before .before .masked .result) (omega (arith, c .wide .ensures .0, c .before .before .before .before .before .before .pre .2)) (c .before .before .masked .ensures .1))
+add-t11 c =
+    let start = c .before .before .before .before .before .before in
+    let masked = c .before .before .masked in
+    omega (arith, start .pre .0, xor-lt 1 (c .wide .result) (masked .result) (omega (arith, c .wide .ensures .0, start .pre .2)) (masked .ensures .1))
 
 add-t12 : tie.Need-add-t12
 add-t12 c = omega (arith, c .before .before .before .before .before .before .before .pre .1)
 
 returns-2 : tie.Need-returns-2
-returns-2 c = record { hit = λ e. (ap (λ (n : ℕ). c .before .before .before .before .before .before .before .args .byte .value * 2 + n) (ap₂ bitXor (c .before .wide .ensures .0) (c .before .before .before .masked .ensures .0)), refl); miss = λ n. absurd (n (c .before .before .before .before .before .before .if1 .left)) }
+returns-2 c =
+    let start = c .before .before .before .before .before .before .before in
+    let if1 = c .before .before .before .before .before .before .if1 in
+    record { hit = λ e. (ap (λ (n : ℕ). start .args .byte .value * 2 + n) (ap₂ bitXor (c .before .wide .ensures .0) (c .before .before .before .masked .ensures .0)), refl); miss = λ n. absurd (n (if1 .left)) }
 
 pub push-module-spec : {M : Type 1} → statement M
 push-module-spec =

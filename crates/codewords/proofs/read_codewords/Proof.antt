@@ -14,10 +14,15 @@ abbrev μ-loop : tie.MeasureT-loop
 μ-loop out₀ total kinds square side mask place₀ n₀ out place n = total - n
 
 loop-holds : tie.Need-loop-holds Inv-loop μ-loop
-loop-holds c = (codewords-begun (c .before .before .before .args .total) (dataBits (maskBit (c .before .before .before .args .side) (c .before .before .before .args .mask)) 0 (c .before .before .before .args .kinds .now) (c .before .before .before .args .square .now)) (c .before .before .before .args .out .now) (c .before .before .before .pre .3), record { here = first-place (c .before .before .before .args .side) (c .before .before .before .pre .1); inside = c .before .before .before .pre .1 })
+loop-holds c =
+    let start = c .before .before .before in
+    (codewords-begun (start .args .total) (dataBits (maskBit (start .args .side) (start .args .mask)) 0 (start .args .kinds .now) (start .args .square .now)) (start .args .out .now) (start .pre .3), record { here = first-place (start .args .side) (start .pre .1); inside = start .pre .1 })
 
 read-codeword-requires : tie.Need-read-codeword-requires Inv-loop μ-loop
-read-codeword-requires c κs = (c .before .before .before .before .before .pre .0, c .before .loop .inv .1, codewords-eight (c .before .loop .inv .0) (c .loop-test .taken))
+read-codeword-requires c κs =
+    let start = c .before .before .before .before .before in
+    let loop = c .before .loop in
+    (start .pre .0, loop .inv .1, codewords-eight (loop .inv .0) (c .loop-test .taken))
 
 slice-write-out : tie.Need-slice-write-out Inv-loop μ-loop
 slice-write-out c = omega (arith, c .before .loop-test .taken, c .before .before .loop .inv .0 .size, c .before .before .before .before .before .before .pre .2)
@@ -29,7 +34,10 @@ loop-less : tie.Need-loop-less Inv-loop μ-loop
 loop-less c = omega (arith, c .before .before .loop-test .taken)
 
 loop-again : tie.Need-loop-again Inv-loop μ-loop
-loop-again c = (codewords-more (c .before .before .before .loop .inv .0) (c .before .before .loop-test .taken) (c .before .before .before .before .before .before .before .pre .2) (c .before .read-codeword .ensures .0) (c .before .read-codeword .ensures .2), c .before .read-codeword .ensures .1)
+loop-again c =
+    let start = c .before .before .before .before .before .before .before in
+    let read-codeword = c .before .read-codeword in
+    (codewords-more (c .before .before .before .loop .inv .0) (c .before .before .loop-test .taken) (start .pre .2) (read-codeword .ensures .0) (read-codeword .ensures .2), read-codeword .ensures .1)
 
 same-length : tie.Need-same-length Inv-loop μ-loop
 same-length c = c .before .loop .inv .0 .size

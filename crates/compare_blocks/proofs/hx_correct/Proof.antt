@@ -23,21 +23,27 @@ same-length c = search needs
 
 returns : tie.Need-returns
 unfolding outcome
-returns c = sym (ap (λ (x : Correction). outcome x (c .before .before .before .before .before .correct .last .0)) (c .before .n .given .1)) ∙ c .before .before .before .before .before .correct .ensures
+returns c =
+    let correct = c .before .before .before .before .before .correct in
+    sym (ap (λ (x : Correction). outcome x (correct .last .0)) (c .before .n .given .1)) ∙ correct .ensures
 
 same-length-2 : tie.Need-same-length-2
 same-length-2 c = search needs
 
 returns-2 : tie.Need-returns-2
 unfolding outcome refused
-returns-2 c = sym (ap (λ (x : Correction). outcome x (c .before .before .before .before .correct .last .0)) (c .enum-told .given .1)) ∙ c .before .before .before .before .correct .ensures
+returns-2 c =
+    let correct = c .before .before .before .before .correct in
+    sym (ap (λ (x : Correction). outcome x (correct .last .0)) (c .enum-told .given .1)) ∙ correct .ensures
 
 same-length-3 : tie.Need-same-length-3
 same-length-3 c = search needs
 
 returns-3 : tie.Need-returns-3
 unfolding outcome refused
-returns-3 c = sym (ap (λ (x : Correction). outcome x (c .before .before .before .before .correct .last .0)) (c .enum-told2 .given .1)) ∙ c .before .before .before .before .correct .ensures
+returns-3 c =
+    let correct = c .before .before .before .before .correct in
+    sym (ap (λ (x : Correction). outcome x (correct .last .0)) (c .enum-told2 .given .1)) ∙ correct .ensures
 
 pub hx-correct-spec : {M : Type 1} → statement M
 hx-correct-spec =

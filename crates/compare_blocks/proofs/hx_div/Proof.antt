@@ -17,10 +17,12 @@ div-requires : tie.Need-div-requires
 div-requires c κs = (c .before .han-xin .ensures .0, omega (arith, c .before .before .if1 .left))
 
 returns-2 : tie.Need-returns-2
-returns-2 c = record {
-  some = λ h. ap (λ (p : ℕ). mul p (c .div .result) (c .before .before .before .before .args .b)) (sym (c .before .before .han-xin .ensures .1)) ∙ c .div .ensures;
-  none = λ z. absurd (c .before .before .before .if1 .left z);
-}
+returns-2 c =
+    let start = c .before .before .before .before in
+    record {
+      some = λ h. ap (λ (p : ℕ). mul p (c .div .result) (start .args .b)) (sym (c .before .before .han-xin .ensures .1)) ∙ c .div .ensures;
+      none = λ z. absurd (c .before .before .before .if1 .left z);
+    }
 
 pub hx-div-spec : {M : Type 1} → statement M
 hx-div-spec = tie.close (tie.spec returns han-xin-requires div-requires returns-2)

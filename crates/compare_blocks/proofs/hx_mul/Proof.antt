@@ -13,7 +13,9 @@ mul-requires : tie.Need-mul-requires
 mul-requires c κs = c .before .han-xin .ensures .0
 
 returns : tie.Need-returns
-returns c = c .mul .ensures ∙ ap (λ (p : ℕ). mul p (c .before .before .before .args .a) (c .before .before .before .args .b)) (c .before .before .han-xin .ensures .1)
+returns c =
+    let start = c .before .before .before in
+    c .mul .ensures ∙ ap (λ (p : ℕ). mul p (start .args .a) (start .args .b)) (c .before .before .han-xin .ensures .1)
 
 pub hx-mul-spec : {M : Type 1} → statement M
 hx-mul-spec = tie.close (tie.spec han-xin-requires mul-requires returns)

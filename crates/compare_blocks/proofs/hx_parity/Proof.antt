@@ -20,14 +20,18 @@ same-length c = search needs
 
 returns : tie.Need-returns
 unfolding encoding
-returns c = sym (ap (λ (x : Encoded). encoding x (c .before .before .before .before .encode .last .0)) (c .enum-told .given .1)) ∙ c .before .before .before .before .encode .ensures
+returns c =
+    let encode = c .before .before .before .before .encode in
+    sym (ap (λ (x : Encoded). encoding x (encode .last .0)) (c .enum-told .given .1)) ∙ encode .ensures
 
 same-length-2 : tie.Need-same-length-2
 same-length-2 c = search needs
 
 returns-2 : tie.Need-returns-2
 unfolding encoding
-returns-2 c = sym (ap (λ (x : Encoded). encoding x (c .before .before .before .before .encode .last .0)) (c .enum-told2 .given .1)) ∙ c .before .before .before .before .encode .ensures
+returns-2 c =
+    let encode = c .before .before .before .before .encode in
+    sym (ap (λ (x : Encoded). encoding x (encode .last .0)) (c .enum-told2 .given .1)) ∙ encode .ensures
 
 pub hx-parity-spec : {M : Type 1} → statement M
 hx-parity-spec =

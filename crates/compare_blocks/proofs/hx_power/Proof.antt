@@ -17,9 +17,10 @@ power-requires c κs = (c .before .han-xin .ensures .0, omega arith)
 
 returns : tie.Need-returns
 returns c =
-    c .power .ensures ∙ ap (λ (p : ℕ). power p (c .before .before .before .args .n % 255)) (c .before .before .han-xin .ensures .1)
-    ∙ sym (power-period 0x163 (passes 0x163 passes-163) (c .before .before .before .args .n / 255) (c .before .before .before .args .n % 255))
-    ∙ (let e : 255 * (c .before .before .before .args .n / 255) + c .before .before .before .args .n % 255 ≡ c .before .before .before .args .n = omega arith in ap (power 0x163) e)
+    let start = c .before .before .before in
+    c .power .ensures ∙ ap (λ (p : ℕ). power p (start .args .n % 255)) (c .before .before .han-xin .ensures .1)
+    ∙ sym (power-period 0x163 (passes 0x163 passes-163) (start .args .n / 255) (start .args .n % 255))
+    ∙ (let e : 255 * (start .args .n / 255) + start .args .n % 255 ≡ start .args .n = omega arith in ap (power 0x163) e)
 
 pub hx-power-spec : {M : Type 1} → statement M
 hx-power-spec = tie.close (tie.spec han-xin-requires power-requires returns)

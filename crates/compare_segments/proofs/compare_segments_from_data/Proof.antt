@@ -34,7 +34,8 @@ same-length-2 c = search needs
 
 returns : tie.Need-returns
 returns c =
-    let g = c .before .before .before .before .before .before .before in
+    let before = c .before .before .before .before .before .before .before in
+    let g = before in
     let a = g .before .before .before .before .before .before .args in
     let q = g .from-data in
     let v = c .before .answer .given in
@@ -48,7 +49,8 @@ same-length-4 c = search needs
 
 returns-2 : tie.Need-returns-2
 returns-2 c =
-    let g = c .before .before .before .before .before .before in
+    let before = c .before .before .before .before .before .before in
+    let g = before in
     let a = g .before .before .before .before .before .before .args in
     let q = g .from-data in
     fields (q .result) TooLong (q .last .1 .0) (q .last .1 .1 .0) (fromData (a .codewords .now) (a .payload .now) (a .script .now)) (q .ensures) (c .enum-told .given .1)
@@ -61,7 +63,8 @@ same-length-6 c = search needs
 
 returns-3 : tie.Need-returns-3
 returns-3 c =
-    let g = c .before .before .before .before .before .before in
+    let before = c .before .before .before .before .before .before in
+    let g = before in
     let a = g .before .before .before .before .before .before .args in
     let q = g .from-data in
     fields (q .result) Broken (q .last .1 .0) (q .last .1 .1 .0) (fromData (a .codewords .now) (a .payload .now) (a .script .now)) (q .ensures) (c .enum-told2 .given .1)
@@ -74,7 +77,8 @@ same-length-8 c = search needs
 
 returns-4 : tie.Need-returns-4
 returns-4 c =
-    let g = c .before .before .before .before .before .before in
+    let before = c .before .before .before .before .before .before in
+    let g = before in
     let a = g .before .before .before .before .before .before .args in
     let q = g .from-data in
     fields (q .result) Empty (q .last .1 .0) (q .last .1 .1 .0) (fromData (a .codewords .now) (a .payload .now) (a .script .now)) (q .ensures) (c .enum-told3 .given .1)
@@ -87,7 +91,8 @@ same-length-10 c = search needs
 
 returns-5 : tie.Need-returns-5
 returns-5 c =
-    let g = c .before .before .before .before .before .before in
+    let before = c .before .before .before .before .before .before in
+    let g = before in
     let a = g .before .before .before .before .before .before .args in
     let q = g .from-data in
     fields (q .result) PayloadFull (q .last .1 .0) (q .last .1 .1 .0) (fromData (a .codewords .now) (a .payload .now) (a .script .now)) (q .ensures) (c .enum-told4 .given .1)
@@ -100,7 +105,8 @@ same-length-12 c = search needs
 
 returns-6 : tie.Need-returns-6
 returns-6 c =
-    let g = c .before .before .before .before .before .before in
+    let before = c .before .before .before .before .before .before in
+    let g = before in
     let a = g .before .before .before .before .before .before .args in
     let q = g .from-data in
     fields (q .result) ScriptFull (q .last .1 .0) (q .last .1 .1 .0) (fromData (a .codewords .now) (a .payload .now) (a .script .now)) (q .ensures) (c .enum-told5 .given .1)

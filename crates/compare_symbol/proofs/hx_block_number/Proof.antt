@@ -33,7 +33,10 @@ array-read-result c = search needs
 
 returns-5 : tie.Need-returns-5
 unfolding rowAnswer isVersion
-returns-5 c = simp (le-leb _ _ (c .before .before .before .before .if1 .left), le-leb _ _ (c .before .before .before .if2 .left), le-leb _ _ (c .before .before .if3 .left), lt-ltb _ _ (c .before .if4 .left)) (ap (λ (r : List ℕ). getD r (c .before .before .before .before .before .args .n) 0) (c .block-row .ensures))
+returns-5 c =
+    let start = c .before .before .before .before .before in
+    let if1 = c .before .before .before .before .if1 in
+    simp (le-leb _ _ (if1 .left), le-leb _ _ (c .before .before .before .if2 .left), le-leb _ _ (c .before .before .if3 .left), lt-ltb _ _ (c .before .if4 .left)) (ap (λ (r : List ℕ). getD r (start .args .n) 0) (c .block-row .ensures))
 
 pub hx-block-number-spec : {M : Type 1} → statement M
 hx-block-number-spec =

@@ -17,7 +17,10 @@ same-length : tie.Need-same-length
 same-length c = search needs
 
 returns : tie.Need-returns
-returns c = c .before .before .correct-over .ensures ∙ ap (λ (p : ℕ). correctOf p 1 (c .before .before .before .before .before .before .before .args .parity) (c .before .before .before .before .before .before .before .args .block .now)) (c .before .before .before .before .before .han-xin .ensures .1)
+returns c =
+    let start = c .before .before .before .before .before .before .before in
+    let han-xin = c .before .before .before .before .before .han-xin in
+    c .before .before .correct-over .ensures ∙ ap (λ (p : ℕ). correctOf p 1 (start .args .parity) (start .args .block .now)) (han-xin .ensures .1)
 
 pub correct-spec : {M : Type 1} → statement M
 correct-spec = tie.close (tie.spec han-xin-requires correct-over-requires same-length returns)

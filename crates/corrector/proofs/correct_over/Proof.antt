@@ -36,22 +36,35 @@ same-length c = search needs
 returns-4 : tie.Need-returns-4
 unfolding outcome
 returns-4 c =
-    clean-settled _ (the-field _ (c .before .before .before .before .before .before .before .before .before .pre .0)) _ _ _ (omega (arith, c .before .before .before .before .before .if3 .left)) (λ i. omega (arith, c .before .before .before .before .before .before .before .before .slice-known .given i)) _ (c .before .before .before .syndromes .ensures)
+    let start = c .before .before .before .before .before .before .before .before .before in
+    let slice-known = c .before .before .before .before .before .before .before .before .slice-known in
+    let if1 = c .before .before .before .before .before .before .before .if1 in
+    let if2 = c .before .before .before .before .before .before .if2 in
+    let if3 = c .before .before .before .before .before .if3 in
+    clean-settled _ (the-field _ (start .pre .0)) _ _ _ (omega (arith, if3 .left)) (λ i. omega (arith, slice-known .given i)) _ (c .before .before .before .syndromes .ensures)
     (sym (c .if4 .taken) ∙ c .before .clean .ensures)
-    ∙ fit-settled _ _ _ _ (fit _ _ (c .before .before .before .before .before .before .before .if1 .left) (omega (arith, c .before .before .before .before .before .before .if2 .left)) (omega (arith, c .before .before .before .before .before .if3 .left)))
+    ∙ fit-settled _ _ _ _ (fit _ _ (if1 .left) (omega (arith, if2 .left)) (omega (arith, if3 .left)))
 
 slice-aggregate-repair : tie.Need-slice-aggregate-repair
 slice-aggregate-repair c = search needs
 
 repair-requires : tie.Need-repair-requires
-repair-requires c κs = (c .before .before .before .before .before .before .before .before .before .before .before .pre .0, ((c .before .before .before .before .before .before .before .before .before .before .before .pre .1, omega (arith, c .before .before .before .before .before .before .before .before .if2 .left, c .before .before .before .before .before .before .before .if3 .left), omega (arith, c .before .before .before .before .before .before .before .if3 .left)), c .before .before .before .before .before .syndromes .ensures))
+repair-requires c κs =
+    let start = c .before .before .before .before .before .before .before .before .before .before .before in
+    let if2 = c .before .before .before .before .before .before .before .before .if2 in
+    let if3 = c .before .before .before .before .before .before .before .if3 in
+    let syndromes = c .before .before .before .before .before .syndromes in
+    (start .pre .0, ((start .pre .1, omega (arith, if2 .left, if3 .left), omega (arith, if3 .left)), syndromes .ensures))
 
 same-length-2 : tie.Need-same-length-2
 same-length-2 c = search needs
 
 returns-5 : tie.Need-returns-5
 returns-5 c =
-    c .before .before .before .repair .ensures ∙ fit-settled _ _ _ _ (fit _ _ (c .before .before .before .before .before .before .before .before .before .before .before .before .before .if1 .left) (omega (arith, c .before .before .before .before .before .before .before .before .before .before .before .before .if2 .left)) (omega (arith, c .before .before .before .before .before .before .before .before .before .before .before .if3 .left)))
+    let if1 = c .before .before .before .before .before .before .before .before .before .before .before .before .before .if1 in
+    let if2 = c .before .before .before .before .before .before .before .before .before .before .before .before .if2 in
+    let if3 = c .before .before .before .before .before .before .before .before .before .before .before .if3 in
+    c .before .before .before .repair .ensures ∙ fit-settled _ _ _ _ (fit _ _ (if1 .left) (omega (arith, if2 .left)) (omega (arith, if3 .left)))
 
 pub correct-over-spec : {M : Type 1} → statement M
 correct-over-spec =

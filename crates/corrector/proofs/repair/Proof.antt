@@ -13,7 +13,9 @@ slice-aggregate-locator : tie.Need-slice-aggregate-locator
 slice-aggregate-locator c = search needs
 
 locator-requires : tie.Need-locator-requires
-locator-requires c κs = (c .before .before .before .before .pre .0, (omega arith, ((c .before .before .before .before .pre .1 .1 .size, c .before .before .before .before .pre .1 .1 .bytes), (refl, zeros 256))))
+locator-requires c κs =
+    let start = c .before .before .before .before in
+    (start .pre .0, (omega arith, ((start .pre .1 .1 .size, start .pre .1 .1 .bytes), (refl, zeros 256))))
 
 add-if1 : tie.Need-add-if1
 add-if1 c = search needs
@@ -24,14 +26,19 @@ same-length c = search needs
 returns : tie.Need-returns
 unfolding outcome
 returns c =
-    long-settled _ (the-field _ (c .before .before .before .before .before .before .before .pre .0)) _ _ _ (c .before .before .before .before .before .before .before .pre .1 .0 .2) (λ i. omega (arith, c .before .before .before .before .before .before .slice-known .given i)) _ (c .before .before .before .before .before .before .before .pre .1 .1)
+    let start = c .before .before .before .before .before .before .before in
+    let slice-known = c .before .before .before .before .before .before .slice-known in
+    long-settled _ (the-field _ (start .pre .0)) _ _ _ (start .pre .1 .0 .2) (λ i. omega (arith, slice-known .given i)) _ (start .pre .1 .1)
     _ _ (c .before .before .locator .ensures) (c .if1 .taken)
 
 slice-aggregate-roots : tie.Need-slice-aggregate-roots
 slice-aggregate-roots c = search needs
 
 roots-requires : tie.Need-roots-requires
-roots-requires c κs = (c .before .before .before .before .before .before .before .before .before .pre .0, (omega (arith, c .before .before .before .before .locator .ensures .within), c .before .before .before .before .locator .ensures .size, c .before .before .before .before .locator .ensures .bytes, omega arith))
+roots-requires c κs =
+    let start = c .before .before .before .before .before .before .before .before .before in
+    let locator = c .before .before .before .before .locator in
+    (start .pre .0, (omega (arith, locator .ensures .within), locator .ensures .size, locator .ensures .bytes, omega arith))
 
 slice-aggregate-magnitudes : tie.Need-slice-aggregate-magnitudes
 slice-aggregate-magnitudes c = search needs
@@ -46,16 +53,25 @@ slice-aggregate-take-off-all : tie.Need-slice-aggregate-take-off-all
 slice-aggregate-take-off-all c = search needs
 
 take-off-all-requires : tie.Need-take-off-all-requires
-take-off-all-requires c κs = (c .before .before .before .before .before .before .before .before .before .before .before .before .before .before .before .before .before .before .pre .0, (omega (arith, c .before .before .before .before .before .before .before .before .before .before .before .before .before .before .before .before .before .before .pre .1 .1 .size), omega arith, omega (arith, c .before .before .before .magnitudes .ensures .size, c .before .before .before .before .before .before .before .before .roots .ensures .size), omega arith))
+take-off-all-requires c κs =
+    let start = c .before .before .before .before .before .before .before .before .before .before .before .before .before .before .before .before .before .before in
+    let roots = c .before .before .before .before .before .before .before .before .roots in
+    (start .pre .0, (omega (arith, start .pre .1 .1 .size), omega arith, omega (arith, c .before .before .before .magnitudes .ensures .size, roots .ensures .size), omega arith))
 
 clean-requires : tie.Need-clean-requires
-clean-requires c κs = omega (arith, c .before .before .before .take-off-all .ensures .size, c .before .before .before .before .before .before .before .before .before .before .before .before .before .before .before .before .before .before .before .before .before .before .pre .1 .1 .size, c .before .before .before .before .before .before .before .before .before .before .before .before .before .before .before .before .before .before .before .before .before .before .pre .1 .0 .1)
+clean-requires c κs =
+    let start = c .before .before .before .before .before .before .before .before .before .before .before .before .before .before .before .before .before .before .before .before .before .before in
+    omega (arith, c .before .before .before .take-off-all .ensures .size, start .pre .1 .1 .size, start .pre .1 .0 .1)
 
 slice-aggregate-add : tie.Need-slice-aggregate-add
 slice-aggregate-add c = search needs
 
 add-requires : tie.Need-add-requires
-add-requires c κs = omega (arith, c .before .before .before .before .before .before .before .before .before .before .before .magnitudes .ensures .size, c .before .before .before .before .before .before .before .before .before .before .before .before .before .before .before .before .roots .ensures .size, c .before .before .before .before .before .before .before .before .before .before .before .before .before .before .before .before .before .before .before .before .before .before .before .before .before .before .pre .1 .0 .2)
+add-requires c κs =
+    let start = c .before .before .before .before .before .before .before .before .before .before .before .before .before .before .before .before .before .before .before .before .before .before .before .before .before .before in
+    let roots = c .before .before .before .before .before .before .before .before .before .before .before .before .before .before .before .before .roots in
+    let magnitudes = c .before .before .before .before .before .before .before .before .before .before .before .magnitudes in
+    omega (arith, magnitudes .ensures .size, roots .ensures .size, start .pre .1 .0 .2)
 
 same-length-2 : tie.Need-same-length-2
 same-length-2 c = search needs
@@ -66,9 +82,18 @@ same-length-3 c = search needs
 returns-2 : tie.Need-returns-2
 unfolding outcome
 returns-2 c =
-    repaired-settled _ (the-field _ (c .before .before .before .before .before .before .before .before .before .before .before .before .before .before .before .before .before .before .before .before .before .before .before .before .before .before .before .before .before .pre .0)) _ _ _ (c .before .before .before .before .before .before .before .before .before .before .before .before .before .before .before .before .before .before .before .before .before .before .before .before .before .before .before .before .before .pre .1 .0 .2) (λ i. omega (arith, c .before .before .before .before .before .before .before .before .before .before .before .before .before .before .before .before .before .before .before .before .before .before .before .before .before .before .before .before .slice-known .given i)) _ (c .before .before .before .before .before .before .before .before .before .before .before .before .before .before .before .before .before .before .before .before .before .before .before .before .before .before .before .before .before .pre .1 .1)
-    _ _ (c .before .before .before .before .before .before .before .before .before .before .before .before .before .before .before .before .before .before .before .before .before .before .before .before .locator .ensures) _ _ _ _ (c .before .before .before .before .before .before .before .before .before .before .before .before .before .before .before .before .before .before .before .roots .ensures) (c .before .before .before .before .before .before .before .before .before .before .before .before .before .before .magnitudes .ensures) (c .before .before .before .before .before .before .before .before .before .before .take-off-all .ensures)
-    (omega (arith, c .before .before .before .before .before .before .before .before .before .before .before .before .before .before .before .before .before .before .before .before .before .before .if1 .left)) (sym (c .before .before .before .before .before .if2 .taken) ∙ c .before .before .before .before .before .before .clean .ensures) _ (c .before .before .add .ensures)
+    let start = c .before .before .before .before .before .before .before .before .before .before .before .before .before .before .before .before .before .before .before .before .before .before .before .before .before .before .before .before .before in
+    let slice-known = c .before .before .before .before .before .before .before .before .before .before .before .before .before .before .before .before .before .before .before .before .before .before .before .before .before .before .before .before .slice-known in
+    let locator = c .before .before .before .before .before .before .before .before .before .before .before .before .before .before .before .before .before .before .before .before .before .before .before .before .locator in
+    let if1 = c .before .before .before .before .before .before .before .before .before .before .before .before .before .before .before .before .before .before .before .before .before .before .if1 in
+    let roots = c .before .before .before .before .before .before .before .before .before .before .before .before .before .before .before .before .before .before .before .roots in
+    let magnitudes = c .before .before .before .before .before .before .before .before .before .before .before .before .before .before .magnitudes in
+    let take-off-all = c .before .before .before .before .before .before .before .before .before .before .take-off-all in
+    let clean = c .before .before .before .before .before .before .clean in
+    let if2 = c .before .before .before .before .before .if2 in
+    repaired-settled _ (the-field _ (start .pre .0)) _ _ _ (start .pre .1 .0 .2) (λ i. omega (arith, slice-known .given i)) _ (start .pre .1 .1)
+    _ _ (locator .ensures) _ _ _ _ (roots .ensures) (magnitudes .ensures) (take-off-all .ensures)
+    (omega (arith, if1 .left)) (sym (if2 .taken) ∙ clean .ensures) _ (c .before .before .add .ensures)
 
 same-length-4 : tie.Need-same-length-4
 same-length-4 c = search needs
@@ -76,8 +101,14 @@ same-length-4 c = search needs
 returns-3 : tie.Need-returns-3
 unfolding outcome
 returns-3 c =
-    left-settled _ (the-field _ (c .before .before .before .before .before .before .before .before .before .before .before .before .before .before .before .before .before .before .before .before .before .before .before .before .pre .0)) _ _ _ (c .before .before .before .before .before .before .before .before .before .before .before .before .before .before .before .before .before .before .before .before .before .before .before .before .pre .1 .0 .2) (λ i. omega (arith, c .before .before .before .before .before .before .before .before .before .before .before .before .before .before .before .before .before .before .before .before .before .before .before .slice-known .given i)) _ (c .before .before .before .before .before .before .before .before .before .before .before .before .before .before .before .before .before .before .before .before .before .before .before .before .pre .1 .1)
-    _ _ (c .before .before .before .before .before .before .before .before .before .before .before .before .before .before .before .before .before .before .before .locator .ensures) _ _ _ _ (c .before .before .before .before .before .before .before .before .before .before .before .before .before .before .roots .ensures) (c .before .before .before .before .before .before .before .before .before .magnitudes .ensures) (c .before .before .before .before .before .take-off-all .ensures)
+    let start = c .before .before .before .before .before .before .before .before .before .before .before .before .before .before .before .before .before .before .before .before .before .before .before .before in
+    let slice-known = c .before .before .before .before .before .before .before .before .before .before .before .before .before .before .before .before .before .before .before .before .before .before .before .slice-known in
+    let locator = c .before .before .before .before .before .before .before .before .before .before .before .before .before .before .before .before .before .before .before .locator in
+    let roots = c .before .before .before .before .before .before .before .before .before .before .before .before .before .before .roots in
+    let magnitudes = c .before .before .before .before .before .before .before .before .before .magnitudes in
+    let take-off-all = c .before .before .before .before .before .take-off-all in
+    left-settled _ (the-field _ (start .pre .0)) _ _ _ (start .pre .1 .0 .2) (λ i. omega (arith, slice-known .given i)) _ (start .pre .1 .1)
+    _ _ (locator .ensures) _ _ _ _ (roots .ensures) (magnitudes .ensures) (take-off-all .ensures)
     (sym (c .if2 .left) ∙ c .before .clean .ensures)
 
 pub repair-spec : {M : Type 1} → statement M

@@ -121,7 +121,8 @@ add-i c = omega arith
 
 loop-less : tie.Need-loop-less Inv-loop μ-loop
 loop-less c =
-    let k = c .before .before .before .before .before .before in
+    let before = c .before .before .before .before .before .before in
+    let k = before in
     let g = k .before .before .before in
     let l = g .before .before .loop in
     let y = g .before .before .before .before .before .before .before .before .before in
@@ -135,7 +136,8 @@ loop-less c =
 
 loop-again : tie.Need-loop-again Inv-loop μ-loop
 loop-again c =
-    let k = c .before .before .before .before .before .before in
+    let before = c .before .before .before .before .before .before in
+    let k = before in
     let g = k .before .before .before in
     let l = g .before .before .loop in
     let y = g .before .before .before .before .before .before .before .before .before in

@@ -132,7 +132,8 @@ add-j-2 c = omega arith
 
 loop-less-2 : tie.Need-loop-less-2 Inv-loop μ-loop
 loop-less-2 c =
-    let k = c .before .before .before .before .before .before .before .before .before in
+    let before = c .before .before .before .before .before .before .before .before .before in
+    let k = before in
     let gl = k .before .before .before in
     let l = gl .before .before .loop in
     let wd = gl .before .before .before .width in
@@ -147,7 +148,10 @@ loop-less-2 c =
 
 loop-again-2 : tie.Need-loop-again-2 Inv-loop μ-loop
 loop-again-2 c =
-    let k = c .before .before .before .before .before .before .before .before .before in
+    let before = c .before .before .before .before .before .before .before .before .before in
+    let switch-word = c .before .before .before .before .before .before .before .switch-word in
+    let put2 = c .before .before .before .before .before .before .put2 in
+    let k = before in
     let gl = k .before .before .before in
     let l = gl .before .before .loop in
     let wd = gl .before .before .before .width in
@@ -158,8 +162,8 @@ loop-again-2 c =
     let e = t .2 in
     let n = length-drop (l .j) (a .run .now) in
     let d = doing-as (t .0) (l .inv .4) in
-    let p = c .before .before .before .before .before .before .put2 in
-    let q = word-done d (rw (c .before .before .before .before .before .before .before .switch-word .ensures) at (p .ensures)) in
+    let p = put2 in
+    let q = word-done d (rw (switch-word .ensures) at (p .ensures)) in
     let z = c .before .before .put3 in
     (z .kept .0 ∙ p .kept .0 ∙ l .inv .0, omega arith, sym (t .1) ∙ l .inv .2, l .inv .3, word-done q (z .ensures))
 

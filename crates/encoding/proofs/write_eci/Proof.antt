@@ -80,7 +80,8 @@ same-length-2 c = search needs
 
 returns-2 : tie.Need-returns-2
 returns-2 c =
-    let q = c .before .before .before .before .before .before in
+    let before = c .before .before .before .before .before .before in
+    let q = before in
     let i = q .before .before in
     let p = i .before .before .before .before in
     let a = p .before .before .before .args in
@@ -115,7 +116,8 @@ same-length-3 c = search needs
 
 returns-3 : tie.Need-returns-3
 returns-3 c =
-    let q = c .before .before .before .before .before .before in
+    let before = c .before .before .before .before .before .before in
+    let q = before in
     let i = q .before .before in
     let p = i .before .before .before .before in
     let a = p .before .before .before .args in

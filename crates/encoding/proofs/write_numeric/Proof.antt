@@ -117,7 +117,10 @@ put-requires-3 c κs =
     (omega arith, omega arith, omega arith)
 
 same-length : tie.Need-same-length Inv-loop μ-loop
-same-length c = c .before .before .put3 .kept .0 ∙ c .before .before .before .before .before .before .put2 .kept .0 ∙ c .before .before .before .before .before .before .before .before .before .before .before .loop .inv .0
+same-length c =
+    let loop = c .before .before .before .before .before .before .before .before .before .before .before .loop in
+    let put2 = c .before .before .before .before .before .before .put2 in
+    c .before .before .put3 .kept .0 ∙ put2 .kept .0 ∙ loop .inv .0
 
 returns : tie.Need-returns Inv-loop μ-loop
 returns c =
@@ -159,7 +162,10 @@ put-requires-5 c κs =
     (omega arith, omega arith, omega arith)
 
 same-length-2 : tie.Need-same-length-2 Inv-loop μ-loop
-same-length-2 c = c .before .before .put5 .kept .0 ∙ c .before .before .before .before .before .before .put4 .kept .0 ∙ c .before .before .before .before .before .before .before .before .before .before .before .before .before .loop .inv .0
+same-length-2 c =
+    let loop = c .before .before .before .before .before .before .before .before .before .before .before .before .before .loop in
+    let put4 = c .before .before .before .before .before .before .put4 in
+    c .before .before .put5 .kept .0 ∙ put4 .kept .0 ∙ loop .inv .0
 
 returns-2 : tie.Need-returns-2 Inv-loop μ-loop
 returns-2 c =

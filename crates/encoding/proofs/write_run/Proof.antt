@@ -33,9 +33,11 @@ same-length c = search needs
 
 returns : tie.Need-returns
 returns c =
-    let p = c .before .before .before .before .before .before .before in
+    let before = c .before .before .before .before .before .before .before in
+    let if1 = c .before .before .before .before .if1 in
+    let p = before in
     let a = p .before .before .before .before .args in
-    rw (numeric-bits (a .mode) (a .chars .now) (c .before .before .before .before .if1 .taken)) (written-both (p .put .ensures) (c .before .before .write-numeric .ensures))
+    rw (numeric-bits (a .mode) (a .chars .now) (if1 .taken)) (written-both (p .put .ensures) (c .before .before .write-numeric .ensures))
 
 put-requires-2 : tie.Need-put-requires-2
 put-requires-2 c κs =
@@ -65,7 +67,8 @@ same-length-2 c = search needs
 
 returns-2 : tie.Need-returns-2
 returns-2 c =
-    let q = c .before .before .before .before .before .before in
+    let before = c .before .before .before .before .before .before in
+    let q = before in
     let p = q .before .before .before .before .before .before in
     let a = p .before .before .before .before .args in
     rw (bytes-bits (a .mode) (a .chars .now) (q .before .before .if2 .taken)) (written-both (p .put .ensures) (written-both (q .put2 .ensures) (c .before .before .write-bytes .ensures)))
@@ -96,7 +99,8 @@ returns-3 c =
 
 write-chars-requires : tie.Need-write-chars-requires
 write-chars-requires c κs =
-    let p = c .before .before .before .before .before .before in
+    let before = c .before .before .before .before .before .before in
+    let p = before in
     let s = p .before .before .before .before in
     let a = s .args in
     let e = char-bits (a .mode) (a .chars .now) (s .pre .1) (s .pre .2) (c .before .before .before .if1 .left) (c .before .before .if2 .left) (c .before .if3 .left) in

@@ -14,7 +14,9 @@ cast-result : tie.Need-cast-result
 cast-result c = omega (arith, log-le (c .before .args .field .now) (c .before .pre) (c .before .args .a) (search needs))
 
 returns : tie.Need-returns
-returns c = (search needs, omega (arith, log-le (c .before .args .field .now) (c .before .pre) (c .before .args .a) (search needs)), λ p. log-pos (c .before .args .field .now) (c .before .pre) (c .before .args .a) p (search needs) .1)
+returns c =
+    let start = c .before in
+    (search needs, omega (arith, log-le (start .args .field .now) (start .pre) (start .args .a) (search needs)), λ p. log-pos (start .args .field .now) (start .pre) (start .args .a) p (search needs) .1)
 
 pub log-entry-spec : {M : Type 1} → statement M
 log-entry-spec = tie.close (tie.spec mul-result element-copy-out-result cast-result returns)

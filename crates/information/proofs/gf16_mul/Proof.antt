@@ -30,11 +30,17 @@ loop-less : tie.Need-loop-less Inv-loop μ-loop
 loop-less c = omega arith
 
 loop-again : tie.Need-loop-again Inv-loop μ-loop
-loop-again c = (c .before .plus-if-odd .ensures .1, c .times-x .ensures .1, omega arith, omega arith, sym (one-more (c .before .before .before .loop .p) (c .before .before .before .loop .a) (c .before .before .before .loop .b) (c .before .before .before .loop .i) (c .before .before .loop-test .taken) (c .before .plus-if-odd .ensures .0) (c .times-x .ensures .0)) ∙ c .before .before .before .loop .inv .4)
+loop-again c =
+    let loop = c .before .before .before .loop in
+    let plus-if-odd = c .before .plus-if-odd in
+    (plus-if-odd .ensures .1, c .times-x .ensures .1, omega arith, omega arith, sym (one-more (loop .p) (loop .a) (loop .b) (loop .i) (c .before .before .loop-test .taken) (plus-if-odd .ensures .0) (c .times-x .ensures .0)) ∙ loop .inv .4)
 
 returns : tie.Need-returns Inv-loop μ-loop
 unfolding productFrom
-returns c = let e : 4 - c .before .loop .i ≡ 0 = omega arith in let q : productFrom (4 - c .before .loop .i) (c .before .loop .p) (c .before .loop .a) (c .before .loop .b) ≡ gf16Mul (c .before .before .args .x) (c .before .before .args .y) = c .before .loop .inv .4 in (rw e at q, c .before .loop .inv .0)
+returns c =
+    let start = c .before .before in
+    let loop = c .before .loop in
+    let e : 4 - loop .i ≡ 0 = omega arith in let q : productFrom (4 - loop .i) (loop .p) (loop .a) (loop .b) ≡ gf16Mul (start .args .x) (start .args .y) = loop .inv .4 in (rw e at q, loop .inv .0)
 
 pub gf16-mul-spec : {M : Type 1} → statement M
 gf16-mul-spec =

@@ -11,28 +11,44 @@ position-row-requires : tie.Need-position-row-requires
 position-row-requires c κs = search needs
 
 mul-i : tie.Need-mul-i
-mul-i c = omega (arith, row-fits (c .before .args .side) (c .before .args .n) (c .before .pre .0) (c .before .pre .1) (c .before .pre .2) (c .position-row .ensures))
+mul-i c =
+    let start = c .before in
+    omega (arith, row-fits (start .args .side) (start .args .n) (start .pre .0) (start .pre .1) (start .pre .2) (c .position-row .ensures))
 
 position-column-requires : tie.Need-position-column-requires
 position-column-requires c κs = search needs
 
 add-i : tie.Need-add-i
-add-i c = omega (arith, first-lt (c .before .before .args .side) (c .before .before .args .n) (c .before .before .pre .0) (c .before .before .pre .1) (c .before .before .pre .2) (c .before .position-row .ensures) (c .position-column .ensures), square-le (c .before .before .args .side) (c .before .before .pre .1))
+add-i c =
+    let start = c .before .before in
+    omega (arith, first-lt (start .args .side) (start .args .n) (start .pre .0) (start .pre .1) (start .pre .2) (c .before .position-row .ensures) (c .position-column .ensures), square-le (start .args .side) (start .pre .1))
 
 mul-result : tie.Need-mul-result
 mul-result c = omega (arith, square-le (c .before .before .before .args .side) (c .before .before .before .pre .1))
 
 sub-result : tie.Need-sub-result
-sub-result c = omega (arith, first-lt (c .before .before .before .args .side) (c .before .before .before .args .n) (c .before .before .before .pre .0) (c .before .before .before .pre .1) (c .before .before .before .pre .2) (c .before .before .position-row .ensures) (c .before .position-column .ensures))
+sub-result c =
+    let start = c .before .before .before in
+    omega (arith, first-lt (start .args .side) (start .args .n) (start .pre .0) (start .pre .1) (start .pre .2) (c .before .before .position-row .ensures) (c .before .position-column .ensures))
 
 sub-result-2 : tie.Need-sub-result-2
-sub-result-2 c = omega (arith, first-lt (c .before .before .before .args .side) (c .before .before .before .args .n) (c .before .before .before .pre .0) (c .before .before .before .pre .1) (c .before .before .before .pre .2) (c .before .before .position-row .ensures) (c .before .position-column .ensures))
+sub-result-2 c =
+    let start = c .before .before .before in
+    omega (arith, first-lt (start .args .side) (start .args .n) (start .pre .0) (start .pre .1) (start .pre .2) (c .before .before .position-row .ensures) (c .before .position-column .ensures))
 
 returns : tie.Need-returns
-returns c = (by-copy (c .before .before .before .args .side) (c .before .before .before .args .n) _ (c .before .before .before .args .second) true (c .if1 .taken) (second-is (c .before .before .before .args .side) (c .before .before .before .args .n) (c .before .before .before .pre .0) (c .before .before .before .pre .1) (c .before .before .before .pre .2) (c .before .before .position-row .ensures) (c .before .position-column .ensures)), omega (arith, first-lt (c .before .before .before .args .side) (c .before .before .before .args .n) (c .before .before .before .pre .0) (c .before .before .before .pre .1) (c .before .before .before .pre .2) (c .before .before .position-row .ensures) (c .before .position-column .ensures)))
+returns c =
+    let start = c .before .before .before in
+    let position-row = c .before .before .position-row in
+    let position-column = c .before .position-column in
+    (by-copy (start .args .side) (start .args .n) _ (start .args .second) true (c .if1 .taken) (second-is (start .args .side) (start .args .n) (start .pre .0) (start .pre .1) (start .pre .2) (position-row .ensures) (position-column .ensures)), omega (arith, first-lt (start .args .side) (start .args .n) (start .pre .0) (start .pre .1) (start .pre .2) (position-row .ensures) (position-column .ensures)))
 
 returns-2 : tie.Need-returns-2
-returns-2 c = (by-copy (c .before .before .before .args .side) (c .before .before .before .args .n) _ (c .before .before .before .args .second) false (c .if1 .left) (first-is (c .before .before .before .args .side) (c .before .before .before .args .n) (c .before .before .before .pre .0) (c .before .before .before .pre .1) (c .before .before .before .pre .2) (c .before .before .position-row .ensures) (c .before .position-column .ensures)), omega (arith, first-lt (c .before .before .before .args .side) (c .before .before .before .args .n) (c .before .before .before .pre .0) (c .before .before .before .pre .1) (c .before .before .before .pre .2) (c .before .before .position-row .ensures) (c .before .position-column .ensures)))
+returns-2 c =
+    let start = c .before .before .before in
+    let position-row = c .before .before .position-row in
+    let position-column = c .before .position-column in
+    (by-copy (start .args .side) (start .args .n) _ (start .args .second) false (c .if1 .left) (first-is (start .args .side) (start .args .n) (start .pre .0) (start .pre .1) (start .pre .2) (position-row .ensures) (position-column .ensures)), omega (arith, first-lt (start .args .side) (start .args .n) (start .pre .0) (start .pre .1) (start .pre .2) (position-row .ensures) (position-column .ensures)))
 
 pub info-position-spec : {M : Type 1} → statement M
 info-position-spec =

@@ -34,7 +34,9 @@ distance-requires c κs = search needs
 
 loop-holds : tie.Need-loop-holds Inv-loop μ-loop
 unfolding leastOf distance
-loop-holds c = (omega arith, record { word-is = refl; at = c .distance .ensures .0 ∙ ap (λ (n : ℕ). ones (bitXor n (c .before .before .before .args .first)) + ones (bitXor n (c .before .before .before .args .second))) (first-word (c .before .before .before .args .version) (c .before .before .before .pre) (c .before .word-of .ensures) (c .before .before .wide .ensures)); small = omega arith })
+loop-holds c =
+    let start = c .before .before .before in
+    (omega arith, record { word-is = refl; at = c .distance .ensures .0 ∙ ap (λ (n : ℕ). ones (bitXor n (start .args .first)) + ones (bitXor n (start .args .second))) (first-word (start .args .version) (start .pre) (c .before .word-of .ensures) (c .before .before .wide .ensures)); small = omega arith })
 
 add-k : tie.Need-add-k Inv-loop μ-loop
 add-k c = omega arith
@@ -56,11 +58,20 @@ loop-less c = omega arith
 
 loop-again : tie.Need-loop-again Inv-loop μ-loop
 unfolding differences
-loop-again c = (omega arith, least-more (distance (c .before .before .before .before .before .before .before .args .version) (c .before .before .before .before .before .before .before .args .first) (c .before .before .before .before .before .before .before .args .second)) (c .before .before .before .loop .k) (c .before .distance2 .result) (c .before .before .before .loop .inv .1) (c .before .distance2 .ensures .0 ∙ distance-at (c .before .before .before .before .before .before .before .args .version) (c .before .before .before .loop .k + 1) (c .before .before .before .before .before .before .before .args .first) (c .before .before .before .before .before .before .before .args .second) (c .before .before .before .before .before .before .before .pre) (omega arith) (first-word (c .before .before .before .before .before .before .before .args .version) (c .before .before .before .before .before .before .before .pre) (c .before .before .before .before .before .word-of .ensures) (c .before .before .before .before .before .before .wide .ensures))) (omega arith) (c .nearer .ensures))
+loop-again c =
+    let start = c .before .before .before .before .before .before .before in
+    let wide = c .before .before .before .before .before .before .wide in
+    let word-of = c .before .before .before .before .before .word-of in
+    let loop = c .before .before .before .loop in
+    let distance2 = c .before .distance2 in
+    (omega arith, least-more (distance (start .args .version) (start .args .first) (start .args .second)) (loop .k) (distance2 .result) (loop .inv .1) (distance2 .ensures .0 ∙ distance-at (start .args .version) (loop .k + 1) (start .args .first) (start .args .second) (start .pre) (omega arith) (first-word (start .args .version) (start .pre) (word-of .ensures) (wide .ensures))) (omega arith) (c .nearer .ensures))
 
 returns : tie.Need-returns Inv-loop μ-loop
 unfolding nearest
-returns c = let e : c .before .loop .k ≡ 15 = omega arith in subst (λ (n : ℕ). Found (distance (c .before .before .before .before .before .args .version) (c .before .before .before .before .before .args .first) (c .before .before .before .before .before .args .second)) (leastOf (distance (c .before .before .before .before .before .args .version) (c .before .before .before .before .before .args .first) (c .before .before .before .before .before .args .second)) n) (c .before .loop .best)) e (c .before .loop .inv .1)
+returns c =
+    let start = c .before .before .before .before .before in
+    let loop = c .before .loop in
+    let e : loop .k ≡ 15 = omega arith in subst (λ (n : ℕ). Found (distance (start .args .version) (start .args .first) (start .args .second)) (leastOf (distance (start .args .version) (start .args .first) (start .args .second)) n) (loop .best)) e (loop .inv .1)
 
 pub nearest-word-spec : {M : Type 1} → statement M
 nearest-word-spec =

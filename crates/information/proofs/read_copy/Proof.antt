@@ -22,7 +22,10 @@ info-position-requires : tie.Need-info-position-requires Inv-loop μ-loop
 info-position-requires c κs = (c .before .before .before .pre .0, c .before .before .before .pre .1, c .loop-test .taken)
 
 mul-w : tie.Need-mul-w Inv-loop μ-loop
-mul-w c = omega (arith, number-small (λ k. getD (c .before .before .before .before .args .square .now) (infoPosition (c .before .before .before .before .args .side) (c .before .before .before .before .args .second) k) 0) (λ k. c .before .before .before .before .pre .3 (infoPosition (c .before .before .before .before .args .side) (c .before .before .before .before .args .second) k)) (c .before .before .loop .n) (c .before .before .loop .inv .0), c .before .before .loop .inv .1)
+mul-w c =
+    let start = c .before .before .before .before in
+    let loop = c .before .before .loop in
+    omega (arith, number-small (λ k. getD (start .args .square .now) (infoPosition (start .args .side) (start .args .second) k) 0) (λ k. start .pre .3 (infoPosition (start .args .side) (start .args .second) k)) (loop .n) (loop .inv .0), loop .inv .1)
 
 shared-slice-read-wide8 : tie.Need-shared-slice-read-wide8 Inv-loop μ-loop
 shared-slice-read-wide8 c = omega (arith, c .before .info-position .ensures .1, c .before .before .before .before .before .pre .2)
@@ -31,7 +34,10 @@ wide8-requires : tie.Need-wide8-requires Inv-loop μ-loop
 wide8-requires c κs = search needs
 
 add-w : tie.Need-add-w Inv-loop μ-loop
-add-w c = omega (arith, number-small (λ k. getD (c .before .before .before .before .before .before .args .square .now) (infoPosition (c .before .before .before .before .before .before .args .side) (c .before .before .before .before .before .before .args .second) k) 0) (λ k. c .before .before .before .before .before .before .pre .3 (infoPosition (c .before .before .before .before .before .before .args .side) (c .before .before .before .before .before .before .args .second) k)) (c .before .before .before .before .loop .n) (c .before .before .before .before .loop .inv .0), c .before .before .before .before .loop .inv .1, c .wide8 .ensures, c .before .before .before .before .before .before .pre .3 (c .before .before .info-position .result))
+add-w c =
+    let start = c .before .before .before .before .before .before in
+    let loop = c .before .before .before .before .loop in
+    omega (arith, number-small (λ k. getD (start .args .square .now) (infoPosition (start .args .side) (start .args .second) k) 0) (λ k. start .pre .3 (infoPosition (start .args .side) (start .args .second) k)) (loop .n) (loop .inv .0), loop .inv .1, c .wide8 .ensures, start .pre .3 (c .before .before .info-position .result))
 
 add-n : tie.Need-add-n Inv-loop μ-loop
 add-n c = omega arith
@@ -40,11 +46,17 @@ loop-less : tie.Need-loop-less Inv-loop μ-loop
 loop-less c = omega arith
 
 loop-again : tie.Need-loop-again Inv-loop μ-loop
-loop-again c = (omega arith, number-more (λ k. getD (c .before .before .before .before .before .before .args .square .now) (infoPosition (c .before .before .before .before .before .before .args .side) (c .before .before .before .before .before .before .args .second) k) 0) (c .before .before .before .before .loop .n) (c .before .before .before .before .loop .inv .1) (c .wide8 .ensures ∙ ap (λ (k : ℕ). getD (c .before .before .before .before .before .before .args .square .now) k 0) (c .before .before .info-position .ensures .0)))
+loop-again c =
+    let start = c .before .before .before .before .before .before in
+    let loop = c .before .before .before .before .loop in
+    (omega arith, number-more (λ k. getD (start .args .square .now) (infoPosition (start .args .side) (start .args .second) k) 0) (loop .n) (loop .inv .1) (c .wide8 .ensures ∙ ap (λ (k : ℕ). getD (start .args .square .now) k 0) (c .before .before .info-position .ensures .0)))
 
 returns : tie.Need-returns Inv-loop μ-loop
 unfolding copyOf
-returns c = c .before .loop .inv .1 ∙ ap (numberOf (λ k. getD (c .before .before .before .args .square .now) (infoPosition (c .before .before .before .args .side) (c .before .before .before .args .second) k) 0)) (let e : c .before .loop .n ≡ 34 = omega arith in e)
+returns c =
+    let start = c .before .before .before in
+    let loop = c .before .loop in
+    loop .inv .1 ∙ ap (numberOf (λ k. getD (start .args .square .now) (infoPosition (start .args .side) (start .args .second) k) 0)) (let e : loop .n ≡ 34 = omega arith in e)
 
 pub read-copy-spec : {M : Type 1} → statement M
 read-copy-spec =

@@ -16,7 +16,9 @@ generator-times-requires : tie.Need-generator-times-requires
 generator-times-requires c κs = xor-lt 4 (c .args .nibble) (c .args .r / 4096) (c .pre .1) (omega arith)
 
 returns : tie.Need-returns
-returns c = let e : bitXor (c .before .args .r % 4096 * 16) (c .generator-times .result) ≡ remainder (c .before .args .r) (c .before .args .nibble) = shown (c .before .args .r) (c .before .args .nibble) (c .generator-times .ensures) in (e, subst (λ (n : ℕ). n < 65536) (sym e) (remainder-lt (c .before .args .r) (c .before .args .nibble) (c .before .pre .0) (c .before .pre .1)))
+returns c =
+    let start = c .before in
+    let e : bitXor (start .args .r % 4096 * 16) (c .generator-times .result) ≡ remainder (start .args .r) (start .args .nibble) = shown (start .args .r) (start .args .nibble) (c .generator-times .ensures) in (e, subst (λ (n : ℕ). n < 65536) (sym e) (remainder-lt (start .args .r) (start .args .nibble) (start .pre .0) (start .pre .1)))
 
 pub remainder-spec : {M : Type 1} → statement M
 remainder-spec = tie.close (tie.spec mul-result generator-times-requires returns)

@@ -24,7 +24,9 @@ bit-requires : tie.Need-bit-requires Inv-loop μ-loop
 bit-requires c κs = c .before .loop-test .taken
 
 slice-write-square : tie.Need-slice-write-square Inv-loop μ-loop
-slice-write-square c = omega (arith, c .before .info-position .ensures .1, c .before .before .before .before .before .pre .2, c .before .before .before .loop .inv .2)
+slice-write-square c =
+    let start = c .before .before .before .before .before in
+    omega (arith, c .before .info-position .ensures .1, start .pre .2, c .before .before .before .loop .inv .2)
 
 add-n : tie.Need-add-n Inv-loop μ-loop
 add-n c = omega arith
@@ -33,14 +35,21 @@ loop-less : tie.Need-loop-less Inv-loop μ-loop
 loop-less c = omega arith
 
 loop-again : tie.Need-loop-again Inv-loop μ-loop
-loop-again c = (omega arith, write-more (c .before .before .before .before .before .args .side) (c .before .before .before .before .before .args .second) (c .before .before .before .before .before .args .word) (c .before .before .before .loop .n) (c .before .before .before .before .before .args .square .now) (c .before .before .before .loop .inv .1) (c .before .info-position .ensures .0) (c .bit .ensures), length-set (c .before .before .before .loop .square) (c .before .info-position .result) (c .bit .result) ∙ c .before .before .before .loop .inv .2)
+loop-again c =
+    let start = c .before .before .before .before .before in
+    let loop = c .before .before .before .loop in
+    let info-position = c .before .info-position in
+    (omega arith, write-more (start .args .side) (start .args .second) (start .args .word) (loop .n) (start .args .square .now) (loop .inv .1) (info-position .ensures .0) (c .bit .ensures), length-set (loop .square) (info-position .result) (c .bit .result) ∙ loop .inv .2)
 
 same-length : tie.Need-same-length Inv-loop μ-loop
 same-length c = c .before .loop .inv .2
 
 returns : tie.Need-returns Inv-loop μ-loop
 unfolding copyWritten
-returns c = c .before .loop .inv .1 ∙ ap (λ (k : ℕ). bitsWritten (c .before .before .before .args .side) (c .before .before .before .args .second) (c .before .before .before .args .word) k (c .before .before .before .args .square .now)) (let e : c .before .loop .n ≡ 34 = omega arith in e)
+returns c =
+    let start = c .before .before .before in
+    let loop = c .before .loop in
+    loop .inv .1 ∙ ap (λ (k : ℕ). bitsWritten (start .args .side) (start .args .second) (start .args .word) k (start .args .square .now)) (let e : loop .n ≡ 34 = omega arith in e)
 
 pub write-copy-spec : {M : Type 1} → statement M
 write-copy-spec =

@@ -18,7 +18,10 @@ same-length c = search needs
 
 returns : tie.Need-returns
 unfolding infoWritten
-returns c = c .before .before .write-copy2 .ensures ∙ ap (λ (g : List ℕ). copyWritten (c .before .before .before .before .before .before .before .before .before .args .side) true (c .before .before .before .before .before .before .before .before .before .args .word) g) (c .before .before .before .before .before .before .write-copy .ensures)
+returns c =
+    let start = c .before .before .before .before .before .before .before .before .before in
+    let write-copy = c .before .before .before .before .before .before .write-copy in
+    c .before .before .write-copy2 .ensures ∙ ap (λ (g : List ℕ). copyWritten (start .args .side) true (start .args .word) g) (write-copy .ensures)
 
 pub write-info-spec : {M : Type 1} → statement M
 write-info-spec =

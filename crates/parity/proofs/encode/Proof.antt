@@ -18,8 +18,10 @@ same-length c = search needs
 
 returns : tie.Need-returns
 returns c =
+    let start = c .before .before .before .before .before .before .before in
+    let han-xin = c .before .before .before .before .before .han-xin in
     c .before .before .encode-over .ensures
-    ∙ ap (λ (p : ℕ). encodeOf p 1 (c .before .before .before .before .before .before .before .args .parity) (c .before .before .before .before .before .before .before .args .block .now)) (c .before .before .before .before .before .han-xin .ensures .1)
+    ∙ ap (λ (p : ℕ). encodeOf p 1 (start .args .parity) (start .args .block .now)) (han-xin .ensures .1)
 
 pub encode-spec : {M : Type 1} → statement M
 encode-spec = tie.close (tie.spec han-xin-requires encode-over-requires same-length returns)

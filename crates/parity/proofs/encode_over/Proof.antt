@@ -30,10 +30,14 @@ sub-write-parity : tie.Need-sub-write-parity
 sub-write-parity c = search needs
 
 write-parity-requires : tie.Need-write-parity-requires
-write-parity-requires c κs = (
-  c .before .before .before .before .before .before .before .pre .0,
-  ((omega arith, omega (arith, c .before .before .before .if3 .left), omega (arith, c .before .before .generator .ensures .0, c .before .before .before .before .if2 .left, c .before .before .before .if3 .left)), generator-monic _ _ _ _ _ (c .before .before .generator .ensures .1) (omega (arith, c .before .before .before .before .if2 .left)) (omega (arith, c .before .before .before .before .if2 .left))),
-)
+write-parity-requires c κs =
+    let start = c .before .before .before .before .before .before .before in
+    let if2 = c .before .before .before .before .if2 in
+    let if3 = c .before .before .before .if3 in
+    let generator = c .before .before .generator in (
+      start .pre .0,
+      ((omega arith, omega (arith, if3 .left), omega (arith, generator .ensures .0, if2 .left, if3 .left)), generator-monic _ _ _ _ _ (generator .ensures .1) (omega (arith, if2 .left)) (omega (arith, if2 .left))),
+    )
 
 same-length : tie.Need-same-length
 same-length c = search needs
@@ -41,10 +45,14 @@ same-length c = search needs
 returns-4 : tie.Need-returns-4
 unfolding encoding
 returns-4 c =
+    let if1 = c .before .before .before .before .before .before .before .before .if1 in
+    let if2 = c .before .before .before .before .before .before .before .if2 in
+    let if3 = c .before .before .before .before .before .before .if3 in
+    let generator = c .before .before .before .before .before .generator in
     fit-written _ _ _ _
-    (fit _ _ (c .before .before .before .before .before .before .before .before .if1 .left) (omega (arith, c .before .before .before .before .before .before .before .if2 .left)) (omega (arith, c .before .before .before .before .before .before .if3 .left)))
-    (omega (arith, c .before .before .before .before .before .before .before .if2 .left)) _
-    (c .before .before .write-parity .ensures _ (generator-end _ _ _ _ _ (c .before .before .before .before .before .generator .ensures .1) (omega (arith, c .before .before .before .before .before .before .before .if2 .left)) (omega (arith, c .before .before .before .before .before .before .before .if2 .left))))
+    (fit _ _ (if1 .left) (omega (arith, if2 .left)) (omega (arith, if3 .left)))
+    (omega (arith, if2 .left)) _
+    (c .before .before .write-parity .ensures _ (generator-end _ _ _ _ _ (generator .ensures .1) (omega (arith, if2 .left)) (omega (arith, if2 .left))))
 
 pub encode-over-spec : {M : Type 1} → statement M
 encode-over-spec =

@@ -50,11 +50,15 @@ loop-less : tie.Need-loop-less Inv-loop μ-loop
 loop-less c = search needs
 
 loop-again : tie.Need-loop-again Inv-loop μ-loop
-loop-again c = (
-  c .before .add-moved .ensures .size ∙ c .before .before .before .before .before .before .loop .inv .0,
-  multiplied _ (the-field _ (c .before .before .before .before .before .before .before .pre .0)) _ _ _ _ _ (c .before .before .before .before .before .before .loop .inv .1) (c .before .before .before .before .power .ensures) (c .before .add-moved .ensures),
-  omega arith,
-)
+loop-again c =
+    let start = c .before .before .before .before .before .before .before in
+    let loop = c .before .before .before .before .before .before .loop in
+    let power = c .before .before .before .before .power in
+    let add-moved = c .before .add-moved in (
+      add-moved .ensures .size ∙ loop .inv .0,
+      multiplied _ (the-field _ (start .pre .0)) _ _ _ _ _ (loop .inv .1) (power .ensures) (add-moved .ensures),
+      omega arith,
+    )
 
 returns : tie.Need-returns Inv-loop μ-loop
 returns c = (c .before .loop .inv .0, generator-end _ _ _ _ _ (c .before .loop .inv .1) (c .before .loop .inv .2) (omega arith))

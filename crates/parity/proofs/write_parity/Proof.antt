@@ -19,7 +19,10 @@ slice-aggregate-divide : tie.Need-slice-aggregate-divide
 slice-aggregate-divide c = search needs
 
 divide-requires : tie.Need-divide-requires
-divide-requires c κs = (c .before .before .before .before .before .before .before .pre .0, ((omega (arith, c .before .before .copy .ensures .size), omega arith, omega (arith, c .before .before .copy .ensures .size)), c .before .before .before .before .before .before .before .pre .1 .1))
+divide-requires c κs =
+    let start = c .before .before .before .before .before .before .before in
+    let copy = c .before .before .copy in
+    (start .pre .0, ((omega (arith, copy .ensures .size), omega arith, omega (arith, copy .ensures .size)), start .pre .1 .1))
 
 slice-aggregate-copy-2 : tie.Need-slice-aggregate-copy-2
 slice-aggregate-copy-2 c = search needs
@@ -32,8 +35,12 @@ same-length c = search needs
 
 returns : tie.Need-returns
 returns c =
-    written _ (the-field _ (c .before .before .before .before .before .before .before .before .before .before .before .before .before .before .pre .0)) (c .before .before .before .before .before .before .before .before .before .before .before .before .before .before .args .k) (c .before .before .before .before .before .before .before .before .before .before .before .before .before .before .args .block .now) _ _ _ _ (λ i. omega (arith, c .before .before .before .before .before .before .before .before .before .before .before .before .slice-known .given i)) (c .before .before .before .before .before .before .before .before .before .before .before .before .before .before .pre .1 .0 .1) (c .before .before .before .before .before .before .before .before .before .before .before .before .before .before .pre .1 .0 .0)
-    (c .before .before .before .before .before .before .before .before .before .copy .ensures) (c .before .before .before .before .before .before .divide .ensures .1) (c .before .before .copy2 .ensures)
+    let start = c .before .before .before .before .before .before .before .before .before .before .before .before .before .before in
+    let slice-known = c .before .before .before .before .before .before .before .before .before .before .before .before .slice-known in
+    let copy = c .before .before .before .before .before .before .before .before .before .copy in
+    let divide = c .before .before .before .before .before .before .divide in
+    written _ (the-field _ (start .pre .0)) (start .args .k) (start .args .block .now) _ _ _ _ (λ i. omega (arith, slice-known .given i)) (start .pre .1 .0 .1) (start .pre .1 .0 .0)
+    (copy .ensures) (divide .ensures .1) (c .before .before .copy2 .ensures)
 
 pub write-parity-spec : {M : Type 1} → statement M
 write-parity-spec =

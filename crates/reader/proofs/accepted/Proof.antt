@@ -36,9 +36,17 @@ low-requires-10 c κs = search needs
 
 returns : tie.Need-returns
 returns c =
-    accepted-is _ _ _ _ _ _ _ (c .before .before .before .before .before .before .before .before .before .before .before .before .before .pre .0 .0) (c .before .before .before .before .before .before .before .before .before .before .before .before .before .pre .0 .1) (c .before .before .before .before .before .before .before .before .before .before .before .before .before .pre .0 .2) (c .before .before .before .before .before .before .before .before .before .before .before .before .before .pre .1 .count) (c .before .before .before .before .before .before .before .before .before .before .before .before .before .pre .0 .3) (c .before .before .before .before .before .before .before .before .before .before .before .before .before .pre .1 .payload) (c .before .before .before .before .before .before .before .before .before .before .before .before .before .pre .1 .script)
-    _ _ _ _ _ _ _ _ _ _ (c .before .before .before .before .before .before .before .before .before .before .before .before .low .ensures) (c .before .before .before .before .before .before .before .before .before .before .before .low2 .ensures) (c .before .before .before .before .before .before .before .before .before .before .low3 .ensures) (c .before .before .before .before .before .before .before .before .low4 .ensures) (c .before .before .before .before .before .before .before .low5 .ensures) (c .before .before .before .before .before .before .low6 .ensures)
-    (c .before .before .before .before .low7 .ensures) (c .before .before .before .low8 .ensures) (c .before .low9 .ensures) (c .low10 .ensures)
+    let start = c .before .before .before .before .before .before .before .before .before .before .before .before .before in
+    let low = c .before .before .before .before .before .before .before .before .before .before .before .before .low in
+    let low2 = c .before .before .before .before .before .before .before .before .before .before .before .low2 in
+    let low3 = c .before .before .before .before .before .before .before .before .before .before .low3 in
+    let low4 = c .before .before .before .before .before .before .before .before .low4 in
+    let low5 = c .before .before .before .before .before .before .before .low5 in
+    let low6 = c .before .before .before .before .before .before .low6 in
+    let low7 = c .before .before .before .before .low7 in
+    accepted-is _ _ _ _ _ _ _ (start .pre .0 .0) (start .pre .0 .1) (start .pre .0 .2) (start .pre .1 .count) (start .pre .0 .3) (start .pre .1 .payload) (start .pre .1 .script)
+    _ _ _ _ _ _ _ _ _ _ (low .ensures) (low2 .ensures) (low3 .ensures) (low4 .ensures) (low5 .ensures) (low6 .ensures)
+    (low7 .ensures) (c .before .before .before .low8 .ensures) (c .before .low9 .ensures) (c .low10 .ensures)
 
 pub accepted-spec : {M : Type 1} → statement M
 accepted-spec =

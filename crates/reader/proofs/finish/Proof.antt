@@ -36,7 +36,9 @@ same-length-3 : tie.Need-same-length-3
 same-length-3 c = search needs
 
 returns : tie.Need-returns
-returns c = finished _ _ _ _ _ _ (c .before .before .before .before .before .before .before .before .tell .ensures .0) (c .before .before .write-receipt .ensures)
+returns c =
+    let tell = c .before .before .before .before .before .before .before .before .tell in
+    finished _ _ _ _ _ _ (tell .ensures .0) (c .before .before .write-receipt .ensures)
 
 pub finish-spec : {M : Type 1} → statement M
 finish-spec =

@@ -30,8 +30,12 @@ same-length c = search needs
 
 returns-2 : tie.Need-returns-2
 returns-2 c =
-    let a = c .before .before .before .before .before .before .before .before .before .before .before .before .args in
-    known-range (a .square .now) (a .version) (a .level) (a .mask) _ _ _ (c .before .before .before .before .before .before .before .if1 .left) (no-word _ _ _ _ (c .before .before .before .before .before .before .info-bits .ensures .0) (c .before .before .before .before .enum-told2 .given .1)) _ _ (c .before .before .refuse .ensures)
+    let start = c .before .before .before .before .before .before .before .before .before .before .before .before in
+    let if1 = c .before .before .before .before .before .before .before .if1 in
+    let info-bits = c .before .before .before .before .before .before .info-bits in
+    let enum-told2 = c .before .before .before .before .enum-told2 in
+    let a = start .args in
+    known-range (a .square .now) (a .version) (a .level) (a .mask) _ _ _ (if1 .left) (no-word _ _ _ _ (info-bits .ensures .0) (enum-told2 .given .1)) _ _ (c .before .before .refuse .ensures)
 
 side-requires : tie.Need-side-requires
 side-requires c κs =
@@ -40,24 +44,41 @@ side-requires c κs =
 
 square-refusal-requires : tie.Need-square-refusal-requires
 square-refusal-requires c κs =
-    let a = c .before .before .before .before .before .before .before .before .before .args in
+    let start = c .before .before .before .before .before .before .before .before .before in
+    let a = start .args in
     omega (arith, c .side .ensures, ranges _ _ _ (has-word (a .version) (a .level) (a .mask) _ (c .before .before .before .info-bits .ensures .0) _ (c .before .enum-told .given .1)) .high)
 
 refuse-requires-2 : tie.Need-refuse-requires-2
-refuse-requires-2 c κs = (c .before .before .before .before .before .before .before .if1 .left, early-small (c .before .before .before .before .before .before .before .before .before .before .before .before .args .square .now) (c .before .before .before .side .result) _ (c .before .before .square-refusal .ensures))
+refuse-requires-2 c κs =
+    let start = c .before .before .before .before .before .before .before .before .before .before .before .before in
+    let if1 = c .before .before .before .before .before .before .before .if1 in
+    (if1 .left, early-small (start .args .square .now) (c .before .before .before .side .result) _ (c .before .before .square-refusal .ensures))
 
 same-length-2 : tie.Need-same-length-2
 same-length-2 c = search needs
 
 returns-3 : tie.Need-returns-3
 returns-3 c =
-    let a = c .before .before .before .before .before .before .before .before .before .before .before .before .before .before .before .args in
-    known-early (a .square .now) (a .version) (a .level) (a .mask) _ _ _ (c .before .before .before .before .before .before .before .before .before .before .if1 .left) (has-word (a .version) (a .level) (a .mask) _ (c .before .before .before .before .before .before .before .before .before .info-bits .ensures .0) _ (c .before .before .before .before .before .before .before .enum-told .given .1)) _ _ (c .before .before .before .before .before .before .side .ensures) (c .before .before .before .before .before .square-refusal .ensures) (c .before .before .before .before .if2 .taken) _ _ (c .before .before .refuse2 .ensures)
+    let start = c .before .before .before .before .before .before .before .before .before .before .before .before .before .before .before in
+    let if1 = c .before .before .before .before .before .before .before .before .before .before .if1 in
+    let info-bits = c .before .before .before .before .before .before .before .before .before .info-bits in
+    let enum-told = c .before .before .before .before .before .before .before .enum-told in
+    let side = c .before .before .before .before .before .before .side in
+    let square-refusal = c .before .before .before .before .before .square-refusal in
+    let if2 = c .before .before .before .before .if2 in
+    let a = start .args in
+    known-early (a .square .now) (a .version) (a .level) (a .mask) _ _ _ (if1 .left) (has-word (a .version) (a .level) (a .mask) _ (info-bits .ensures .0) _ (enum-told .given .1)) _ _ (side .ensures) (square-refusal .ensures) (if2 .taken) _ _ (c .before .before .refuse2 .ensures)
 
 finish-requires : tie.Need-finish-requires
 finish-requires c κs =
-    let a = c .before .before .before .before .before .before .before .before .before .before .before .before .before .before .args in
-    (known-fits (a .square .now) (a .version) (a .level) (a .mask) (a .payload .now) (a .script .now) (a .receipt .now) (c .before .before .before .before .before .before .before .before .before .if1 .left) (has-word (a .version) (a .level) (a .mask) _ (c .before .before .before .before .before .before .before .before .info-bits .ensures .0) _ (c .before .before .before .before .before .before .enum-told .given .1)) _ _ (c .before .before .before .before .before .side .ensures) (c .before .before .before .before .square-refusal .ensures) (c .before .before .before .if2 .left), c .before .before .before .before .before .before .before .before .before .if1 .left)
+    let start = c .before .before .before .before .before .before .before .before .before .before .before .before .before .before in
+    let if1 = c .before .before .before .before .before .before .before .before .before .if1 in
+    let info-bits = c .before .before .before .before .before .before .before .before .info-bits in
+    let enum-told = c .before .before .before .before .before .before .enum-told in
+    let side = c .before .before .before .before .before .side in
+    let square-refusal = c .before .before .before .before .square-refusal in
+    let a = start .args in
+    (known-fits (a .square .now) (a .version) (a .level) (a .mask) (a .payload .now) (a .script .now) (a .receipt .now) (if1 .left) (has-word (a .version) (a .level) (a .mask) _ (info-bits .ensures .0) _ (enum-told .given .1)) _ _ (side .ensures) (square-refusal .ensures) (c .before .before .before .if2 .left), if1 .left)
 
 same-length-3 : tie.Need-same-length-3
 same-length-3 c = search needs
@@ -70,9 +91,17 @@ same-length-5 c = search needs
 
 returns-4 : tie.Need-returns-4
 returns-4 c =
-    let a = c .before .before .before .before .before .before .before .before .before .before .before .before .before .before .before .before .before .before .before .before .before .args in
-    c .before .before .before .before .before .before .finish .ensures
-    ∙ known-left (a .square .now) (a .version) (a .level) (a .mask) _ _ _ (c .before .before .before .before .before .before .before .before .before .before .before .before .before .before .before .before .if1 .left) (has-word (a .version) (a .level) (a .mask) _ (c .before .before .before .before .before .before .before .before .before .before .before .before .before .before .before .info-bits .ensures .0) _ (c .before .before .before .before .before .before .before .before .before .before .before .before .before .enum-told .given .1)) _ _ (c .before .before .before .before .before .before .before .before .before .before .before .before .side .ensures) (c .before .before .before .before .before .before .before .before .before .before .before .square-refusal .ensures) (c .before .before .before .before .before .before .before .before .before .before .if2 .left)
+    let start = c .before .before .before .before .before .before .before .before .before .before .before .before .before .before .before .before .before .before .before .before .before in
+    let if1 = c .before .before .before .before .before .before .before .before .before .before .before .before .before .before .before .before .if1 in
+    let info-bits = c .before .before .before .before .before .before .before .before .before .before .before .before .before .before .before .info-bits in
+    let enum-told = c .before .before .before .before .before .before .before .before .before .before .before .before .before .enum-told in
+    let side = c .before .before .before .before .before .before .before .before .before .before .before .before .side in
+    let square-refusal = c .before .before .before .before .before .before .before .before .before .before .before .square-refusal in
+    let if2 = c .before .before .before .before .before .before .before .before .before .before .if2 in
+    let finish = c .before .before .before .before .before .before .finish in
+    let a = start .args in
+    finish .ensures
+    ∙ known-left (a .square .now) (a .version) (a .level) (a .mask) _ _ _ (if1 .left) (has-word (a .version) (a .level) (a .mask) _ (info-bits .ensures .0) _ (enum-told .given .1)) _ _ (side .ensures) (square-refusal .ensures) (if2 .left)
 
 pub read-known-spec : {M : Type 1} → statement M
 read-known-spec =

@@ -27,31 +27,49 @@ same-length c = search needs
 
 returns-2 : tie.Need-returns-2
 returns-2 c =
-    let a = c .before .before .before .before .before .before .before .before .before .before .before .before .args in
-    read-side (a .square .now) (a .side) (a .payload .now) (a .script .now) (a .receipt .now) (c .before .before .before .before .before .before .before .if1 .left) _ (c .before .before .before .before .before .before .from-side .ensures .0) (c .before .before .before .before .before .before .from-side .ensures .1) (c .before .before .before .before .enum-told .given .1) _ _ (c .before .before .refuse .ensures)
+    let start = c .before .before .before .before .before .before .before .before .before .before .before .before in
+    let if1 = c .before .before .before .before .before .before .before .if1 in
+    let from-side = c .before .before .before .before .before .before .from-side in
+    let enum-told = c .before .before .before .before .enum-told in
+    let a = start .args in
+    read-side (a .square .now) (a .side) (a .payload .now) (a .script .now) (a .receipt .now) (if1 .left) _ (from-side .ensures .0) (from-side .ensures .1) (enum-told .given .1) _ _ (c .before .before .refuse .ensures)
 
 square-refusal-requires : tie.Need-square-refusal-requires
 square-refusal-requires c κs =
-    let a = c .before .before .before .before .before .before .before .before .before .args in
-    side-small (a .square .now) (a .side) (a .payload .now) (a .script .now) (a .receipt .now) (c .before .before .before .before .if1 .left) _ (c .before .before .before .from-side .ensures .0) (c .before .before .before .from-side .ensures .1) _ (c .before .v .given .1)
+    let start = c .before .before .before .before .before .before .before .before .before in
+    let if1 = c .before .before .before .before .if1 in
+    let from-side = c .before .before .before .from-side in
+    let a = start .args in
+    side-small (a .square .now) (a .side) (a .payload .now) (a .script .now) (a .receipt .now) (if1 .left) _ (from-side .ensures .0) (from-side .ensures .1) _ (c .before .v .given .1)
 
 refuse-requires-2 : tie.Need-refuse-requires-2
 refuse-requires-2 c κs =
-    let a = c .before .before .before .before .before .before .before .before .before .before .before .before .args in
-    (c .before .before .before .before .before .before .before .if1 .left, early-small (a .square .now) (a .side) _ (c .before .before .square-refusal .ensures))
+    let start = c .before .before .before .before .before .before .before .before .before .before .before .before in
+    let if1 = c .before .before .before .before .before .before .before .if1 in
+    let a = start .args in
+    (if1 .left, early-small (a .square .now) (a .side) _ (c .before .before .square-refusal .ensures))
 
 same-length-2 : tie.Need-same-length-2
 same-length-2 c = search needs
 
 returns-3 : tie.Need-returns-3
 returns-3 c =
-    let a = c .before .before .before .before .before .before .before .before .before .before .before .before .before .before .before .args in
-    read-early (a .square .now) (a .side) (a .payload .now) (a .script .now) (a .receipt .now) (c .before .before .before .before .before .before .before .before .before .before .if1 .left) _ (c .before .before .before .before .before .before .before .before .before .from-side .ensures .0) (c .before .before .before .before .before .before .before .before .before .from-side .ensures .1) _ (c .before .before .before .before .before .before .before .v .given .1) _ (c .before .before .before .before .before .square-refusal .ensures) (c .before .before .before .before .if2 .taken) _ _ (c .before .before .refuse2 .ensures)
+    let start = c .before .before .before .before .before .before .before .before .before .before .before .before .before .before .before in
+    let if1 = c .before .before .before .before .before .before .before .before .before .before .if1 in
+    let from-side = c .before .before .before .before .before .before .before .before .before .from-side in
+    let v = c .before .before .before .before .before .before .before .v in
+    let square-refusal = c .before .before .before .before .before .square-refusal in
+    let if2 = c .before .before .before .before .if2 in
+    let a = start .args in
+    read-early (a .square .now) (a .side) (a .payload .now) (a .script .now) (a .receipt .now) (if1 .left) _ (from-side .ensures .0) (from-side .ensures .1) _ (v .given .1) _ (square-refusal .ensures) (if2 .taken) _ _ (c .before .before .refuse2 .ensures)
 
 mark-in-requires : tie.Need-mark-in-requires
 mark-in-requires c κs =
-    let a = c .before .before .before .before .before .before .before .before .before .before .before .args in
-    read-legible (a .square .now) (a .side) (a .payload .now) (a .script .now) (a .receipt .now) (c .before .before .before .before .before .before .if1 .left) _ (c .before .before .before .before .before .from-side .ensures .0) (c .before .before .before .before .before .from-side .ensures .1) _ (c .before .before .before .v .given .1) _ (c .before .square-refusal .ensures) (c .if2 .left)
+    let start = c .before .before .before .before .before .before .before .before .before .before .before in
+    let if1 = c .before .before .before .before .before .before .if1 in
+    let from-side = c .before .before .before .before .before .from-side in
+    let a = start .args in
+    read-legible (a .square .now) (a .side) (a .payload .now) (a .script .now) (a .receipt .now) (if1 .left) _ (from-side .ensures .0) (from-side .ensures .1) _ (c .before .before .before .v .given .1) _ (c .before .square-refusal .ensures) (c .if2 .left)
 
 refuse-requires-3 : tie.Need-refuse-requires-3
 refuse-requires-3 c κs = search needs
@@ -61,13 +79,28 @@ same-length-3 c = search needs
 
 returns-4 : tie.Need-returns-4
 returns-4 c =
-    let a = c .before .before .before .before .before .before .before .before .before .before .before .before .before .before .before .before .before .before .args in
-    read-far (a .square .now) (a .side) (a .payload .now) (a .script .now) (a .receipt .now) (c .before .before .before .before .before .before .before .before .before .before .before .before .before .if1 .left) _ (c .before .before .before .before .before .before .before .before .before .before .before .before .from-side .ensures .0) (c .before .before .before .before .before .before .before .before .before .before .before .before .from-side .ensures .1) _ (c .before .before .before .before .before .before .before .before .before .before .v .given .1) _ (c .before .before .before .before .before .before .before .before .square-refusal .ensures) (c .before .before .before .before .before .before .before .if2 .left) _ (c .before .before .before .before .before .before .mark-in .ensures) (c .before .before .before .before .if3 .taken) _ _ (c .before .before .refuse3 .ensures)
+    let start = c .before .before .before .before .before .before .before .before .before .before .before .before .before .before .before .before .before .before in
+    let if1 = c .before .before .before .before .before .before .before .before .before .before .before .before .before .if1 in
+    let from-side = c .before .before .before .before .before .before .before .before .before .before .before .before .from-side in
+    let v = c .before .before .before .before .before .before .before .before .before .before .v in
+    let square-refusal = c .before .before .before .before .before .before .before .before .square-refusal in
+    let if2 = c .before .before .before .before .before .before .before .if2 in
+    let mark-in = c .before .before .before .before .before .before .mark-in in
+    let if3 = c .before .before .before .before .if3 in
+    let a = start .args in
+    read-far (a .square .now) (a .side) (a .payload .now) (a .script .now) (a .receipt .now) (if1 .left) _ (from-side .ensures .0) (from-side .ensures .1) _ (v .given .1) _ (square-refusal .ensures) (if2 .left) _ (mark-in .ensures) (if3 .taken) _ _ (c .before .before .refuse3 .ensures)
 
 finish-requires : tie.Need-finish-requires
 finish-requires c κs =
-    let a = c .before .before .before .before .before .before .before .before .before .before .before .before .before .before .before .before .before .args in
-    (read-fits (a .square .now) (a .side) (a .payload .now) (a .script .now) (a .receipt .now) (c .before .before .before .before .before .before .before .before .before .before .before .before .if1 .left) _ (c .before .before .before .before .before .before .before .before .before .before .before .from-side .ensures .0) (c .before .before .before .before .before .before .before .before .before .before .before .from-side .ensures .1) _ (c .before .before .before .before .before .before .before .before .before .v .given .1) _ (c .before .before .before .before .before .before .before .square-refusal .ensures) (c .before .before .before .before .before .before .if2 .left) _ (c .before .before .before .before .before .mark-in .ensures) (c .before .before .before .if3 .left), c .before .before .before .before .before .before .before .before .before .before .before .before .if1 .left)
+    let start = c .before .before .before .before .before .before .before .before .before .before .before .before .before .before .before .before .before in
+    let if1 = c .before .before .before .before .before .before .before .before .before .before .before .before .if1 in
+    let from-side = c .before .before .before .before .before .before .before .before .before .before .before .from-side in
+    let v = c .before .before .before .before .before .before .before .before .before .v in
+    let square-refusal = c .before .before .before .before .before .before .before .square-refusal in
+    let if2 = c .before .before .before .before .before .before .if2 in
+    let mark-in = c .before .before .before .before .before .mark-in in
+    let a = start .args in
+    (read-fits (a .square .now) (a .side) (a .payload .now) (a .script .now) (a .receipt .now) (if1 .left) _ (from-side .ensures .0) (from-side .ensures .1) _ (v .given .1) _ (square-refusal .ensures) (if2 .left) _ (mark-in .ensures) (c .before .before .before .if3 .left), if1 .left)
 
 same-length-4 : tie.Need-same-length-4
 same-length-4 c = search needs
@@ -80,9 +113,18 @@ same-length-6 c = search needs
 
 returns-5 : tie.Need-returns-5
 returns-5 c =
-    let a = c .before .before .before .before .before .before .before .before .before .before .before .before .before .before .before .before .before .before .before .before .before .before .before .before .args in
-    c .before .before .before .before .before .before .finish .ensures
-    ∙ read-left (a .square .now) (a .side) (a .payload .now) (a .script .now) (a .receipt .now) (c .before .before .before .before .before .before .before .before .before .before .before .before .before .before .before .before .before .before .before .if1 .left) _ (c .before .before .before .before .before .before .before .before .before .before .before .before .before .before .before .before .before .before .from-side .ensures .0) (c .before .before .before .before .before .before .before .before .before .before .before .before .before .before .before .before .before .before .from-side .ensures .1) _ (c .before .before .before .before .before .before .before .before .before .before .before .before .before .before .before .before .v .given .1) _ (c .before .before .before .before .before .before .before .before .before .before .before .before .before .before .square-refusal .ensures) (c .before .before .before .before .before .before .before .before .before .before .before .before .before .if2 .left) _ (c .before .before .before .before .before .before .before .before .before .before .before .before .mark-in .ensures) (c .before .before .before .before .before .before .before .before .before .before .if3 .left)
+    let start = c .before .before .before .before .before .before .before .before .before .before .before .before .before .before .before .before .before .before .before .before .before .before .before .before in
+    let if1 = c .before .before .before .before .before .before .before .before .before .before .before .before .before .before .before .before .before .before .before .if1 in
+    let from-side = c .before .before .before .before .before .before .before .before .before .before .before .before .before .before .before .before .before .before .from-side in
+    let v = c .before .before .before .before .before .before .before .before .before .before .before .before .before .before .before .before .v in
+    let square-refusal = c .before .before .before .before .before .before .before .before .before .before .before .before .before .before .square-refusal in
+    let if2 = c .before .before .before .before .before .before .before .before .before .before .before .before .before .if2 in
+    let mark-in = c .before .before .before .before .before .before .before .before .before .before .before .before .mark-in in
+    let if3 = c .before .before .before .before .before .before .before .before .before .before .if3 in
+    let finish = c .before .before .before .before .before .before .finish in
+    let a = start .args in
+    finish .ensures
+    ∙ read-left (a .square .now) (a .side) (a .payload .now) (a .script .now) (a .receipt .now) (if1 .left) _ (from-side .ensures .0) (from-side .ensures .1) _ (v .given .1) _ (square-refusal .ensures) (if2 .left) _ (mark-in .ensures) (if3 .left)
 
 pub read-square-spec : {M : Type 1} → statement M
 read-square-spec =

@@ -27,8 +27,10 @@ same-length c = search needs
 returns : tie.Need-returns
 unfolding streamIn
 returns c =
+    let start = c .before .before .before .before .before .before .before .before .before .before .before in
+    let read-codewords = c .before .before .before .before .before .before .read-codewords in
     c .before .before .to-stream .ensures
-    ∙ ap (λ (x : List ℕ). streamOf x ++ drop (c .before .before .before .before .before .before .before .before .before .before .before .args .total) (c .before .before .before .before .before .before .before .before .before .before .before .args .stream .now)) (codewords-taken _ _ _ _ (c .before .before .before .before .before .before .read-codewords .ensures))
+    ∙ ap (λ (x : List ℕ). streamOf x ++ drop (start .args .total) (start .args .stream .now)) (codewords-taken _ _ _ _ (read-codewords .ensures))
 
 pub read-stream-spec : {M : Type 1} → statement M
 read-stream-spec =

@@ -16,10 +16,14 @@ greatest-requires : tie.Need-greatest-requires
 greatest-requires c κs = search needs
 
 returns-2 : tie.Need-returns-2
-returns-2 c = wrong-byte (c .before .before .before .before .args .square .now) (c .before .before .before .before .args .side) (c .before .before .if1 .left) (not-modules _ _ (c .before .greatest .ensures) (c .if2 .taken))
+returns-2 c =
+    let start = c .before .before .before .before in
+    wrong-byte (start .args .square .now) (start .args .side) (c .before .before .if1 .left) (not-modules _ _ (c .before .greatest .ensures) (c .if2 .taken))
 
 returns-3 : tie.Need-returns-3
-returns-3 c = right-square (c .before .before .before .before .args .square .now) (c .before .before .before .before .args .side) (c .before .before .if1 .left) (all-modules _ _ (c .before .greatest .ensures) (omega (arith, c .if2 .left)))
+returns-3 c =
+    let start = c .before .before .before .before in
+    right-square (start .args .square .now) (start .args .side) (c .before .before .if1 .left) (all-modules _ _ (c .before .greatest .ensures) (omega (arith, c .if2 .left)))
 
 pub square-refusal-spec : {M : Type 1} → statement M
 square-refusal-spec = tie.close (tie.spec mul-if1 returns greatest-requires returns-2 returns-3)

@@ -18,13 +18,16 @@ refused-requires c κs = search needs
 
 returns : tie.Need-returns
 returns c =
-    let a = c .before .before .before .before .before .before .before .before in
+    let before = c .before .before .before .before .before .before .before .before in
+    let a = before in
     too-few (a .args .m) _ _ (a .pre .0) (a .pre .1) _ _ (c .before .before .before .data-modules .ensures) (c .before .before .total-codewords .ensures .0) _ _ (c .before .if1 .taken) _ (c .refused .ensures)
 
 tell-blocks-requires : tie.Need-tell-blocks-requires
 tell-blocks-requires c κs =
-    let a = c .before .before .before .before .before .before .before .before .before in
-    (a .pre .0, a .pre .1, enough (a .args .m) _ _ (a .pre .0) (a .pre .1) _ _ (c .before .before .before .before .data-modules .ensures) (c .before .before .before .total-codewords .ensures .0) (a .args .payload .now) (a .args .script .now) (c .before .before .if1 .left))
+    let before = c .before .before .before .before .before .before .before .before .before in
+    let data-modules = c .before .before .before .before .data-modules in
+    let a = before in
+    (a .pre .0, a .pre .1, enough (a .args .m) _ _ (a .pre .0) (a .pre .1) _ _ (data-modules .ensures) (c .before .before .before .total-codewords .ensures .0) (a .args .payload .now) (a .args .script .now) (c .before .before .if1 .left))
 
 same-length : tie.Need-same-length
 same-length c = search needs
@@ -34,9 +37,14 @@ same-length-2 c = search needs
 
 returns-2 : tie.Need-returns-2
 returns-2 c =
-    let a = c .before .before .before .before .before .before .before .before .before .before .before .before .before .before in
-    let q = c .before .before .before .before .tell-blocks .ensures in
-    (with-blocks (a .args .m) _ _ (a .pre .0) (a .pre .1) _ _ (c .before .before .before .before .before .before .before .before .before .data-modules .ensures) (c .before .before .before .before .before .before .before .before .total-codewords .ensures .0) _ _ (c .before .before .before .before .before .before .before .if1 .left) _ (q .0), q .1)
+    let before = c .before .before .before .before .before .before .before .before .before .before .before .before .before .before in
+    let data-modules = c .before .before .before .before .before .before .before .before .before .data-modules in
+    let total-codewords = c .before .before .before .before .before .before .before .before .total-codewords in
+    let if1 = c .before .before .before .before .before .before .before .if1 in
+    let tell-blocks = c .before .before .before .before .tell-blocks in
+    let a = before in
+    let q = tell-blocks .ensures in
+    (with-blocks (a .args .m) _ _ (a .pre .0) (a .pre .1) _ _ (data-modules .ensures) (total-codewords .ensures .0) _ _ (if1 .left) _ (q .0), q .1)
 
 pub tell-spec : {M : Type 1} → statement M
 tell-spec =

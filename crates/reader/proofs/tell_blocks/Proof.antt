@@ -18,7 +18,8 @@ slice-aggregate-read-stream c = search needs
 
 read-stream-requires : tie.Need-read-stream-requires
 read-stream-requires c κs =
-    let a = c .before .before .before .before .before .before .before in
+    let before = c .before .before .before .before .before .before .before in
+    let a = before in
     let total = c .before .total-codewords in
     (legible (a .args .m) _ _ (a .pre .0) (a .pre .1), omega (arith, c .before .before .side .ensures), total .ensures .1, total .ensures .1, enough-bits (a .args .m) _ _ (a .pre .0) (a .pre .1) _ (total .result) (total .ensures .0) (a .pre .2))
 
@@ -36,12 +37,15 @@ slice-aggregate-correct-blocks-2 c = search needs
 
 correct-blocks-requires : tie.Need-correct-blocks-requires
 correct-blocks-requires c κs =
-    let a = c .before .before .before .before .before .before .before .before .before .before .before .before .before .before in
+    let before = c .before .before .before .before .before .before .before .before .before .before .before .before .before .before in
+    let total-codewords = c .before .before .before .before .before .before .before .before .total-codewords in
+    let han-xin = c .before .before .before .before .han-xin in
+    let a = before in
     let f = a .pre .0 in
     let row = c .before .before .before .block-row in
     let own = row-own _ _ (f .low) (f .high) (f .level) _ (row .ensures) in
     let long = row-total _ _ (f .low) (f .high) (f .level) _ (row .ensures) in
-    (c .before .before .before .before .han-xin .ensures, (search needs, own, omega (arith, long, c .before .before .before .before .before .before .before .before .total-codewords .ensures)))
+    (han-xin .ensures, (search needs, own, omega (arith, long, total-codewords .ensures)))
 
 enum-known-count : tie.Need-enum-known-count
 enum-known-count c = search needs
@@ -76,19 +80,33 @@ same-length-2 c = search needs
 
 returns : tie.Need-returns
 returns c =
-    let a = c .before .before .before .before .before .before .before .before .before .before .before .before .before .before .before .before .before .before .before .before .before .before .before .before .before .before .before .before in
-    let row = c .before .before .before .before .before .before .before .before .before .before .before .before .before .before .before .before .before .block-row in
-    let st = stream-is (a .args .m) _ _ (a .pre .0) (a .pre .1) _ _ _ _ (c .before .before .before .before .before .before .before .before .before .before .before .before .before .before .before .before .before .before .before .before .before .before .before .side .ensures) (c .before .before .before .before .before .before .before .before .before .before .before .before .before .before .before .before .before .before .before .before .before .before .total-codewords .ensures .0) (c .before .before .before .before .before .before .before .before .before .before .before .before .before .before .before .before .before .before .before .before .read-stream .ensures) in
-    let q = c .before .before .before .before .before .before .before .before .before .before .before .before .before .correct-blocks in
-    let n = c .before .before .before .before .before .before .before .before .before .before .count .given in
-    blocks-told (a .args .m) _ _ (a .pre .0) (a .pre .1) _ (row .ensures) _ _ _ _ st (q .result) (n .0 .0) _ _ _ _ _ (n .1) (q .ensures .0) (q .ensures .1) (c .before .before .before .before .tell-segments .ensures)
+    let before = c .before .before .before .before .before .before .before .before .before .before .before .before .before .before .before .before .before .before .before .before .before .before .before .before .before .before .before .before in
+    let side = c .before .before .before .before .before .before .before .before .before .before .before .before .before .before .before .before .before .before .before .before .before .before .before .side in
+    let total-codewords = c .before .before .before .before .before .before .before .before .before .before .before .before .before .before .before .before .before .before .before .before .before .before .total-codewords in
+    let read-stream = c .before .before .before .before .before .before .before .before .before .before .before .before .before .before .before .before .before .before .before .before .read-stream in
+    let block-row = c .before .before .before .before .before .before .before .before .before .before .before .before .before .before .before .before .before .block-row in
+    let correct-blocks = c .before .before .before .before .before .before .before .before .before .before .before .before .before .correct-blocks in
+    let count = c .before .before .before .before .before .before .before .before .before .before .count in
+    let tell-segments = c .before .before .before .before .tell-segments in
+    let a = before in
+    let row = block-row in
+    let st = stream-is (a .args .m) _ _ (a .pre .0) (a .pre .1) _ _ _ _ (side .ensures) (total-codewords .ensures .0) (read-stream .ensures) in
+    let q = correct-blocks in
+    let n = count .given in
+    blocks-told (a .args .m) _ _ (a .pre .0) (a .pre .1) _ (row .ensures) _ _ _ _ st (q .result) (n .0 .0) _ _ _ _ _ (n .1) (q .ensures .0) (q .ensures .1) (tell-segments .ensures)
 
 returns-2 : tie.Need-returns-2
 returns-2 c =
-    let a = c .before .before .before .before .before .before .before .before .before .before .before .before .before .before .before .before .before .before .before in
-    let row = c .before .before .before .before .before .before .before .before .block-row in
-    let st = stream-is (a .args .m) _ _ (a .pre .0) (a .pre .1) _ _ _ _ (c .before .before .before .before .before .before .before .before .before .before .before .before .before .before .side .ensures) (c .before .before .before .before .before .before .before .before .before .before .before .before .before .total-codewords .ensures .0) (c .before .before .before .before .before .before .before .before .before .before .before .read-stream .ensures) in
-    blocks-refused (a .args .m) _ _ (a .pre .0) (a .pre .1) _ (row .ensures) _ _ _ _ st _ _ (c .before .enum-told .given .1) (c .before .before .before .before .correct-blocks .ensures .0) (c .refused .ensures)
+    let before = c .before .before .before .before .before .before .before .before .before .before .before .before .before .before .before .before .before .before .before in
+    let side = c .before .before .before .before .before .before .before .before .before .before .before .before .before .before .side in
+    let total-codewords = c .before .before .before .before .before .before .before .before .before .before .before .before .before .total-codewords in
+    let read-stream = c .before .before .before .before .before .before .before .before .before .before .before .read-stream in
+    let block-row = c .before .before .before .before .before .before .before .before .block-row in
+    let correct-blocks = c .before .before .before .before .correct-blocks in
+    let a = before in
+    let row = block-row in
+    let st = stream-is (a .args .m) _ _ (a .pre .0) (a .pre .1) _ _ _ _ (side .ensures) (total-codewords .ensures .0) (read-stream .ensures) in
+    blocks-refused (a .args .m) _ _ (a .pre .0) (a .pre .1) _ (row .ensures) _ _ _ _ st _ _ (c .before .enum-told .given .1) (correct-blocks .ensures .0) (c .refused .ensures)
 
 pub tell-blocks-spec : {M : Type 1} → statement M
 tell-blocks-spec =

@@ -39,9 +39,12 @@ same-length-2 c = search needs
 
 returns : tie.Need-returns
 returns c =
-    let q = c .before .before .before .before .before .from-data in
-    let g = c .before .before .before .before .before .before .before .before .before .before .gather-data in
-    let a = c .before .before .before .before .before .before .before .before .before .before .before .before .before .before .before .before in
+    let before = c .before .before .before .before .before .before .before .before .before .before .before .before .before .before .before .before in
+    let gather-data = c .before .before .before .before .before .before .before .before .before .before .gather-data in
+    let from-data = c .before .before .before .before .before .from-data in
+    let q = from-data in
+    let g = gather-data in
+    let a = before in
     let d = dataParts (shapes (a .args .row .now)) (cut (shapes (a .args .row .now)) (a .args .stream .now)) in
     let f = gathered (g .result) d (g .last .0) (g .ensures .1) (omega (arith, g .ensures .0, a .pre .2)) (omega arith) in
     tells (a .args .count) (q .result) _ d (a .args .payload .now) (a .args .script .now) _ _ (g .result) (a .pre .3) (f .0) (omega (arith, g .ensures .0, a .pre .2)) (c .told-of .ensures)

@@ -15,7 +15,10 @@ same-length : tie.Need-same-length
 same-length c = search needs
 
 returns : tie.Need-returns
-returns c = c .before .before .put .ensures ∙ c .before .before .before .before .before .accepted .ensures ∙ in-accepted _ _ (c .before .before .before .before .before .before .if1 .taken)
+returns c =
+    let if1 = c .before .before .before .before .before .before .if1 in
+    let accepted = c .before .before .before .before .before .accepted in
+    c .before .before .put .ensures ∙ accepted .ensures ∙ in-accepted _ _ (if1 .taken)
 
 refusal-requires : tie.Need-refusal-requires
 refusal-requires c κs = search needs
@@ -27,7 +30,10 @@ same-length-2 : tie.Need-same-length-2
 same-length-2 c = search needs
 
 returns-2 : tie.Need-returns-2
-returns-2 c = c .before .before .put2 .ensures ∙ c .before .before .before .before .before .refusal .ensures ∙ in-refused _ _ (c .before .before .before .before .before .before .if1 .left)
+returns-2 c =
+    let if1 = c .before .before .before .before .before .before .if1 in
+    let refusal = c .before .before .before .before .before .refusal in
+    c .before .before .put2 .ensures ∙ refusal .ensures ∙ in-refused _ _ (if1 .left)
 
 pub write-receipt-spec : {M : Type 1} → statement M
 write-receipt-spec =

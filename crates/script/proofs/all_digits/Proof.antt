@@ -29,10 +29,11 @@ is-digit-requires c κs = search needs
 
 returns : tie.Need-returns Inv-loop μ-loop
 returns c =
+    let is-digit = c .before .is-digit in
     let w = c .before .before in
     let l = w .before .before .before .loop in
     let a = w .before .before .before .before .before .args in
-    sym (l .inv .1 ∙ digit-none (a .run .now) (l .j) (omega arith) (sym (c .before .is-digit .ensures ∙ ap isDigit (w .wide .ensures .0)) ∙ not-true (c .before .is-digit .result) (c .if1 .taken)))
+    sym (l .inv .1 ∙ digit-none (a .run .now) (l .j) (omega arith) (sym (is-digit .ensures ∙ ap isDigit (w .wide .ensures .0)) ∙ not-true (is-digit .result) (c .if1 .taken)))
 
 add-j : tie.Need-add-j Inv-loop μ-loop
 add-j c = omega arith
@@ -42,10 +43,11 @@ loop-less c = omega arith
 
 loop-again : tie.Need-loop-again Inv-loop μ-loop
 loop-again c =
+    let is-digit = c .before .is-digit in
     let w = c .before .before in
     let l = w .before .before .before .loop in
     let a = w .before .before .before .before .before .args in
-    (omega arith, l .inv .1 ∙ digit-more (a .run .now) (l .j) (omega arith) (sym (c .before .is-digit .ensures ∙ ap isDigit (w .wide .ensures .0)) ∙ not-false (c .before .is-digit .result) (c .if1 .left)))
+    (omega arith, l .inv .1 ∙ digit-more (a .run .now) (l .j) (omega arith) (sym (is-digit .ensures ∙ ap isDigit (w .wide .ensures .0)) ∙ not-false (is-digit .result) (c .if1 .left)))
 
 returns-2 : tie.Need-returns-2 Inv-loop μ-loop
 returns-2 c =

@@ -109,8 +109,9 @@ add-t13 c =
 returns-2 : tie.Need-returns-2 Inv-loop μ-loop
 unfolding beginsIn
 returns-2 c =
+    let start = c .before .before .before .before .before in
     let l = c .before .before .loop in
-    let a = c .before .before .before .before .before .args in
+    let a = start .args in
     let w = c .width .ensures .2 in
     (rw (c .width .ensures .0) (run-done (a .run .now) (a .mode) (l .first) _ (l .j) (l .words) (omega arith) (l .inv .2) (l .inv .3) refl), omega (arith, small (c .width .result) (l .words + 1) (omega arith) (omega arith)))
 

@@ -97,7 +97,8 @@ loop-less c = omega arith
 
 loop-again : tie.Need-loop-again Inv-loop μ-loop
 loop-again c =
-    let q = c .before .before .before .before .before in
+    let before = c .before .before .before .before .before in
+    let q = before in
     let e = q .before .before in
     let k = e .before in
     let g = k .before .before .before in
@@ -212,26 +213,32 @@ returns-2 c =
 
 returns-3 : tie.Need-returns-3 Inv-loop μ-loop
 returns-3 c =
+    let start = c .before .before .before .before .before in
     let l = c .before .before .loop in
-    let a = c .before .before .before .before .before .args in
+    let a = start .args in
     sym (l .inv .3 .2 ∙ end-left (a .script .now) (a .payload .now) (l .i) (l .j) (l .lacks) (l .total) (omega arith) (l .inv .3 .0) (omega arith) (c .if2 .taken))
 
 returns-4 : tie.Need-returns-4 Inv-loop μ-loop
 returns-4 c =
+    let start = c .before .before .before .before .before .before in
     let l = c .before .before .before .loop in
-    let a = c .before .before .before .before .before .before .args in
+    let a = start .args in
     sym (l .inv .3 .2 ∙ end-lacks (a .script .now) (a .payload .now) (l .i) (l .j) (l .lacks) (l .total) (omega arith) (l .inv .3 .0) (omega arith) (omega arith) (c .if3 .taken))
 
 returns-5 : tie.Need-returns-5 Inv-loop μ-loop
 returns-5 c =
-    let l = c .before .before .before .before .loop in
-    let a = c .before .before .before .before .before .before .before .args in
+    let start = c .before .before .before .before .before .before .before in
+    let loop = c .before .before .before .before .loop in
+    let l = loop in
+    let a = start .args in
     sym (l .inv .3 .2 ∙ end-empty (a .script .now) (a .payload .now) (l .i) (l .j) (l .lacks) (l .total) (omega arith) (l .inv .3 .0) (omega arith) (omega arith) (c .before .if3 .left) (c .if4 .taken))
 
 returns-6 : tie.Need-returns-6 Inv-loop μ-loop
 returns-6 c =
-    let l = c .before .before .before .before .loop in
-    let a = c .before .before .before .before .before .before .before .args in
+    let start = c .before .before .before .before .before .before .before in
+    let loop = c .before .before .before .before .loop in
+    let l = loop in
+    let a = start .args in
     sym (l .inv .3 .2 ∙ end-bits (a .script .now) (a .payload .now) (l .i) (l .j) (l .lacks) (l .total) (omega arith) (l .inv .3 .0) (omega arith) (omega arith) (c .before .if3 .left) (c .if4 .left) (l .inv .2))
 
 pub check-script-spec : {M : Type 1} → statement M

@@ -55,14 +55,18 @@ sub-result-5 c = search needs
 
 returns-8 : tie.Need-returns-8
 unfolding codeOf
-returns-8 c = simp (lt-ltb _ _ (c .if8 .taken), le-ltb _ _ (c .before .if7 .left), le-ltb _ _ (c .before .before .if6 .left), le-ltb _ _ (c .before .before .before .if5 .left), c .before .before .before .before .if1 .left)
+returns-8 c =
+    let if1 = c .before .before .before .before .if1 in
+    simp (lt-ltb _ _ (c .if8 .taken), le-ltb _ _ (c .before .if7 .left), le-ltb _ _ (c .before .before .if6 .left), le-ltb _ _ (c .before .before .before .if5 .left), if1 .left)
 
 sub-result-6 : tie.Need-sub-result-6
 sub-result-6 c = search needs
 
 returns-9 : tie.Need-returns-9
 unfolding codeOf
-returns-9 c = simp (le-ltb _ _ (c .if8 .left), le-ltb _ _ (c .before .if7 .left), le-ltb _ _ (c .before .before .if6 .left), le-ltb _ _ (c .before .before .before .if5 .left), c .before .before .before .before .if1 .left)
+returns-9 c =
+    let if1 = c .before .before .before .before .if1 in
+    simp (le-ltb _ _ (c .if8 .left), le-ltb _ _ (c .before .if7 .left), le-ltb _ _ (c .before .before .if6 .left), le-ltb _ _ (c .before .before .before .if5 .left), if1 .left)
 
 pub code-spec : {M : Type 1} → statement M
 code-spec =

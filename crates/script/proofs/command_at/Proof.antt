@@ -42,9 +42,11 @@ run-at-requires c κs = search needs
 
 returns-5 : tie.Need-returns-5
 returns-5 c =
-    let w = c .before .before .before .before .before in
+    let before = c .before .before .before .before .before in
+    let if1 = c .before .before .before .before .if1 in
+    let w = before in
     let a = w .before .before .before .args in
-    c .run-at .ensures ∙ sym (command-run (a .script .now) (a .i) (w .wide .result) (w .wide .ensures .0) (c .before .before .before .before .if1 .left) (c .before .before .before .if2 .left) (c .before .before .if3 .left) (c .before .if4 .left))
+    c .run-at .ensures ∙ sym (command-run (a .script .now) (a .i) (w .wide .result) (w .wide .ensures .0) (if1 .left) (c .before .before .before .if2 .left) (c .before .before .if3 .left) (c .before .if4 .left))
 
 pub command-at-spec : {M : Type 1} → statement M
 command-at-spec =

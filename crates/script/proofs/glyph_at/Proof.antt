@@ -18,7 +18,8 @@ text-glyph-requires c κs = search needs
 
 returns : tie.Need-returns
 returns c =
-    let a = c .before .before .before .before .before .args in
+    let start = c .before .before .before .before .before in
+    let a = start .args in
     text-glyph (a .run .now) (a .mode) (a .first) (a .j) (omega arith) (c .text-glyph .result) (c .before .before .before .if1 .taken) (c .text-glyph .ensures ∙ ap (textGlyph (a .first)) (c .before .wide .ensures .0))
 
 sub-if2 : tie.Need-sub-if2

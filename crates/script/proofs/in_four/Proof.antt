@@ -34,10 +34,11 @@ wide-requires c κs = search needs
 
 returns-3 : tie.Need-returns-3
 returns-3 c =
+    let wide = c .before .wide in
     let i = c .before .before .before in
     let k = i .before .before in
     let s = k .before .before .args .run .now in
-    four-first s (k .four-code .result) (c .before .wide .result) 0 0 0 (k .four-code .ensures) (i .before .if1 .left) (i .if2 .left) (c .before .wide .ensures .0) (c .if3 .taken)
+    four-first s (k .four-code .result) (wide .result) 0 0 0 (k .four-code .ensures) (i .before .if1 .left) (i .if2 .left) (wide .ensures .0) (c .if3 .taken)
 
 add-if4 : tie.Need-add-if4
 add-if4 c = search needs
@@ -50,11 +51,12 @@ wide-requires-2 c κs = search needs
 
 returns-4 : tie.Need-returns-4
 returns-4 c =
+    let wide2 = c .before .wide2 in
     let d = c .before .before .before in
     let i = d .before .before .before in
     let k = i .before .before in
     let s = k .before .before .args .run .now in
-    four-second s (k .four-code .result) (d .before .wide .result) (c .before .wide2 .result) 0 0 (k .four-code .ensures) (i .before .if1 .left) (i .if2 .left) (d .before .wide .ensures .0) (d .if3 .left) (c .before .wide2 .ensures .0) (c .if4 .taken)
+    four-second s (k .four-code .result) (d .before .wide .result) (wide2 .result) 0 0 (k .four-code .ensures) (i .before .if1 .left) (i .if2 .left) (d .before .wide .ensures .0) (d .if3 .left) (wide2 .ensures .0) (c .if4 .taken)
 
 add-if5 : tie.Need-add-if5
 add-if5 c = search needs
@@ -67,12 +69,13 @@ wide-requires-3 c κs = search needs
 
 returns-5 : tie.Need-returns-5
 returns-5 c =
+    let wide3 = c .before .wide3 in
     let f = c .before .before .before in
     let d = f .before .before .before in
     let i = d .before .before .before in
     let k = i .before .before in
     let s = k .before .before .args .run .now in
-    four-third s (k .four-code .result) (d .before .wide .result) (f .before .wide2 .result) (c .before .wide3 .result) 0 (k .four-code .ensures) (i .before .if1 .left) (i .if2 .left) (d .before .wide .ensures .0) (d .if3 .left) (f .before .wide2 .ensures .0) (f .if4 .left) (c .before .wide3 .ensures .0) (c .if5 .taken)
+    four-third s (k .four-code .result) (d .before .wide .result) (f .before .wide2 .result) (wide3 .result) 0 (k .four-code .ensures) (i .before .if1 .left) (i .if2 .left) (d .before .wide .ensures .0) (d .if3 .left) (f .before .wide2 .ensures .0) (f .if4 .left) (wide3 .ensures .0) (c .if5 .taken)
 
 add-result : tie.Need-add-result
 add-result c = search needs

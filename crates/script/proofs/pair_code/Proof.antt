@@ -47,7 +47,9 @@ add-result-4 c = search needs
 
 returns-3 : tie.Need-returns-3
 unfolding pairCode
-returns-3 c = simp (c .before .before .before .before .if1 .taken, le-ltb _ _ (c .before .before .before .if2 .left), ne-eqb _ _ (c .before .before .if3 .left), c .minus5 .ensures, c .before .minus4 .ensures)
+returns-3 c =
+    let if1 = c .before .before .before .before .if1 in
+    simp (if1 .taken, le-ltb _ _ (c .before .before .before .if2 .left), ne-eqb _ _ (c .before .before .if3 .left), c .minus5 .ensures, c .before .minus4 .ensures)
 
 minus-requires-6 : tie.Need-minus-requires-6
 minus-requires-6 c κs = search needs

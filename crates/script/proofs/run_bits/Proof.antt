@@ -60,7 +60,8 @@ char-bits-requires c κs = search needs
 
 returns-6 : tie.Need-returns-6
 returns-6 c =
-    let a = c .before .before .before .before .before .args in
+    let start = c .before .before .before .before .before in
+    let a = start .args in
     (c .char-bits .ensures .0 ∙ char-cost (a .run .now) (a .mode) (omega arith) (omega arith) (c .before .before .before .if1 .left) (c .before .before .if3 .left) (c .before .if4 .left), c .char-bits .ensures .1)
 
 pub run-bits-spec : {M : Type 1} → statement M

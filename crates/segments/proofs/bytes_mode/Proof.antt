@@ -24,9 +24,10 @@ returns c =
 -- what was read, where a word was read
 word : (c : tie.After-known-told) → WordAt 13 (c .before .before .before .before .before .before .args .from) (c .before .got .given .0 .0) (c .before .before .before .before .before .before .args .s .now)
 word c =
+    let got = c .before .got in
     let b = c .before .before .before in
     let a = b .before .before .before .args in
-    word-read 13 (a .from) (a .s .now) (b .read-bits .result) (b .read-bits .ensures) (c .before .got .given .0 .0) (omega arith) (omega arith) (c .before .got .given .1)
+    word-read 13 (a .from) (a .s .now) (b .read-bits .result) (b .read-bits .ensures) (got .given .0 .0) (omega arith) (omega arith) (got .given .1)
 
 add-bytes-run : tie.Need-add-bytes-run
 add-bytes-run c = search needs

@@ -42,10 +42,11 @@ returns c =
 word : (c : tie.After-known-told Inv-loop μ-loop)
     → WordAt 8 (c .before .before .before .before .before .loop .at) (c .before .got .given .0 .0) (c .before .before .before .before .before .before .before .before .args .s .now)
 word c =
+    let got = c .before .got in
     let b = c .before .before .before in
     let l = b .before .before .loop in
     let a = b .before .before .before .before .before .args in
-    word-read 8 (l .at) (a .s .now) (b .read-bits .result) (b .read-bits .ensures) (c .before .got .given .0 .0) (omega arith) (omega arith) (c .before .got .given .1)
+    word-read 8 (l .at) (a .s .now) (b .read-bits .result) (b .read-bits .ensures) (got .given .0 .0) (omega arith) (omega arith) (got .given .1)
 
 put-requires : tie.Need-put-requires Inv-loop μ-loop
 put-requires c κs = word (c .before) .small
@@ -85,8 +86,9 @@ same-length-2 c = c .before .loop .inv .0
 
 returns-2 : tie.Need-returns-2 Inv-loop μ-loop
 returns-2 c =
+    let start = c .before .before .before .before in
     let l = c .before .loop in
-    let a = c .before .before .before .before .args in
+    let a = start .args in
     (rw (l .inv .6 ∙ bytes-run-done (a .s .now) (l .at) (l .n) (l .out) (a .k - l .i) (omega arith)) (refl, refl), (omega arith, omega arith, omega arith, omega arith))
 
 pub bytes-run-spec : {M : Type 1} → statement M

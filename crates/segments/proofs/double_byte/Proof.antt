@@ -44,10 +44,11 @@ returns c =
 word : (c : tie.After-known-told Inv-loop μ-loop)
     → WordAt 15 (c .before .before .before .before .loop .at) (c .before .got .given .0 .0) (c .before .before .before .before .before .before .before .args .s .now)
 word c =
+    let got = c .before .got in
     let b = c .before .before .before in
     let l = b .before .loop in
     let a = b .before .before .before .before .args in
-    word-read 15 (l .at) (a .s .now) (b .read-bits .result) (b .read-bits .ensures) (c .before .got .given .0 .0) (omega arith) (omega arith) (c .before .got .given .1)
+    word-read 15 (l .at) (a .s .now) (b .read-bits .result) (b .read-bits .ensures) (got .given .0 .0) (omega arith) (omega arith) (got .given .1)
 
 add-at : tie.Need-add-at Inv-loop μ-loop
 add-at c = omega arith
@@ -91,7 +92,11 @@ loop-less c = let m = word (c .before .before .before .before .before .before .b
 
 loop-again : tie.Need-loop-again Inv-loop μ-loop
 loop-again c =
-    let k = c .before .before .before .before .before .before .before .before in
+    let before = c .before .before .before .before .before .before .before .before in
+    let if1 = c .before .before .before .before .before .before .before .if1 in
+    let if2 = c .before .before .before .before .before .before .if2 in
+    let first-byte = c .before .before .before .before .first-byte in
+    let k = before in
     let w = k .before .got .given .0 .0 in
     let l = k .before .before .before .before .loop in
     let a = k .before .before .before .before .before .before .before .args in
@@ -99,13 +104,13 @@ loop-again c =
     let m = r .room in
     let p = c .before .before .put-pair in
     let e : p .last .0 ≡ sets (l .out) (l .n) (firstOf w ∷ secondOf w ∷ []) =
-    p .ensures ∙ ap₂ (λ (x y : ℕ). sets (l .out) (l .n) (x ∷ y ∷ [])) (c .before .before .before .before .first-byte .ensures .1) (c .before .before .before .second-byte .ensures .1) in (
+    p .ensures ∙ ap₂ (λ (x y : ℕ). sets (l .out) (l .n) (x ∷ y ∷ [])) (first-byte .ensures .1) (c .before .before .before .second-byte .ensures .1) in (
       p .kept .0 ∙ l .inv .0,
       omega arith,
       omega arith,
       omega arith,
       omega arith,
-      l .inv .5 ∙ double-pair (a .s .now) (l .at) (l .n) (l .out) w r (c .before .before .before .before .before .before .before .if1 .left) (c .before .before .before .before .before .before .if2 .left)
+      l .inv .5 ∙ double-pair (a .s .now) (l .at) (l .n) (l .out) w r (if1 .left) (if2 .left)
           ∙ ap (λ (x : List ℕ). doubleByteAt (a .s .now) (l .at + 15) (l .n + 2) x) (sym e),
     )
 

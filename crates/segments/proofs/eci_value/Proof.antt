@@ -45,7 +45,8 @@ eci-field-requires-2 c κs = search needs
 
 returns-4 : tie.Need-returns-4
 returns-4 c =
-    let b = c .before .before .before .before .before in
+    let before = c .before .before .before .before .before in
+    let b = before in
     let d = c .before .before in
     let a = b .before .before .before .args in
     rw (eci-two (a .s .now) (a .from) (omega arith) (λ e. d .before .before .if2 .left (b .bit .ensures ∙ e)) (omega arith) (sym (d .bit2 .ensures) ∙ c .before .if4 .taken)) (c .eci-field2 .ensures)

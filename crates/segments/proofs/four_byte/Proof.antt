@@ -24,9 +24,10 @@ returns c =
 -- what was read, where a word was read
 word : (c : tie.After-known-told) → WordAt 21 (c .before .before .before .before .before .before .args .from) (c .before .got .given .0 .0) (c .before .before .before .before .before .before .args .s .now)
 word c =
+    let got = c .before .got in
     let b = c .before .before .before in
     let a = b .before .before .before .args in
-    word-read 21 (a .from) (a .s .now) (b .read-bits .result) (b .read-bits .ensures) (c .before .got .given .0 .0) (omega arith) (omega arith) (c .before .got .given .1)
+    word-read 21 (a .from) (a .s .now) (b .read-bits .result) (b .read-bits .ensures) (got .given .0 .0) (omega arith) (omega arith) (got .given .1)
 
 returns-2 : tie.Need-returns-2
 returns-2 c =
@@ -48,10 +49,12 @@ same-length c = search needs
 
 returns-3 : tie.Need-returns-3
 returns-3 c =
-    let k = c .before .before .before .before .before in
+    let before = c .before .before .before .before .before in
+    let if1 = c .before .before .before .before .if1 in
+    let k = before in
     let a = k .before .before .before .before .before .before .args in
     let m = word k .room in
-    (rw (four-end (a .s .now) (a .from) (a .to) (a .out .now) (k .before .got .given .0 .0) (word k) (c .before .before .before .before .if1 .left)) (refl, c .before .before .put-four .ensures), (omega arith, omega arith, omega arith, omega arith))
+    (rw (four-end (a .s .now) (a .from) (a .to) (a .out .now) (k .before .got .given .0 .0) (word k) (if1 .left)) (refl, c .before .before .put-four .ensures), (omega arith, omega arith, omega arith, omega arith))
 
 pub four-byte-spec : {M : Type 1} → statement M
 four-byte-spec =

@@ -65,13 +65,15 @@ same-length-2 c = search needs
 
 returns-5 : tie.Need-returns-5
 returns-5 c =
-    let e = c .before .before .before .before .before .before .before in
+    let before = c .before .before .before .before .before .before .before in
+    let pass2 = c .before .before .before .before .pass2 in
+    let e = before in
     let t = e .before .before .before in
     let b = t .before .before .before .before .before in
     let a = b .before .before .before .before .before .before .before .args in
     let d = b .pass in
     let v = t .before .first .given in
-    let g = c .before .before .before .before .pass2 in
+    let g = pass2 in
     is-read (a .«data» .now) (a .payload .now) (a .script .now) (b .before .before .before .if1 .left) (0 ∷ []) (0 ∷ []) (d .result) (d .last .1 .0) (d .last .1 .1 .0) (d .ensures) (v .0 .0) (v .0 .1 .0) (v .1) (e .before .before .if2 .left) (e .before .if3 .left) (e .if4 .left) (g .result) (g .last .1 .0) (g .last .1 .1 .0) (g .ensures)
 
 returns-6 : tie.Need-returns-6

@@ -34,9 +34,10 @@ returns c =
 
 word1 : (c : tie.After-known-told Inv-loop μ-loop) → WordAt 10 (c .before .before .before .before .before .before .args .from) (c .before .start .given .0 .0) (c .before .before .before .before .before .before .args .s .now)
 word1 c =
+    let start = c .before .start in
     let b = c .before .before .before in
     let a = b .before .before .before .args in
-    word-read 10 (a .from) (a .s .now) (b .read-bits .result) (b .read-bits .ensures) (c .before .start .given .0 .0) (omega arith) (omega arith) (c .before .start .given .1)
+    word-read 10 (a .from) (a .s .now) (b .read-bits .result) (b .read-bits .ensures) (start .given .0 .0) (omega arith) (omega arith) (start .given .1)
 
 returns-2 : tie.Need-returns-2 Inv-loop μ-loop
 returns-2 c =
@@ -75,10 +76,11 @@ returns-3 c =
 
 word2 : (c : tie.After-known-told2 Inv-loop μ-loop) → WordAt 10 (c .before .before .before .before .loop .at) (c .before .got .given .0 .0) (c .before .before .before .before .before .before .before .before .before .before .before .before .args .s .now)
 word2 c =
+    let got = c .before .got in
     let b = c .before .before .before in
     let a = b .before .before .before .before .before .before .before .before .before .args in
     let l = b .before .loop in
-    word-read 10 (l .at) (a .s .now) (b .read-bits2 .result) (b .read-bits2 .ensures) (c .before .got .given .0 .0) (omega arith) (omega arith) (c .before .got .given .1)
+    word-read 10 (l .at) (a .s .now) (b .read-bits2 .result) (b .read-bits2 .ensures) (got .given .0 .0) (omega arith) (omega arith) (got .given .1)
 
 add-at-2 : tie.Need-add-at-2 Inv-loop μ-loop
 add-at-2 c = omega arith
@@ -122,18 +124,24 @@ add-t16 : tie.Need-add-t16 Inv-loop μ-loop
 add-t16 c = let r = word2 (c .before .before .before .before .before .before .before .before) .small in omega arith
 
 same-length-4 : tie.Need-same-length-4 Inv-loop μ-loop
-same-length-4 c = c .before .before .push-digits .kept .0 ∙ c .before .before .before .before .before .before .before .before .before .before .before .before .loop .inv .0
+same-length-4 c =
+    let loop = c .before .before .before .before .before .before .before .before .before .before .before .before .loop in
+    c .before .before .push-digits .kept .0 ∙ loop .inv .0
 
 returns-6 : tie.Need-returns-6 Inv-loop μ-loop
 returns-6 c =
-    let k = c .before .before .before .before .before .before .before .before in
+    let before = c .before .before .before .before .before .before .before .before in
+    let if2 = c .before .before .before .before .before .before .before .if2 in
+    let if3 = c .before .before .before .before .before .before .if3 in
+    let power-of-ten = c .before .before .before .before .before .power-of-ten in
+    let k = before in
     let l = k .before .before .before .before .loop in
     let a = k .before .before .before .before .before .before .before .before .before .before .before .before .args in
     let w = k .before .got .given .0 .0 in
     let r = word2 k in
     let m = r .room in
     let q = c .before .before .push-digits in
-    let e = groups-end (a .s .now) (l .at) (l .n) (l .out) w r (l .p) (c .before .before .before .before .before .before .before .if2 .taken) (c .before .before .before .before .before .before .if3 .left) (omega (arith, c .before .before .before .before .before .power-of-ten .ensures .0)) in
+    let e = groups-end (a .s .now) (l .at) (l .n) (l .out) w r (l .p) (if2 .taken) (if3 .left) (omega (arith, power-of-ten .ensures .0)) in
     let sm = r .small in
     (rw (l .inv .6 ∙ e) (refl, q .ensures), (omega arith, omega arith, omega arith, omega arith))
 
@@ -148,7 +156,9 @@ loop-less c = let m = word2 (c .before .before .before .before .before) .room in
 
 loop-again : tie.Need-loop-again Inv-loop μ-loop
 loop-again c =
-    let k = c .before .before .before .before .before in
+    let before = c .before .before .before .before .before in
+    let if2 = c .before .before .before .before .if2 in
+    let k = before in
     let l = k .before .before .before .before .loop in
     let a = k .before .before .before .before .before .before .before .before .before .before .before .before .args in
     let w = k .before .got .given .0 .0 in
@@ -161,7 +171,7 @@ loop-again c =
       omega arith,
       omega arith,
       omega arith,
-      l .inv .6 ∙ groups-more (a .s .now) (l .at) (l .n) (l .out) w r (l .p) (c .before .before .before .before .if2 .left) ∙ ap (λ (z : List ℕ). groupsAt (a .s .now) (l .at + 10) (l .n + 3) z w) (sym (q .ensures)),
+      l .inv .6 ∙ groups-more (a .s .now) (l .at) (l .n) (l .out) w r (l .p) (if2 .left) ∙ ap (λ (z : List ℕ). groupsAt (a .s .now) (l .at + 10) (l .n + 3) z w) (sym (q .ensures)),
     )
 
 pub numeric-spec : {M : Type 1} → statement M

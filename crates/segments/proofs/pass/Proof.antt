@@ -51,10 +51,11 @@ returns c =
 word : (c : tie.After-known-told Inv-loop μ-loop)
     → WordAt 4 (c .before .before .before .before .loop .at) (c .before .got .given .0 .0) (c .before .before .before .before .before .before .before .before .args .s .now)
 word c =
+    let got = c .before .got in
     let b = c .before .before .before in
     let l = b .before .loop in
     let a = b .before .before .before .before .before .args in
-    word-read 4 (l .at) (a .s .now) (b .mode .result) (b .mode .ensures ∙ read-inside (a .s .now) (l .at) 4 (omega arith) (omega arith) (omega arith)) (c .before .got .given .0 .0) (omega arith) (omega arith) (c .before .got .given .1)
+    word-read 4 (l .at) (a .s .now) (b .mode .result) (b .mode .ensures ∙ read-inside (a .s .now) (l .at) 4 (omega arith) (omega arith) (omega arith)) (got .given .0 .0) (omega arith) (omega arith) (got .given .1)
 
 same-length-3 : tie.Need-same-length-3 Inv-loop μ-loop
 same-length-3 c = c .before .before .before .before .before .loop .inv .0
@@ -88,8 +89,9 @@ room : (c : tie.After-known-told2 Inv-loop μ-loop)
     × (c .before .next .given .0 .0 ≤ 8 * length (c .before .before .before .before .before .before .before .before .before .before .before .before .before .before .before .before .before .before .before .args .s .now))
     × (c .before .next .given .0 .1 .0 ≤ c .before .next .given .0 .0) × (c .before .next .given .0 .1 .1 .0 ≤ c .before .next .given .0 .0)
 room c =
+    let before = c .before .before .before .before .before .before .before in
     let v = c .before .next .given in
-    let g = c .before .before .before .before .before .before .before in
+    let g = before in
     let k = g .before .before .before .before in
     let l = k .before .before .before .before .loop in
     let a = k .before .before .before .before .before .before .before .before .args in
@@ -104,9 +106,10 @@ loop-less c =
 
 loop-again : tie.Need-loop-again Inv-loop μ-loop
 loop-again c =
+    let before = c .before .before .before .before .before .before .before in
     let r = room c in
     let v = c .before .next .given in
-    let g = c .before .before .before .before .before .before .before in
+    let g = before in
     let e = g .before .before .before in
     let k = e .before in
     let w = word k in
@@ -130,14 +133,21 @@ enum-told-2 : tie.Need-enum-told-2 Inv-loop μ-loop
 enum-told-2 c = c .match2 .keys2
 
 same-length-5 : tie.Need-same-length-5 Inv-loop μ-loop
-same-length-5 c = c .before .before .before .before .before .before .segment .kept .1 .1 .1 .0 ∙ c .before .before .before .before .before .before .before .before .before .before .before .before .before .before .loop .inv .0
+same-length-5 c =
+    let loop = c .before .before .before .before .before .before .before .before .before .before .before .before .before .before .loop in
+    let segment = c .before .before .before .before .before .before .segment in
+    segment .kept .1 .1 .1 .0 ∙ loop .inv .0
 
 same-length-6 : tie.Need-same-length-6 Inv-loop μ-loop
-same-length-6 c = c .before .before .before .before .before .before .segment .kept .1 .1 .1 .1 .0 ∙ c .before .before .before .before .before .before .before .before .before .before .before .before .before .before .loop .inv .1
+same-length-6 c =
+    let loop = c .before .before .before .before .before .before .before .before .before .before .before .before .before .before .loop in
+    let segment = c .before .before .before .before .before .before .segment in
+    segment .kept .1 .1 .1 .1 .0 ∙ loop .inv .1
 
 returns-3 : tie.Need-returns-3 Inv-loop μ-loop
 returns-3 c =
-    let g = c .before .before .before .before .before .before in
+    let before = c .before .before .before .before .before .before in
+    let g = before in
     let e = g .before .before .before in
     let k = e .before in
     let l = k .before .before .before .before .loop in
@@ -149,14 +159,21 @@ enum-told-3 : tie.Need-enum-told-3 Inv-loop μ-loop
 enum-told-3 c = c .match2 .keys3
 
 same-length-7 : tie.Need-same-length-7 Inv-loop μ-loop
-same-length-7 c = c .before .before .before .before .before .before .segment .kept .1 .1 .1 .0 ∙ c .before .before .before .before .before .before .before .before .before .before .before .before .before .before .loop .inv .0
+same-length-7 c =
+    let loop = c .before .before .before .before .before .before .before .before .before .before .before .before .before .before .loop in
+    let segment = c .before .before .before .before .before .before .segment in
+    segment .kept .1 .1 .1 .0 ∙ loop .inv .0
 
 same-length-8 : tie.Need-same-length-8 Inv-loop μ-loop
-same-length-8 c = c .before .before .before .before .before .before .segment .kept .1 .1 .1 .1 .0 ∙ c .before .before .before .before .before .before .before .before .before .before .before .before .before .before .loop .inv .1
+same-length-8 c =
+    let loop = c .before .before .before .before .before .before .before .before .before .before .before .before .before .before .loop in
+    let segment = c .before .before .before .before .before .before .segment in
+    segment .kept .1 .1 .1 .1 .0 ∙ loop .inv .1
 
 returns-4 : tie.Need-returns-4 Inv-loop μ-loop
 returns-4 c =
-    let g = c .before .before .before .before .before .before in
+    let before = c .before .before .before .before .before .before in
+    let g = before in
     let e = g .before .before .before in
     let k = e .before in
     let l = k .before .before .before .before .loop in

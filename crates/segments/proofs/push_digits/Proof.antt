@@ -49,10 +49,13 @@ loop-less c = omega arith
 
 loop-again : tie.Need-loop-again Inv-loop μ-loop
 loop-again c =
-    let l = c .before .before .before .before .before .before .loop in
-    let a = c .before .before .before .before .before .before .before .before .args in
+    let start = c .before .before .before .before .before .before .before .before in
+    let loop = c .before .before .before .before .before .before .loop in
+    let power-of-ten = c .before .before .before .before .power-of-ten in
+    let l = loop in
+    let a = start .args in
     let q = c .before .before .put in
-    let t = c .before .before .before .before .power-of-ten .ensures .0 in
+    let t = power-of-ten .ensures .0 in
     let e : q .last .0 ≡ set (l .out) (a .n + l .i) (48 + a .v / 10 ^ (a .k - 1 - l .i) % 10) = q .ensures ∙ ap (λ (z : ℕ). set (l .out) (a .n + l .i) (48 + a .v / z % 10)) t in
     (q .kept .0 ∙ l .inv .0, omega arith, l .inv .2 ∙ digits-more (l .out) (a .n) (a .k) (l .i) (a .v) (omega arith) ∙ ap (λ (z : List ℕ). sets z (a .n + (l .i + 1)) (digits (a .k - (l .i + 1)) (a .v))) (sym e))
 

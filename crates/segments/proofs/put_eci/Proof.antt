@@ -20,9 +20,11 @@ same-length c = search needs
 
 returns : tie.Need-returns
 returns c =
-    let p = c .before .before .before .before .before .before in
+    let before = c .before .before .before .before .before .before in
+    let put-pair2 = c .before .before .put-pair2 in
+    let p = before in
     let a = p .before .before .before .args in
-    two-more (a .script .now) (p .put-pair .last .0) (c .before .before .put-pair2 .last .0) (a .v / 256 % 256 ∷ a .v % 256 ∷ []) (a .m) (a .m + 2) 8 (a .v / 65536) refl (p .put-pair .ensures) (c .before .before .put-pair2 .ensures)
+    two-more (a .script .now) (p .put-pair .last .0) (put-pair2 .last .0) (a .v / 256 % 256 ∷ a .v % 256 ∷ []) (a .m) (a .m + 2) 8 (a .v / 65536) refl (p .put-pair .ensures) (put-pair2 .ensures)
 
 pub put-eci-spec : {M : Type 1} → statement M
 put-eci-spec =

@@ -20,9 +20,11 @@ same-length c = search needs
 
 returns : tie.Need-returns
 returns c =
-    let p = c .before .before .before .before .before .before in
+    let before = c .before .before .before .before .before .before in
+    let put2 = c .before .before .put2 in
+    let p = before in
     let a = p .before .before .before .args in
-    one-more (a .out .now) (p .put .last .0) (c .before .before .put2 .last .0) (a .b ∷ []) (a .n) (a .n + 1) (a .a) refl (p .put .ensures) (c .before .before .put2 .ensures)
+    one-more (a .out .now) (p .put .last .0) (put2 .last .0) (a .b ∷ []) (a .n) (a .n + 1) (a .a) refl (p .put .ensures) (put2 .ensures)
 
 pub put-pair-spec : {M : Type 1} → statement M
 put-pair-spec = tie.close (tie.spec put-requires add-put put-requires-2 same-length returns)

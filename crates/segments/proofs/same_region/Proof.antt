@@ -44,10 +44,11 @@ returns c =
 word : (c : tie.After-known-told Inv-loop μ-loop)
     → WordAt 12 (c .before .before .before .before .loop .at) (c .before .got .given .0 .0) (c .before .before .before .before .before .before .before .args .s .now)
 word c =
+    let got = c .before .got in
     let b = c .before .before .before in
     let l = b .before .loop in
     let a = b .before .before .before .before .args in
-    word-read 12 (l .at) (a .s .now) (b .read-bits .result) (b .read-bits .ensures) (c .before .got .given .0 .0) (omega arith) (omega arith) (c .before .got .given .1)
+    word-read 12 (l .at) (a .s .now) (b .read-bits .result) (b .read-bits .ensures) (got .given .0 .0) (omega arith) (omega arith) (got .given .1)
 
 add-at : tie.Need-add-at Inv-loop μ-loop
 add-at c = omega arith
@@ -106,7 +107,9 @@ loop-less c = let m = word (c .before .before .before .before .before .before .b
 
 loop-again : tie.Need-loop-again Inv-loop μ-loop
 loop-again c =
-    let e = c .before .before .before .before .before .before in
+    let before = c .before .before .before .before .before .before in
+    let high = c .before .before .before .before .high in
+    let e = before in
     let k = e .before .before .before .before in
     let w = k .before .got .given .0 .0 in
     let l = k .before .before .before .before .loop in
@@ -115,7 +118,7 @@ loop-again c =
     let m = r .room in
     let p = c .before .before .put-pair in
     let x : p .last .0 ≡ sets (l .out) (l .n) (highOf (a .one) w ∷ lowOf (a .one) w ∷ []) =
-    p .ensures ∙ ap₂ (λ (x y : ℕ). sets (l .out) (l .n) (x ∷ y ∷ [])) (c .before .before .before .before .high .ensures .1) (c .before .before .before .low .ensures .1) in (
+    p .ensures ∙ ap₂ (λ (x y : ℕ). sets (l .out) (l .n) (x ∷ y ∷ [])) (high .ensures .1) (c .before .before .before .low .ensures .1) in (
       p .kept .0 ∙ l .inv .0,
       omega arith,
       omega arith,

@@ -33,10 +33,13 @@ same-length c = search needs
 
 returns : tie.Need-returns
 returns c =
-    let b = c .before .before .before .before .before .before .before in
+    let before = c .before .before .before .before .before .before .before in
+    let designator = c .before .before .before .before .before .designator in
+    let put-eci = c .before .before .put-eci in
+    let b = before in
     let a = b .before .before .before .before .before .args in
-    let v = c .before .before .before .before .before .designator .given in
-    eci-on (a .s .now) (a .place .at) (a .place .payload) (a .place .script) (a .out .now) (a .script .now) (a .mode) (omega arith) (omega arith) (b .before .if1 .taken) (v .0 .0) (v .0 .1 .0) (b .eci-value .result) (c .before .before .put-eci .last .0) (b .eci-value .ensures) (v .1) (c .before .before .put-eci .ensures)
+    let v = designator .given in
+    eci-on (a .s .now) (a .place .at) (a .place .payload) (a .place .script) (a .out .now) (a .script .now) (a .mode) (omega arith) (omega arith) (b .before .if1 .taken) (v .0 .0) (v .0 .1 .0) (b .eci-value .result) (put-eci .last .0) (b .eci-value .ensures) (v .1) (put-eci .ensures)
 
 returns-2 : tie.Need-returns-2
 returns-2 c =
@@ -74,8 +77,10 @@ put-command-requires c κs =
 
 add-t27 : tie.Need-add-t27
 add-t27 c =
-    let a = c .before .before .before .before .before .before .before .before .before .before .before .before .before .before .before .args in
-    omega (arith, command-length (a .mode) (c .before .before .before .before .before .read .given .0 .1 .0 - a .place .payload), c .before .before .put-command .ensures .0)
+    let start = c .before .before .before .before .before .before .before .before .before .before .before .before .before .before .before in
+    let read = c .before .before .before .before .before .read in
+    let a = start .args in
+    omega (arith, command-length (a .mode) (read .given .0 .1 .0 - a .place .payload), c .before .before .put-command .ensures .0)
 
 enum-told-3 : tie.Need-enum-told-3
 enum-told-3 c = search needs
@@ -91,9 +96,11 @@ same-length-3 c = search needs
 
 returns-4 : tie.Need-returns-4
 returns-4 c =
-    let b = c .before .before .before .before .before .before .before .before .before in
+    let before = c .before .before .before .before .before .before .before .before .before in
+    let read = c .before .before .before .before .before .read in
+    let b = before in
     let a = b .before .before .before .before .before .before .args in
-    let v = c .before .before .before .before .before .read .given in
+    let v = read .given in
     let q = b .run-of-mode in
     let p = c .before .before .put-command in
     let i = inside (a .s .now) (a .place .at) (a .place .payload) (q .result) (v .0 .0) (v .0 .1 .0) (q .ensures .1) (v .1) in

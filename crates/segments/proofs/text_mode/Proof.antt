@@ -44,8 +44,9 @@ returns c =
 -- what was read, where a word was read
 word : (c : tie.After-known-told Inv-loop μ-loop) → WordAt 6 (c .before .before .before .before .loop .at) (c .before .got .given .0 .0) (c .before .before .before .before .before .before .before .args .s .now)
 word c =
+    let got = c .before .got in
     let b = c .before .before .before in
-    word-read 6 (b .before .loop .at) (b .before .before .before .before .args .s .now) (b .read-bits .result) (b .read-bits .ensures) (c .before .got .given .0 .0) (omega arith) (omega arith) (c .before .got .given .1)
+    word-read 6 (b .before .loop .at) (b .before .before .before .before .args .s .now) (b .read-bits .result) (b .read-bits .ensures) (got .given .0 .0) (omega arith) (omega arith) (got .given .1)
 
 add-at : tie.Need-add-at Inv-loop μ-loop
 add-at c = omega arith
@@ -55,8 +56,10 @@ same-length-2 c = c .before .before .before .before .before .loop .inv .0
 
 returns-2 : tie.Need-returns-2 Inv-loop μ-loop
 returns-2 c =
-    let l = c .before .before .before .before .before .loop in
-    let a = c .before .before .before .before .before .before .before .before .args in
+    let start = c .before .before .before .before .before .before .before .before in
+    let loop = c .before .before .before .before .before .loop in
+    let l = loop in
+    let a = start .args in
     let m = word (c .before) .room in
     (rw (l .inv .3 ∙ text-end (a .s .now) (l .at) (l .n) (l .out) (c .before .before .got .given .0 .0) (l .first) (word (c .before)) (c .if1 .taken)) (refl, refl), (omega arith, omega arith, omega arith, omega arith))
 
@@ -65,8 +68,10 @@ loop-less c = let r = word (c .before .before) .room in omega arith
 
 loop-again : tie.Need-loop-again Inv-loop μ-loop
 loop-again c =
-    let l = c .before .before .before .before .before .before .loop in
-    let a = c .before .before .before .before .before .before .before .before .before .args in
+    let start = c .before .before .before .before .before .before .before .before .before in
+    let loop = c .before .before .before .before .before .before .loop in
+    let l = loop in
+    let a = start .args in
     let r = word (c .before .before) in
     let m = r .room in
     (l .inv .0, omega arith, omega arith, l .inv .3 ∙ text-switch (a .s .now) (l .at) (l .n) (l .out) (c .before .before .before .got .given .0 .0) (l .first) r (c .before .if1 .left) (c .if2 .taken), omega arith, omega arith)
@@ -85,7 +90,9 @@ loop-less-2 c = let r = word (c .before .before .before .before .before .before 
 
 loop-again-2 : tie.Need-loop-again-2 Inv-loop μ-loop
 loop-again-2 c =
-    let k = c .before .before .before .before .before .before in
+    let before = c .before .before .before .before .before .before in
+    let if2 = c .before .before .before .before .before .if2 in
+    let k = before in
     let l = k .before .before .before .before .before .loop in
     let a = k .before .before .before .before .before .before .before .before .args in
     let r = word (k .before) in
@@ -95,7 +102,7 @@ loop-again-2 c =
       p .kept .0 ∙ l .inv .0,
       omega arith,
       omega arith,
-      l .inv .3 ∙ text-byte (a .s .now) (l .at) (l .n) (l .out) (k .before .before .got .given .0 .0) (l .first) r (k .if1 .left) (c .before .before .before .before .before .if2 .left) ∙ ap (λ (x : List ℕ). textAt (a .s .now) (l .at + 6) (l .n + 1) x (l .first)) (sym e),
+      l .inv .3 ∙ text-byte (a .s .now) (l .at) (l .n) (l .out) (k .before .before .got .given .0 .0) (l .first) r (k .if1 .left) (if2 .left) ∙ ap (λ (x : List ℕ). textAt (a .s .now) (l .at + 6) (l .n + 1) x (l .first)) (sym e),
       omega arith,
       omega arith,
     )

@@ -18,7 +18,10 @@ same-length c = search needs
 
 returns : tie.Need-returns
 unfolding alignment
-returns c = next (c .before .before .before .before .before .before .before .before .before .before .rows-ends .ensures) (next (c .before .before .before .before .before .before .columns-ends .ensures) (c .before .before .crossings .ensures))
+returns c =
+    let rows-ends = c .before .before .before .before .before .before .before .before .before .before .rows-ends in
+    let columns-ends = c .before .before .before .before .before .before .columns-ends in
+    next (rows-ends .ensures) (next (columns-ends .ensures) (c .before .before .crossings .ensures))
 
 pub alignment-spec : {M : Type 1} → statement M
 alignment-spec =

@@ -27,10 +27,16 @@ same-length c = search needs
 
 returns : tie.Need-returns
 unfolding assistant
-returns c = let o = c .before .before .before .before .before .before .before .before .before .before .before .before .before .before .before in
-    let up = heard (λ a b. threeAt a b light) (o .fits .x) (ok (c .before .before .before .before .before .before .before .before .before .before .before .before .back .result) (c .before .before .before .before .before .before .before .before .before .before .before .before .back .ok)) refl (c .before .before .before .before .before .before .before .before .before .before .before .before .back .ensures ∙ read (λ z. z -ℤ pos 1) (o .fits .y)) (c .before .before .before .before .before .before .before .before .before .before .before .three .ensures) in
-    let middle = heard (λ a b. threeAt a b dark) (o .fits .x) (o .fits .y) refl refl (c .before .before .before .before .before .before .before .three2 .ensures) in
-    let low = heard (λ a b. threeAt a b light) (o .fits .x) (ok (c .before .before .before .forth .result) (c .before .before .before .forth .ok)) refl (c .before .before .before .forth .ensures ∙ read (λ z. z +ℤ pos 1) (o .fits .y)) (c .before .before .three3 .ensures) in
+returns c =
+    let before = c .before .before .before .before .before .before .before .before .before .before .before .before .before .before .before in
+    let back = c .before .before .before .before .before .before .before .before .before .before .before .before .back in
+    let three = c .before .before .before .before .before .before .before .before .before .before .before .three in
+    let three2 = c .before .before .before .before .before .before .before .three2 in
+    let forth = c .before .before .before .forth in
+    let o = before in
+    let up = heard (λ a b. threeAt a b light) (o .fits .x) (ok (back .result) (back .ok)) refl (back .ensures ∙ read (λ z. z -ℤ pos 1) (o .fits .y)) (three .ensures) in
+    let middle = heard (λ a b. threeAt a b dark) (o .fits .x) (o .fits .y) refl refl (three2 .ensures) in
+    let low = heard (λ a b. threeAt a b light) (o .fits .x) (ok (forth .result) (forth .ok)) refl (forth .ensures ∙ read (λ z. z +ℤ pos 1) (o .fits .y)) (c .before .before .three3 .ensures) in
     next up (next middle low)
 
 pub assistant-spec : {M : Type 1} → statement M

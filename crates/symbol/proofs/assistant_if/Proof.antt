@@ -14,10 +14,17 @@ same-length : tie.Need-same-length
 same-length c = search needs
 
 returns : tie.Need-returns
-returns c = subst (λ (b : Bool). Plotted (c .before .before .before .before .before .before .args .side) (when b (assistant (c .before .before .before .before .before .before .args .x) (c .before .before .before .before .before .before .args .y))) (c .before .before .before .before .before .before .args .grid .now) (c .before .before .assistant .last .0)) (sym (c .before .before .before .before .if1 .taken)) (heard assistant (c .before .before .before .before .before .before .fits .x) (c .before .before .before .before .before .before .fits .y) refl refl (c .before .before .assistant .ensures))
+returns c =
+    let start = c .before .before .before .before .before .before in
+    let fits = c .before .before .before .before .before .before .fits in
+    let if1 = c .before .before .before .before .if1 in
+    let assistant′ = c .before .before .assistant in
+    subst (λ (b : Bool). Plotted (start .args .side) (when b (assistant (start .args .x) (start .args .y))) (start .args .grid .now) (assistant′ .last .0)) (sym (if1 .taken)) (heard assistant (fits .x) (fits .y) refl refl (assistant′ .ensures))
 
 returns-2 : tie.Need-returns-2
-returns-2 c = subst (λ (b : Bool). Plotted (c .before .before .args .side) (when b (assistant (c .before .before .args .x) (c .before .before .args .y))) (c .before .before .args .grid .now) (c .before .before .args .grid .now)) (sym (c .if1 .left)) none
+returns-2 c =
+    let start = c .before .before in
+    subst (λ (b : Bool). Plotted (start .args .side) (when b (assistant (start .args .x) (start .args .y))) (start .args .grid .now) (start .args .grid .now)) (sym (c .if1 .left)) none
 
 pub assistant-if-spec : {M : Type 1} → statement M
 assistant-if-spec = tie.close (tie.spec assistant-requires same-length returns returns-2)

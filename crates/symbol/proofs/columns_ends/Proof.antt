@@ -24,28 +24,53 @@ signed-requires : tie.Need-signed-requires Inv-loop μ-loop
 signed-requires c κs = omega (arith, c .before .before .pre .spaced .side-is, c .before .before .pre .spaced .high)
 
 loop-holds : tie.Need-loop-holds Inv-loop μ-loop
-loop-holds c = begin (c .before .before .before .args .p) columnOf (columnEnds (c .before .before .before .args .p .version)) (c .before .before .before .args .grid .now) (toZ-ofZ (ok (c .signed .result) (c .signed .ok)) ∙ c .signed .ensures ∙ ap (λ (k : ℕ). pos (k - 1)) (c .before .before .before .pre .spaced .side-is) ∙ column-start (c .before .before .before .args .p .version))
+loop-holds c =
+    let start = c .before .before .before in
+    begin (start .args .p) columnOf (columnEnds (start .args .p .version)) (start .args .grid .now) (toZ-ofZ (ok (c .signed .result) (c .signed .ok)) ∙ c .signed .ensures ∙ ap (λ (k : ℕ). pos (k - 1)) (start .pre .spaced .side-is) ∙ column-start (start .args .p .version))
 
 column-ends-requires : tie.Need-column-ends-requires Inv-loop μ-loop
-column-ends-requires c κs = (roomy (c .before .before .before .before .before .before .pre) (c .before .before .loop .inv), on (c .before .before .before .before .before .before .pre) (c .before .before .loop .inv) (column-inside (c .before .before .before .before .before .before .pre .spaced) (c .before .before .loop .n) (c .before .before .loop .inv .few) (c .before .before .loop .inv .here) (c .before .loop-test .taken)))
+column-ends-requires c κs =
+    let start = c .before .before .before .before .before .before in
+    let loop = c .before .before .loop in
+    (roomy (start .pre) (loop .inv), on (start .pre) (loop .inv) (column-inside (start .pre .spaced) (loop .n) (loop .inv .few) (loop .inv .here) (c .before .loop-test .taken)))
 
 next-column-requires : tie.Need-next-column-requires Inv-loop μ-loop
-next-column-requires c κs = (c .before .before .before .before .before .before .before .before .before .pre .spaced, on (c .before .before .before .before .before .before .before .before .before .pre) (c .before .before .before .before .before .loop .inv) (column-inside (c .before .before .before .before .before .before .before .before .before .pre .spaced) (c .before .before .before .before .before .loop .n) (c .before .before .before .before .before .loop .inv .few) (c .before .before .before .before .before .loop .inv .here) (c .before .before .before .before .loop-test .taken)))
+next-column-requires c κs =
+    let start = c .before .before .before .before .before .before .before .before .before in
+    let loop = c .before .before .before .before .before .loop in
+    let loop-test = c .before .before .before .before .loop-test in
+    (start .pre .spaced, on (start .pre) (loop .inv) (column-inside (start .pre .spaced) (loop .n) (loop .inv .few) (loop .inv .here) (loop-test .taken)))
 
 add-n : tie.Need-add-n Inv-loop μ-loop
-add-n c = omega (arith, small (c .before .before .before .before .before .before .before .before .before .before .pre) (c .before .before .before .before .before .before .loop .inv) (column-inside (c .before .before .before .before .before .before .before .before .before .before .pre .spaced) (c .before .before .before .before .before .before .loop .n) (c .before .before .before .before .before .before .loop .inv .few) (c .before .before .before .before .before .before .loop .inv .here) (c .before .before .before .before .before .loop-test .taken)))
+add-n c =
+    let start = c .before .before .before .before .before .before .before .before .before .before in
+    let loop = c .before .before .before .before .before .before .loop in
+    let loop-test = c .before .before .before .before .before .loop-test in
+    omega (arith, small (start .pre) (loop .inv) (column-inside (start .pre .spaced) (loop .n) (loop .inv .few) (loop .inv .here) (loop-test .taken)))
 
 loop-less : tie.Need-loop-less Inv-loop μ-loop
-loop-less c = omega (arith, (column-inside (c .before .before .before .before .before .before .before .before .before .before .pre .spaced) (c .before .before .before .before .before .before .loop .n) (c .before .before .before .before .before .before .loop .inv .few) (c .before .before .before .before .before .before .loop .inv .here) (c .before .before .before .before .before .loop-test .taken)))
+loop-less c =
+    let start = c .before .before .before .before .before .before .before .before .before .before in
+    let loop = c .before .before .before .before .before .before .loop in
+    let loop-test = c .before .before .before .before .before .loop-test in
+    omega (arith, (column-inside (start .pre .spaced) (loop .n) (loop .inv .few) (loop .inv .here) (loop-test .taken)))
 
 loop-again : tie.Need-loop-again Inv-loop μ-loop
-loop-again c = further (c .before .before .before .before .before .before .before .before .before .before .pre) (c .before .before .before .before .before .before .loop .inv) (column-inside (c .before .before .before .before .before .before .before .before .before .before .pre .spaced) (c .before .before .before .before .before .before .loop .n) (c .before .before .before .before .before .before .loop .inv .few) (c .before .before .before .before .before .before .loop .inv .here) (c .before .before .before .before .before .loop-test .taken)) (c .before .before .before .column-ends .ensures) (c .before .before .before .column-ends .kept .0) (toZ-ofZ (ok (c .next-column .result) (c .next-column .ok)) ∙ c .next-column .ensures)
+loop-again c =
+    let start = c .before .before .before .before .before .before .before .before .before .before in
+    let loop = c .before .before .before .before .before .before .loop in
+    let loop-test = c .before .before .before .before .before .loop-test in
+    let column-ends = c .before .before .before .column-ends in
+    further (start .pre) (loop .inv) (column-inside (start .pre .spaced) (loop .n) (loop .inv .few) (loop .inv .here) (loop-test .taken)) (column-ends .ensures) (column-ends .kept .0) (toZ-ofZ (ok (c .next-column .result) (c .next-column .ok)) ∙ c .next-column .ensures)
 
 same-length : tie.Need-same-length Inv-loop μ-loop
 same-length c = c .before .loop .inv .kept
 
 returns : tie.Need-returns Inv-loop μ-loop
-returns c = done (c .before .before .before .before .before .pre) (c .before .loop .inv) (column-last (c .before .before .before .before .before .pre .spaced) (c .before .loop .n) (c .before .loop .inv .few) (c .before .loop .inv .here) (c .loop-test .left))
+returns c =
+    let start = c .before .before .before .before .before in
+    let loop = c .before .loop in
+    done (start .pre) (loop .inv) (column-last (start .pre .spaced) (loop .n) (loop .inv .few) (loop .inv .here) (c .loop-test .left))
 
 pub columns-ends-spec : {M : Type 1} → statement M
 columns-ends-spec =

@@ -14,19 +14,30 @@ run-requires : tie.Need-run-requires
 run-requires c κs = search needs
 
 line-ends-requires : tie.Need-line-ends-requires
-line-ends-requires c κs = (c .before .before .before .before .before .before .pre .0, c .before .before .before .before .before .before .pre .1, omega (arith, c .before .before .before .before .before .before .pre .2, c .before .before .before .run .kept .0), omega arith, omega (arith, c .before .before .before .before .before .before .pre .0), near-upper (c .before .before .before .before .before .before .args .side), all-blank (cornerKind (c .before .before .before .before .before .before .args .side)) (c .before .before .before .before .before .before .args .side * c .before .before .before .before .before .before .args .side) (0 * c .before .before .before .before .before .before .args .side) (zero-mul (c .before .before .before .before .before .before .args .side)) (c .before .before .before .run .ensures))
+line-ends-requires c κs =
+    let start = c .before .before .before .before .before .before in
+    let run = c .before .before .before .run in
+    (start .pre .0, start .pre .1, omega (arith, start .pre .2, run .kept .0), omega arith, omega (arith, start .pre .0), near-upper (start .args .side), all-blank (cornerKind (start .args .side)) (start .args .side * start .args .side) (0 * start .args .side) (zero-mul (start .args .side)) (run .ensures))
 
 sub-line-ends : tie.Need-sub-line-ends
 sub-line-ends c = search needs
 
 line-ends-requires-2 : tie.Need-line-ends-requires-2
-line-ends-requires-2 c κs = (c .before .before .before .before .before .before .before .before .before .before .pre .0, c .before .before .before .before .before .before .before .before .before .before .pre .1, omega (arith, c .before .before .before .before .before .before .before .before .before .before .pre .2, c .before .before .before .line-ends .kept .0, c .before .before .before .before .before .before .before .run .kept .0), omega arith, omega arith, near-lower (c .before .before .before .before .before .before .before .before .before .before .args .side), data-rows (c .before .before .before .before .before .before .before .before .before .before .args .side) (c .before .before .before .before .before .before .before .before .before .before .pre .0) (c .before .before .before .line-ends .ensures .0))
+line-ends-requires-2 c κs =
+    let start = c .before .before .before .before .before .before .before .before .before .before in
+    let run = c .before .before .before .before .before .before .before .run in
+    let line-ends = c .before .before .before .line-ends in
+    (start .pre .0, start .pre .1, omega (arith, start .pre .2, line-ends .kept .0, run .kept .0), omega arith, omega arith, near-lower (start .args .side), data-rows (start .args .side) (start .pre .0) (line-ends .ensures .0))
 
 same-length : tie.Need-same-length
 same-length c = search needs
 
 returns : tie.Need-returns
-returns c = corners-stored (c .before .before .before .before .before .before .before .before .before .before .run .ensures) (c .before .before .before .before .before .before .line-ends .ensures .1) (c .before .before .line-ends2 .ensures .1) (c .before .before .line-ends2 .ensures .0)
+returns c =
+    let run = c .before .before .before .before .before .before .before .before .before .before .run in
+    let line-ends = c .before .before .before .before .before .before .line-ends in
+    let line-ends2 = c .before .before .line-ends2 in
+    corners-stored (run .ensures) (line-ends .ensures .1) (line-ends2 .ensures .1) (line-ends2 .ensures .0)
 
 pub corners-spec : {M : Type 1} → statement M
 corners-spec =

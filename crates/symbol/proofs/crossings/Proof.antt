@@ -22,29 +22,60 @@ signed-requires c κs = omega (arith, c .before .pre .spaced .side-is, c .before
 
 loop-holds : tie.Need-loop-holds Inv-loop μ-loop
 unfolding lineOf
-loop-holds c = begin (c .before .before .args .p) rowOf (λ k. each (mOf (c .before .before .args .p .version) + 2) (crossing (c .before .before .args .p .version) k)) (c .before .before .args .grid .now) refl
+loop-holds c =
+    let start = c .before .before in
+    begin (start .args .p) rowOf (λ k. each (mOf (start .args .p .version) + 2) (crossing (start .args .p .version) k)) (start .args .grid .now) refl
 
 row-crossings-requires : tie.Need-row-crossings-requires Inv-loop μ-loop
-row-crossings-requires c κs = (roomy (c .before .before .before .before .before .pre) (c .before .before .loop .inv), on (c .before .before .before .before .before .pre) (c .before .before .loop .inv) (row-inside (c .before .before .before .before .before .pre .spaced) (c .before .before .loop .n) (c .before .before .loop .inv .few) (c .before .before .loop .inv .here) (toZ-ofZ (ok (c .before .before .before .signed .result) (c .before .before .before .signed .ok)) ∙ c .before .before .before .signed .ensures ∙ ap pos (c .before .before .before .before .before .pre .spaced .side-is)) (c .before .loop-test .taken)))
+row-crossings-requires c κs =
+    let start = c .before .before .before .before .before in
+    let signed = c .before .before .before .signed in
+    let loop = c .before .before .loop in
+    (roomy (start .pre) (loop .inv), on (start .pre) (loop .inv) (row-inside (start .pre .spaced) (loop .n) (loop .inv .few) (loop .inv .here) (toZ-ofZ (ok (signed .result) (signed .ok)) ∙ signed .ensures ∙ ap pos (start .pre .spaced .side-is)) (c .before .loop-test .taken)))
 
 next-row-requires : tie.Need-next-row-requires Inv-loop μ-loop
-next-row-requires c κs = (c .before .before .before .before .before .before .before .before .pre .spaced, on (c .before .before .before .before .before .before .before .before .pre) (c .before .before .before .before .before .loop .inv) (row-inside (c .before .before .before .before .before .before .before .before .pre .spaced) (c .before .before .before .before .before .loop .n) (c .before .before .before .before .before .loop .inv .few) (c .before .before .before .before .before .loop .inv .here) (toZ-ofZ (ok (c .before .before .before .before .before .before .signed .result) (c .before .before .before .before .before .before .signed .ok)) ∙ c .before .before .before .before .before .before .signed .ensures ∙ ap pos (c .before .before .before .before .before .before .before .before .pre .spaced .side-is)) (c .before .before .before .before .loop-test .taken)))
+next-row-requires c κs =
+    let start = c .before .before .before .before .before .before .before .before in
+    let signed = c .before .before .before .before .before .before .signed in
+    let loop = c .before .before .before .before .before .loop in
+    let loop-test = c .before .before .before .before .loop-test in
+    (start .pre .spaced, on (start .pre) (loop .inv) (row-inside (start .pre .spaced) (loop .n) (loop .inv .few) (loop .inv .here) (toZ-ofZ (ok (signed .result) (signed .ok)) ∙ signed .ensures ∙ ap pos (start .pre .spaced .side-is)) (loop-test .taken)))
 
 add-n : tie.Need-add-n Inv-loop μ-loop
-add-n c = omega (arith, small (c .before .before .before .before .before .before .before .before .before .pre) (c .before .before .before .before .before .before .loop .inv) (row-inside (c .before .before .before .before .before .before .before .before .before .pre .spaced) (c .before .before .before .before .before .before .loop .n) (c .before .before .before .before .before .before .loop .inv .few) (c .before .before .before .before .before .before .loop .inv .here) (toZ-ofZ (ok (c .before .before .before .before .before .before .before .signed .result) (c .before .before .before .before .before .before .before .signed .ok)) ∙ c .before .before .before .before .before .before .before .signed .ensures ∙ ap pos (c .before .before .before .before .before .before .before .before .before .pre .spaced .side-is)) (c .before .before .before .before .before .loop-test .taken)))
+add-n c =
+    let start = c .before .before .before .before .before .before .before .before .before in
+    let signed = c .before .before .before .before .before .before .before .signed in
+    let loop = c .before .before .before .before .before .before .loop in
+    let loop-test = c .before .before .before .before .before .loop-test in
+    omega (arith, small (start .pre) (loop .inv) (row-inside (start .pre .spaced) (loop .n) (loop .inv .few) (loop .inv .here) (toZ-ofZ (ok (signed .result) (signed .ok)) ∙ signed .ensures ∙ ap pos (start .pre .spaced .side-is)) (loop-test .taken)))
 
 loop-less : tie.Need-loop-less Inv-loop μ-loop
-loop-less c = omega (arith, (row-inside (c .before .before .before .before .before .before .before .before .before .pre .spaced) (c .before .before .before .before .before .before .loop .n) (c .before .before .before .before .before .before .loop .inv .few) (c .before .before .before .before .before .before .loop .inv .here) (toZ-ofZ (ok (c .before .before .before .before .before .before .before .signed .result) (c .before .before .before .before .before .before .before .signed .ok)) ∙ c .before .before .before .before .before .before .before .signed .ensures ∙ ap pos (c .before .before .before .before .before .before .before .before .before .pre .spaced .side-is)) (c .before .before .before .before .before .loop-test .taken)))
+loop-less c =
+    let start = c .before .before .before .before .before .before .before .before .before in
+    let signed = c .before .before .before .before .before .before .before .signed in
+    let loop = c .before .before .before .before .before .before .loop in
+    let loop-test = c .before .before .before .before .before .loop-test in
+    omega (arith, (row-inside (start .pre .spaced) (loop .n) (loop .inv .few) (loop .inv .here) (toZ-ofZ (ok (signed .result) (signed .ok)) ∙ signed .ensures ∙ ap pos (start .pre .spaced .side-is)) (loop-test .taken)))
 
 loop-again : tie.Need-loop-again Inv-loop μ-loop
-loop-again c = further (c .before .before .before .before .before .before .before .before .before .pre) (c .before .before .before .before .before .before .loop .inv) (row-inside (c .before .before .before .before .before .before .before .before .before .pre .spaced) (c .before .before .before .before .before .before .loop .n) (c .before .before .before .before .before .before .loop .inv .few) (c .before .before .before .before .before .before .loop .inv .here) (toZ-ofZ (ok (c .before .before .before .before .before .before .before .signed .result) (c .before .before .before .before .before .before .before .signed .ok)) ∙ c .before .before .before .before .before .before .before .signed .ensures ∙ ap pos (c .before .before .before .before .before .before .before .before .before .pre .spaced .side-is)) (c .before .before .before .before .before .loop-test .taken)) (c .before .before .before .row-crossings .ensures) (c .before .before .before .row-crossings .kept .0) (toZ-ofZ (ok (c .next-row .result) (c .next-row .ok)) ∙ c .next-row .ensures)
+loop-again c =
+    let start = c .before .before .before .before .before .before .before .before .before in
+    let signed = c .before .before .before .before .before .before .before .signed in
+    let loop = c .before .before .before .before .before .before .loop in
+    let loop-test = c .before .before .before .before .before .loop-test in
+    let row-crossings = c .before .before .before .row-crossings in
+    further (start .pre) (loop .inv) (row-inside (start .pre .spaced) (loop .n) (loop .inv .few) (loop .inv .here) (toZ-ofZ (ok (signed .result) (signed .ok)) ∙ signed .ensures ∙ ap pos (start .pre .spaced .side-is)) (loop-test .taken)) (row-crossings .ensures) (row-crossings .kept .0) (toZ-ofZ (ok (c .next-row .result) (c .next-row .ok)) ∙ c .next-row .ensures)
 
 same-length : tie.Need-same-length Inv-loop μ-loop
 same-length c = c .before .loop .inv .kept
 
 returns : tie.Need-returns Inv-loop μ-loop
 unfolding crossings
-returns c = done (c .before .before .before .before .pre) (c .before .loop .inv) (row-last (c .before .before .before .before .pre .spaced) (c .before .loop .n) (c .before .loop .inv .few) (c .before .loop .inv .here) (toZ-ofZ (ok (c .before .before .signed .result) (c .before .before .signed .ok)) ∙ c .before .before .signed .ensures ∙ ap pos (c .before .before .before .before .pre .spaced .side-is)) (c .loop-test .left))
+returns c =
+    let start = c .before .before .before .before in
+    let signed = c .before .before .signed in
+    let loop = c .before .loop in
+    done (start .pre) (loop .inv) (row-last (start .pre .spaced) (loop .n) (loop .inv .few) (loop .inv .here) (toZ-ofZ (ok (signed .result) (signed .ok)) ∙ signed .ensures ∙ ap pos (start .pre .spaced .side-is)) (c .loop-test .left))
 
 pub crossings-spec : {M : Type 1} → statement M
 crossings-spec =

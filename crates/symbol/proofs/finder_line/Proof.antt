@@ -6,7 +6,9 @@ use Rattle.symbol.proofs.finder_line.Statement.{statement}
 use Rattle.symbol.proofs.finder_line.Tie as tie
 
 mul-at : tie.Need-mul-at
-mul-at c = omega (arith, row-end (c .before .args .side) (c .before .args .row) (c .before .pre .3), square-le (c .before .args .side) (c .before .pre .1), c .before .pre .0, c .before .pre .2)
+mul-at c =
+    let start = c .before in
+    omega (arith, row-end (start .args .side) (start .args .row) (start .pre .3), square-le (start .args .side) (start .pre .1), start .pre .0, start .pre .2)
 
 finder-row-requires : tie.Need-finder-row-requires
 finder-row-requires c κs = search needs
@@ -18,46 +20,74 @@ mul-modules : tie.Need-mul-modules
 mul-modules c = search needs
 
 modules-requires : tie.Need-modules-requires
-modules-requires c κs = omega (arith, row-end (c .before .before .before .before .args .side) (c .before .before .before .before .args .row) (c .before .before .before .before .pre .3), square-le (c .before .before .before .before .args .side) (c .before .before .before .before .pre .1), c .before .before .before .before .pre .0, c .before .before .before .before .pre .2)
+modules-requires c κs =
+    let start = c .before .before .before .before in
+    omega (arith, row-end (start .args .side) (start .args .row) (start .pre .3), square-le (start .args .side) (start .pre .1), start .pre .0, start .pre .2)
 
 add-run : tie.Need-add-run
-add-run c = omega (arith, row-end (c .before .before .before .before .before .before .before .before .args .side) (c .before .before .before .before .before .before .before .before .args .row) (c .before .before .before .before .before .before .before .before .pre .3), square-le (c .before .before .before .before .before .before .before .before .args .side) (c .before .before .before .before .before .before .before .before .pre .1), c .before .before .before .before .before .before .before .before .pre .0, c .before .before .before .before .before .before .before .before .pre .2)
+add-run c =
+    let start = c .before .before .before .before .before .before .before .before in
+    omega (arith, row-end (start .args .side) (start .args .row) (start .pre .3), square-le (start .args .side) (start .pre .1), start .pre .0, start .pre .2)
 
 add-run-2 : tie.Need-add-run-2
-add-run-2 c = omega (arith, row-end (c .before .before .before .before .before .before .before .before .args .side) (c .before .before .before .before .before .before .before .before .args .row) (c .before .before .before .before .before .before .before .before .pre .3), square-le (c .before .before .before .before .before .before .before .before .args .side) (c .before .before .before .before .before .before .before .before .pre .1), c .before .before .before .before .before .before .before .before .pre .0, c .before .before .before .before .before .before .before .before .pre .2)
+add-run-2 c =
+    let start = c .before .before .before .before .before .before .before .before in
+    omega (arith, row-end (start .args .side) (start .args .row) (start .pre .3), square-le (start .args .side) (start .pre .1), start .pre .0, start .pre .2)
 
 run-requires : tie.Need-run-requires
-run-requires c κs = (omega arith, omega (arith, row-end (c .before .before .before .before .before .before .before .before .args .side) (c .before .before .before .before .before .before .before .before .args .row) (c .before .before .before .before .before .before .before .before .pre .3), square-le (c .before .before .before .before .before .before .before .before .args .side) (c .before .before .before .before .before .before .before .before .pre .1), c .before .before .before .before .before .before .before .before .pre .0, c .before .before .before .before .before .before .before .before .pre .2, c .before .before .before .modules .kept .0))
+run-requires c κs =
+    let start = c .before .before .before .before .before .before .before .before in
+    (omega arith, omega (arith, row-end (start .args .side) (start .args .row) (start .pre .3), square-le (start .args .side) (start .pre .1), start .pre .0, start .pre .2, c .before .before .before .modules .kept .0))
 
 add-run-3 : tie.Need-add-run-3
-add-run-3 c = omega (arith, row-end (c .before .before .before .before .before .before .before .before .before .before .before .before .args .side) (c .before .before .before .before .before .before .before .before .before .before .before .before .args .row) (c .before .before .before .before .before .before .before .before .before .before .before .before .pre .3), square-le (c .before .before .before .before .before .before .before .before .before .before .before .before .args .side) (c .before .before .before .before .before .before .before .before .before .before .before .before .pre .1), c .before .before .before .before .before .before .before .before .before .before .before .before .pre .0, c .before .before .before .before .before .before .before .before .before .before .before .before .pre .2)
+add-run-3 c =
+    let start = c .before .before .before .before .before .before .before .before .before .before .before .before in
+    omega (arith, row-end (start .args .side) (start .args .row) (start .pre .3), square-le (start .args .side) (start .pre .1), start .pre .0, start .pre .2)
 
 sub-run : tie.Need-sub-run
 sub-run c = search needs
 
 add-run-4 : tie.Need-add-run-4
-add-run-4 c = omega (arith, row-end (c .before .before .before .before .before .before .before .before .before .before .before .before .args .side) (c .before .before .before .before .before .before .before .before .before .before .before .before .args .row) (c .before .before .before .before .before .before .before .before .before .before .before .before .pre .3), square-le (c .before .before .before .before .before .before .before .before .before .before .before .before .args .side) (c .before .before .before .before .before .before .before .before .before .before .before .before .pre .1), c .before .before .before .before .before .before .before .before .before .before .before .before .pre .0, c .before .before .before .before .before .before .before .before .before .before .before .before .pre .2)
+add-run-4 c =
+    let start = c .before .before .before .before .before .before .before .before .before .before .before .before in
+    omega (arith, row-end (start .args .side) (start .args .row) (start .pre .3), square-le (start .args .side) (start .pre .1), start .pre .0, start .pre .2)
 
 sub-run-2 : tie.Need-sub-run-2
 sub-run-2 c = search needs
 
 run-requires-2 : tie.Need-run-requires-2
-run-requires-2 c κs = (omega (arith, row-end (c .before .before .before .before .before .before .before .before .before .before .before .before .args .side) (c .before .before .before .before .before .before .before .before .before .before .before .before .args .row) (c .before .before .before .before .before .before .before .before .before .before .before .before .pre .3), square-le (c .before .before .before .before .before .before .before .before .before .before .before .before .args .side) (c .before .before .before .before .before .before .before .before .before .before .before .before .pre .1), c .before .before .before .before .before .before .before .before .before .before .before .before .pre .0, c .before .before .before .before .before .before .before .before .before .before .before .before .pre .2), omega (arith, row-end (c .before .before .before .before .before .before .before .before .before .before .before .before .args .side) (c .before .before .before .before .before .before .before .before .before .before .before .before .args .row) (c .before .before .before .before .before .before .before .before .before .before .before .before .pre .3), square-le (c .before .before .before .before .before .before .before .before .before .before .before .before .args .side) (c .before .before .before .before .before .before .before .before .before .before .before .before .pre .1), c .before .before .before .before .before .before .before .before .before .before .before .before .pre .0, c .before .before .before .before .before .before .before .before .before .before .before .before .pre .2, c .before .before .before .run .kept .0, c .before .before .before .before .before .before .before .modules .kept .0))
+run-requires-2 c κs =
+    let start = c .before .before .before .before .before .before .before .before .before .before .before .before in
+    let modules = c .before .before .before .before .before .before .before .modules in
+    (omega (arith, row-end (start .args .side) (start .args .row) (start .pre .3), square-le (start .args .side) (start .pre .1), start .pre .0, start .pre .2), omega (arith, row-end (start .args .side) (start .args .row) (start .pre .3), square-le (start .args .side) (start .pre .1), start .pre .0, start .pre .2, c .before .before .before .run .kept .0, modules .kept .0))
 
 add-modules : tie.Need-add-modules
-add-modules c = omega (arith, row-end (c .before .before .before .before .before .before .before .before .before .before .before .before .before .before .before .before .args .side) (c .before .before .before .before .before .before .before .before .before .before .before .before .before .before .before .before .args .row) (c .before .before .before .before .before .before .before .before .before .before .before .before .before .before .before .before .pre .3), square-le (c .before .before .before .before .before .before .before .before .before .before .before .before .before .before .before .before .args .side) (c .before .before .before .before .before .before .before .before .before .before .before .before .before .before .before .before .pre .1), c .before .before .before .before .before .before .before .before .before .before .before .before .before .before .before .before .pre .0, c .before .before .before .before .before .before .before .before .before .before .before .before .before .before .before .before .pre .2)
+add-modules c =
+    let start = c .before .before .before .before .before .before .before .before .before .before .before .before .before .before .before .before in
+    omega (arith, row-end (start .args .side) (start .args .row) (start .pre .3), square-le (start .args .side) (start .pre .1), start .pre .0, start .pre .2)
 
 sub-modules : tie.Need-sub-modules
 sub-modules c = search needs
 
 modules-requires-2 : tie.Need-modules-requires-2
-modules-requires-2 c κs = omega (arith, row-end (c .before .before .before .before .before .before .before .before .before .before .before .before .before .before .before .before .args .side) (c .before .before .before .before .before .before .before .before .before .before .before .before .before .before .before .before .args .row) (c .before .before .before .before .before .before .before .before .before .before .before .before .before .before .before .before .pre .3), square-le (c .before .before .before .before .before .before .before .before .before .before .before .before .before .before .before .before .args .side) (c .before .before .before .before .before .before .before .before .before .before .before .before .before .before .before .before .pre .1), c .before .before .before .before .before .before .before .before .before .before .before .before .before .before .before .before .pre .0, c .before .before .before .before .before .before .before .before .before .before .before .before .before .before .before .before .pre .2, c .before .before .before .run2 .kept .0, c .before .before .before .before .before .before .before .run .kept .0, c .before .before .before .before .before .before .before .before .before .before .before .modules .kept .0)
+modules-requires-2 c κs =
+    let start = c .before .before .before .before .before .before .before .before .before .before .before .before .before .before .before .before in
+    let modules = c .before .before .before .before .before .before .before .before .before .before .before .modules in
+    let run = c .before .before .before .before .before .before .before .run in
+    omega (arith, row-end (start .args .side) (start .args .row) (start .pre .3), square-le (start .args .side) (start .pre .1), start .pre .0, start .pre .2, c .before .before .before .run2 .kept .0, run .kept .0, modules .kept .0)
 
 same-length : tie.Need-same-length
 same-length c = search needs
 
 returns : tie.Need-returns
-returns c = finder-row (c .before .before .before .before .before .before .before .before .before .before .before .before .before .before .before .before .before .before .before .args .side) (c .before .before .before .before .before .before .before .before .before .before .before .before .before .before .before .before .before .before .before .args .row) (c .before .before .before .before .before .before .before .before .before .before .before .before .before .before .before .before .before .before .before .pre .0) (c .before .before .before .before .before .before .before .before .before .before .before .before .before .before .before .before .before .before .before .pre .3) (c .before .before .before .before .before .before .before .before .before .before .before .before .before .before .before .before .before .finder-row .result) (c .before .before .before .before .before .before .before .before .before .before .before .before .before .before .before .before .finder-row2 .result) (c .before .before .before .before .before .before .before .before .before .before .before .before .before .before .before .before .before .before .before .pre .4) (c .before .before .before .before .before .before .before .before .before .before .before .before .before .before .before .before .before .finder-row .ensures) (c .before .before .before .before .before .before .before .before .before .before .before .before .before .before .before .before .finder-row2 .ensures) (c .before .before .before .before .before .before .before .before .before .before .before .before .before .before .modules .ensures) (c .before .before .before .before .before .before .before .before .before .before .run .ensures) (c .before .before .before .before .before .before .run2 .ensures) (c .before .before .modules2 .ensures)
+returns c =
+    let start = c .before .before .before .before .before .before .before .before .before .before .before .before .before .before .before .before .before .before .before in
+    let finder-row′ = c .before .before .before .before .before .before .before .before .before .before .before .before .before .before .before .before .before .finder-row in
+    let finder-row2 = c .before .before .before .before .before .before .before .before .before .before .before .before .before .before .before .before .finder-row2 in
+    let modules = c .before .before .before .before .before .before .before .before .before .before .before .before .before .before .modules in
+    let run = c .before .before .before .before .before .before .before .before .before .before .run in
+    let run2 = c .before .before .before .before .before .before .run2 in
+    finder-row (start .args .side) (start .args .row) (start .pre .0) (start .pre .3) (finder-row′ .result) (finder-row2 .result) (start .pre .4) (finder-row′ .ensures) (finder-row2 .ensures) (modules .ensures) (run .ensures) (run2 .ensures) (c .before .before .modules2 .ensures)
 
 pub finder-line-spec : {M : Type 1} → statement M
 finder-line-spec =

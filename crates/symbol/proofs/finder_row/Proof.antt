@@ -12,7 +12,9 @@ finder-at-requires : tie.Need-finder-at-requires
 finder-at-requires c κs = search needs
 
 returns : tie.Need-returns
-returns c = (c .finder-at .ensures .1, (λ l. c .finder-at .ensures .0 ∙ sym (upper-row (c .before .before .args .side) (c .before .before .args .right) (c .before .before .args .row) (c .before .if1 .taken)), λ e. absurd (omega (arith, edge-top (c .before .before .args .side) (c .before .before .args .row)))))
+returns c =
+    let start = c .before .before in
+    (c .finder-at .ensures .1, (λ l. c .finder-at .ensures .0 ∙ sym (upper-row (start .args .side) (start .args .right) (start .args .row) (c .before .if1 .taken)), λ e. absurd (omega (arith, edge-top (start .args .side) (start .args .row)))))
 
 sub-if2 : tie.Need-sub-if2
 sub-if2 c = search needs
@@ -33,10 +35,14 @@ finder-at-requires-2 : tie.Need-finder-at-requires-2
 finder-at-requires-2 c κs = search needs
 
 returns-2 : tie.Need-returns-2
-returns-2 c = (c .finder-at2 .ensures .1, (λ l. c .finder-at2 .ensures .0 ∙ sym (lower-row (c .before .before .before .args .side) (c .before .before .before .args .right) (c .before .before .before .args .row) (c .before .before .if1 .left)), λ e. absurd (omega (arith, edge-bottom (c .before .before .before .args .side) (c .before .before .before .args .row)))))
+returns-2 c =
+    let start = c .before .before .before in
+    (c .finder-at2 .ensures .1, (λ l. c .finder-at2 .ensures .0 ∙ sym (lower-row (start .args .side) (start .args .right) (start .args .row) (c .before .before .if1 .left)), λ e. absurd (omega (arith, edge-bottom (start .args .side) (start .args .row)))))
 
 returns-3 : tie.Need-returns-3
-returns-3 c = (omega arith, (λ l. absurd (omega (arith, edge-low (c .before .before .args .side) (c .before .before .args .row) 7 l (c .before .if1 .left))), λ e. refl))
+returns-3 c =
+    let start = c .before .before in
+    (omega arith, (λ l. absurd (omega (arith, edge-low (start .args .side) (start .args .row) 7 l (c .before .if1 .left))), λ e. refl))
 
 pub finder-row-spec : {M : Type 1} → statement M
 finder-row-spec =

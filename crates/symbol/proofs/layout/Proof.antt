@@ -22,7 +22,9 @@ mul-if3 : tie.Need-mul-if3
 mul-if3 c = omega (arith, square-le (c .side .result) (omega (arith, c .side .ensures, c .before .if2 .left)))
 
 returns-3 : tie.Need-returns-3
-returns-3 c = too-short (c .before .before .before .before .before .args .version) (c .before .before .before .before .before .args .out .now) (c .before .before .before .if1 .left) (c .before .before .if2 .left) (subst (λ (k : ℕ). length (c .before .before .before .before .before .args .out .now) < k * k) (c .before .side .ensures) (c .if3 .taken))
+returns-3 c =
+    let start = c .before .before .before .before .before in
+    too-short (start .args .version) (start .args .out .now) (c .before .before .before .if1 .left) (c .before .before .if2 .left) (subst (λ (k : ℕ). length (start .args .out .now) < k * k) (c .before .side .ensures) (c .if3 .taken))
 
 corners-requires : tie.Need-corners-requires
 corners-requires c κs = search needs
@@ -31,19 +33,38 @@ same-length : tie.Need-same-length
 same-length c = search needs
 
 returns-4 : tie.Need-returns-4
-returns-4 c = small (c .before .before .before .before .before .before .before .before .before .before .args .version) (c .before .before .before .before .before .before .before .before .before .before .args .out .now) (c .before .before .before .before .before .before .before .before .if1 .left) (c .before .before .before .before .before .before .before .if2 .left) (subst (λ (k : ℕ). k * k ≤ length (c .before .before .before .before .before .before .before .before .before .before .args .out .now)) (c .before .before .before .before .before .before .side .ensures) (c .before .before .before .before .before .if3 .left)) (c .before .before .before .before .before .before .side .ensures) (c .before .before .before .corners .ensures) (c .if4 .taken)
+returns-4 c =
+    let start = c .before .before .before .before .before .before .before .before .before .before in
+    let if1 = c .before .before .before .before .before .before .before .before .if1 in
+    let if2 = c .before .before .before .before .before .before .before .if2 in
+    let side = c .before .before .before .before .before .before .side in
+    let if3 = c .before .before .before .before .before .if3 in
+    small (start .args .version) (start .args .out .now) (if1 .left) (if2 .left) (subst (λ (k : ℕ). k * k ≤ length (start .args .out .now)) (side .ensures) (if3 .left)) (side .ensures) (c .before .before .before .corners .ensures) (c .if4 .taken)
 
 spacing-of-requires : tie.Need-spacing-of-requires
 spacing-of-requires c κs = search needs
 
 alignment-requires : tie.Need-alignment-requires
-alignment-requires c κs = record { spaced = c .spacing-of .ensures .0; room = subst (λ (k : ℕ). sideOf k * sideOf k ≤ length (c .before .before .before .before .before .corners .last .0)) (sym (c .spacing-of .ensures .1)) (omega (arith, c .before .before .before .before .before .corners .kept .0, subst (λ (k : ℕ). k * k ≤ length (c .before .before .before .before .before .before .before .before .before .before .before .before .args .out .now)) (c .before .before .before .before .before .before .before .before .side .ensures) (c .before .before .before .before .before .before .before .if3 .left))) }
+alignment-requires c κs =
+    let start = c .before .before .before .before .before .before .before .before .before .before .before .before in
+    let side = c .before .before .before .before .before .before .before .before .side in
+    let if3 = c .before .before .before .before .before .before .before .if3 in
+    let corners = c .before .before .before .before .before .corners in
+    record { spaced = c .spacing-of .ensures .0; room = subst (λ (k : ℕ). sideOf k * sideOf k ≤ length (corners .last .0)) (sym (c .spacing-of .ensures .1)) (omega (arith, corners .kept .0, subst (λ (k : ℕ). k * k ≤ length (start .args .out .now)) (side .ensures) (if3 .left))) }
 
 same-length-2 : tie.Need-same-length-2
 same-length-2 c = search needs
 
 returns-5 : tie.Need-returns-5
-returns-5 c = large (c .before .before .before .before .before .before .before .before .before .before .before .before .before .before .before .args .version) (c .before .before .before .before .before .before .before .before .before .before .before .before .before .before .before .args .out .now) (c .before .before .before .before .before .before .before .before .before .before .before .before .before .if1 .left) (c .before .before .before .before .before .before .before .before .before .before .before .before .if2 .left) (subst (λ (k : ℕ). k * k ≤ length (c .before .before .before .before .before .before .before .before .before .before .before .before .before .before .before .args .out .now)) (c .before .before .before .before .before .before .before .before .before .before .before .side .ensures) (c .before .before .before .before .before .before .before .before .before .before .if3 .left)) (c .before .before .before .before .before .before .before .before .before .before .before .side .ensures) (c .before .before .before .before .before .before .before .before .corners .ensures) (c .before .before .before .before .before .if4 .left) (c .before .before .before .spacing-of .ensures .1) (c .before .before .alignment .ensures)
+returns-5 c =
+    let start = c .before .before .before .before .before .before .before .before .before .before .before .before .before .before .before in
+    let if1 = c .before .before .before .before .before .before .before .before .before .before .before .before .before .if1 in
+    let if2 = c .before .before .before .before .before .before .before .before .before .before .before .before .if2 in
+    let side = c .before .before .before .before .before .before .before .before .before .before .before .side in
+    let if3 = c .before .before .before .before .before .before .before .before .before .before .if3 in
+    let corners = c .before .before .before .before .before .before .before .before .corners in
+    let if4 = c .before .before .before .before .before .if4 in
+    large (start .args .version) (start .args .out .now) (if1 .left) (if2 .left) (subst (λ (k : ℕ). k * k ≤ length (start .args .out .now)) (side .ensures) (if3 .left)) (side .ensures) (corners .ensures) (if4 .left) (c .before .before .before .spacing-of .ensures .1) (c .before .before .alignment .ensures)
 
 pub layout-spec : {M : Type 1} → statement M
 layout-spec =

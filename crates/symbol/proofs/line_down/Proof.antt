@@ -34,8 +34,11 @@ forth-requires : tie.Need-forth-requires Inv-loop μ-loop
 forth-requires c κs = let o = c .before .before .before .before in (near 1000 (o .fits .y) (omega arith), omega arith)
 
 line-module-requires : tie.Need-line-module-requires Inv-loop μ-loop
-line-module-requires c κs = let o = c .before .before .before .before .before in
-    let e : mag (c .forth .result) < 1000 = subst (λ (z : ℤ). mag z < 1000) (sym (c .forth .ensures ∙ read (λ z. z +ℤ pos (c .before .before .before .loop .i + 1)) (o .fits .y))) (omega (arith, mag-forth (o .args .y) ((c .before .before .before .loop .i + 1)))) in
+line-module-requires c κs =
+    let before = c .before .before .before .before .before in
+    let loop = c .before .before .before .loop in
+    let o = before in
+    let e : mag (c .forth .result) < 1000 = subst (λ (z : ℤ). mag z < 1000) (sym (c .forth .ensures ∙ read (λ z. z +ℤ pos (loop .i + 1)) (o .fits .y))) (omega (arith, mag-forth (o .args .y) ((loop .i + 1)))) in
     (search needs, omega arith, near 1000 (o .fits .x) (omega arith), near 1000 (ok (c .forth .result) (c .forth .ok)) e)
 
 add-i : tie.Need-add-i Inv-loop μ-loop
@@ -45,9 +48,14 @@ loop-less : tie.Need-loop-less Inv-loop μ-loop
 loop-less c = omega arith
 
 loop-again : tie.Need-loop-again Inv-loop μ-loop
-loop-again c = let o = c .before .before .before .before .before .before .before .before in
-    let l = c .before .before .before .before .before .before .loop in
-    (turn (λ n. lineModule (toZ w64 (ofZ w64 (o .args .x))) ((toZ w64 (ofZ w64 (o .args .y))) +ℤ pos (n + 1))) (l .i) (l .inv .0) (heard lineModule (o .fits .x) (ok (c .before .before .before .forth .result) (c .before .before .before .forth .ok)) (sym (toZ-ofZ (o .fits .x))) (c .before .before .before .forth .ensures) (c .before .before .line-module .ensures)), omega arith, c .before .before .line-module .kept .0 ∙ l .inv .2)
+loop-again c =
+    let before = c .before .before .before .before .before .before .before .before in
+    let loop = c .before .before .before .before .before .before .loop in
+    let forth = c .before .before .before .forth in
+    let line-module = c .before .before .line-module in
+    let o = before in
+    let l = loop in
+    (turn (λ n. lineModule (toZ w64 (ofZ w64 (o .args .x))) ((toZ w64 (ofZ w64 (o .args .y))) +ℤ pos (n + 1))) (l .i) (l .inv .0) (heard lineModule (o .fits .x) (ok (forth .result) (forth .ok)) (sym (toZ-ofZ (o .fits .x))) (forth .ensures) (line-module .ensures)), omega arith, line-module .kept .0 ∙ l .inv .2)
 
 same-length : tie.Need-same-length Inv-loop μ-loop
 same-length c = c .before .loop .inv .2

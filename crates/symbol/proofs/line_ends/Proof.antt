@@ -17,22 +17,37 @@ loop-holds : tie.Need-loop-holds Inv-loop μ-loop
 loop-holds c = (c .before .pre .6, beyond-none, omega arith, c .before .pre .3)
 
 line-requires : tie.Need-line-requires Inv-loop μ-loop
-line-requires c κs = (c .before .before .before .before .pre .0, c .before .before .before .before .pre .1, omega (arith, c .before .before .before .before .pre .2, c .before .before .loop .inv .1 .size), omega (arith, c .before .loop-test .taken, c .before .before .before .before .pre .4), c .before .before .before .before .pre .5 (c .before .before .loop .row) (c .before .before .loop .inv .2) (c .before .loop-test .taken))
+line-requires c κs =
+    let start = c .before .before .before .before in
+    let loop = c .before .before .loop in
+    let loop-test = c .before .loop-test in
+    (start .pre .0, start .pre .1, omega (arith, start .pre .2, loop .inv .1 .size), omega (arith, loop-test .taken, start .pre .4), start .pre .5 (loop .row) (loop .inv .2) (loop-test .taken))
 
 add-row : tie.Need-add-row Inv-loop μ-loop
-add-row c = omega (arith, c .before .before .before .before .loop-test .taken, c .before .before .before .before .before .before .before .pre .4, c .before .before .before .before .before .before .before .pre .1)
+add-row c =
+    let start = c .before .before .before .before .before .before .before in
+    let loop-test = c .before .before .before .before .loop-test in
+    omega (arith, loop-test .taken, start .pre .4, start .pre .1)
 
 loop-less : tie.Need-loop-less Inv-loop μ-loop
 loop-less c = omega (arith, c .before .before .before .before .loop-test .taken)
 
 loop-again : tie.Need-loop-again Inv-loop μ-loop
-loop-again c = let l : c .before .before .before .before .before .loop .row < c .before .before .before .before .before .before .before .args .side = omega (arith, c .before .before .before .before .loop-test .taken, c .before .before .before .before .before .before .before .pre .4) in (subst (λ (n : ℕ). UpTo (cornerKind (c .before .before .before .before .before .before .before .args .side)) (c .before .before .before .before .before .before .before .args .side * c .before .before .before .before .before .before .before .args .side) n (c .before .before .line .last .0)) (row-next (c .before .before .before .before .before .before .before .args .side) (c .before .before .before .before .before .loop .row)) (row-done (c .before .before .before .before .before .before .before .args .side) (c .before .before .before .before .before .loop .row) (c .before .before .before .before .before .before .before .pre .0) l (c .before .before .before .before .before .loop .inv .0) (c .before .before .line .ensures)), beyond-next (c .before .before .before .before .before .loop .inv .1) (row-beyond (c .before .before .before .before .before .before .before .args .side) (c .before .before .before .before .before .loop .row) (c .before .before .before .before .before .before .before .pre .0) l (c .before .before .line .ensures)), omega (arith, c .before .before .before .before .before .loop .inv .2), omega (arith, c .before .before .before .before .loop-test .taken))
+loop-again c =
+    let start = c .before .before .before .before .before .before .before in
+    let loop = c .before .before .before .before .before .loop in
+    let loop-test = c .before .before .before .before .loop-test in
+    let line = c .before .before .line in
+    let l : loop .row < start .args .side = omega (arith, loop-test .taken, start .pre .4) in (subst (λ (n : ℕ). UpTo (cornerKind (start .args .side)) (start .args .side * start .args .side) n (line .last .0)) (row-next (start .args .side) (loop .row)) (row-done (start .args .side) (loop .row) (start .pre .0) l (loop .inv .0) (line .ensures)), beyond-next (loop .inv .1) (row-beyond (start .args .side) (loop .row) (start .pre .0) l (line .ensures)), omega (arith, loop .inv .2), omega (arith, loop-test .taken))
 
 same-length : tie.Need-same-length Inv-loop μ-loop
 same-length c = c .before .loop .inv .1 .size
 
 returns : tie.Need-returns Inv-loop μ-loop
-returns c = let e : c .before .loop .row ≡ c .before .before .before .args .to = omega (arith, c .loop-test .left, c .before .loop .inv .3) in (subst (λ (n : ℕ). UpTo (cornerKind (c .before .before .before .args .side)) (c .before .before .before .args .side * c .before .before .before .args .side) (n * c .before .before .before .args .side) (c .before .loop .out)) e (c .before .loop .inv .0), c .before .loop .inv .1)
+returns c =
+    let start = c .before .before .before in
+    let loop = c .before .loop in
+    let e : loop .row ≡ start .args .to = omega (arith, c .loop-test .left, loop .inv .3) in (subst (λ (n : ℕ). UpTo (cornerKind (start .args .side)) (start .args .side * start .args .side) (n * start .args .side) (loop .out)) e (loop .inv .0), loop .inv .1)
 
 pub line-ends-spec : {M : Type 1} → statement M
 line-ends-spec =

@@ -31,8 +31,11 @@ back-requires : tie.Need-back-requires Inv-loop μ-loop
 back-requires c κs = let o = c .before .before .before .before in (near 1000 (o .fits .x) (omega arith), omega arith)
 
 line-module-requires : tie.Need-line-module-requires Inv-loop μ-loop
-line-module-requires c κs = let o = c .before .before .before .before .before in
-    let e : mag (c .back .result) < 1000 = subst (λ (z : ℤ). mag z < 1000) (sym (c .back .ensures ∙ read (λ z. z -ℤ pos (c .before .before .before .loop .i)) (o .fits .x))) (omega (arith, mag-back (o .args .x) ((c .before .before .before .loop .i)))) in
+line-module-requires c κs =
+    let before = c .before .before .before .before .before in
+    let loop = c .before .before .before .loop in
+    let o = before in
+    let e : mag (c .back .result) < 1000 = subst (λ (z : ℤ). mag z < 1000) (sym (c .back .ensures ∙ read (λ z. z -ℤ pos (loop .i)) (o .fits .x))) (omega (arith, mag-back (o .args .x) ((loop .i)))) in
     (search needs, omega arith, near 1000 (ok (c .back .result) (c .back .ok)) e, near 1000 (o .fits .y) (omega arith))
 
 add-i : tie.Need-add-i Inv-loop μ-loop
@@ -42,9 +45,14 @@ loop-less : tie.Need-loop-less Inv-loop μ-loop
 loop-less c = omega arith
 
 loop-again : tie.Need-loop-again Inv-loop μ-loop
-loop-again c = let o = c .before .before .before .before .before .before .before .before in
-    let l = c .before .before .before .before .before .before .loop in
-    (turn (λ n. lineModule ((toZ w64 (ofZ w64 (o .args .x))) -ℤ pos n) (toZ w64 (ofZ w64 (o .args .y)))) (l .i) (l .inv .0) (heard lineModule (ok (c .before .before .before .back .result) (c .before .before .before .back .ok)) (o .fits .y) (c .before .before .before .back .ensures) (sym (toZ-ofZ (o .fits .y))) (c .before .before .line-module .ensures)), omega arith, c .before .before .line-module .kept .0 ∙ l .inv .2)
+loop-again c =
+    let before = c .before .before .before .before .before .before .before .before in
+    let loop = c .before .before .before .before .before .before .loop in
+    let back = c .before .before .before .back in
+    let line-module = c .before .before .line-module in
+    let o = before in
+    let l = loop in
+    (turn (λ n. lineModule ((toZ w64 (ofZ w64 (o .args .x))) -ℤ pos n) (toZ w64 (ofZ w64 (o .args .y)))) (l .i) (l .inv .0) (heard lineModule (ok (back .result) (back .ok)) (o .fits .y) (back .ensures) (sym (toZ-ofZ (o .fits .y))) (line-module .ensures)), omega arith, line-module .kept .0 ∙ l .inv .2)
 
 same-length : tie.Need-same-length Inv-loop μ-loop
 same-length c = c .before .loop .inv .2

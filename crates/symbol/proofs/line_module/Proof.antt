@@ -25,9 +25,14 @@ same-length c = search needs
 
 returns : tie.Need-returns
 unfolding lineModule
-returns c = let o = c .before .before .before .before .before .before .before .before .before .before .before in
-    let first = heard (λ a b. plot a b dark ∷ []) (o .fits .x) (o .fits .y) refl refl (c .before .before .before .before .before .before .before .before .plot .ensures) in
-    let second = heard (λ a b. plot a b light ∷ []) (ok (c .before .before .before .before .back .result) (c .before .before .before .before .back .ok)) (ok (c .before .before .before .forth .result) (c .before .before .before .forth .ok)) (c .before .before .before .before .back .ensures ∙ read (λ z. z -ℤ pos 1) (o .fits .x)) (c .before .before .before .forth .ensures ∙ read (λ z. z +ℤ pos 1) (o .fits .y)) (c .before .before .plot2 .ensures) in
+returns c =
+    let before = c .before .before .before .before .before .before .before .before .before .before .before in
+    let plot′ = c .before .before .before .before .before .before .before .before .plot in
+    let back = c .before .before .before .before .back in
+    let forth = c .before .before .before .forth in
+    let o = before in
+    let first = heard (λ a b. plot a b dark ∷ []) (o .fits .x) (o .fits .y) refl refl (plot′ .ensures) in
+    let second = heard (λ a b. plot a b light ∷ []) (ok (back .result) (back .ok)) (ok (forth .result) (forth .ok)) (back .ensures ∙ read (λ z. z -ℤ pos 1) (o .fits .x)) (forth .ensures ∙ read (λ z. z +ℤ pos 1) (o .fits .y)) (c .before .before .plot2 .ensures) in
     next first second
 
 pub line-module-spec : {M : Type 1} → statement M

@@ -50,7 +50,10 @@ same-length : tie.Need-same-length Inv-loop μ-loop
 same-length c = c .before .loop .inv .0 .size
 
 returns : tie.Need-returns Inv-loop μ-loop
-returns c = let e : c .before .loop .i ≡ c .before .before .args .at + 8 = omega arith in subst (λ (n : ℕ). Stored (λ k. 2 + c .before .before .args .bits / 2 ^ (7 - (k - c .before .before .args .at)) % 2) (c .before .before .args .at) n (c .before .before .args .out .now) (c .before .loop .out)) e (c .before .loop .inv .0)
+returns c =
+    let start = c .before .before in
+    let loop = c .before .loop in
+    let e : loop .i ≡ start .args .at + 8 = omega arith in subst (λ (n : ℕ). Stored (λ k. 2 + start .args .bits / 2 ^ (7 - (k - start .args .at)) % 2) (start .args .at) n (start .args .out .now) (loop .out)) e (loop .inv .0)
 
 pub modules-spec : {M : Type 1} → statement M
 modules-spec =

@@ -12,10 +12,15 @@ step-requires : tie.Need-step-requires
 step-requires c κs = search needs
 
 back-requires : tie.Need-back-requires
-back-requires c κs = (near 1000 (c .before .fits .x) (omega (arith, column-near (c .before .pre .0) (c .before .pre .1))), omega (arith, c .step .ensures .1 .1))
+back-requires c κs =
+    let start = c .before in
+    (near 1000 (c .before .fits .x) (omega (arith, column-near (start .pre .0) (start .pre .1))), omega (arith, c .step .ensures .1 .1))
 
 returns : tie.Need-returns
-returns c = toZ-ofZ (ok (c .back .result) (c .back .ok)) ∙ c .back .ensures ∙ read (λ z. z -ℤ pos (c .before .step .result)) (c .before .before .fits .x) ∙ column-more (c .before .before .args .p .version) (c .before .before .args .n) (c .before .step .result) (c .before .before .pre .1 .here) (c .before .step .ensures .0)
+returns c =
+    let start = c .before .before in
+    let step = c .before .step in
+    toZ-ofZ (ok (c .back .result) (c .back .ok)) ∙ c .back .ensures ∙ read (λ z. z -ℤ pos (step .result)) (c .before .before .fits .x) ∙ column-more (start .args .p .version) (start .args .n) (step .result) (start .pre .1 .here) (step .ensures .0)
 
 pub next-column-spec : {M : Type 1} → statement M
 next-column-spec = tie.close (tie.spec step-requires back-requires returns)

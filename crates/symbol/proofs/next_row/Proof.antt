@@ -15,7 +15,10 @@ forth-requires : tie.Need-forth-requires
 forth-requires c κs = (near 1000 (c .before .fits .y) (omega (arith, row-near (c .before .pre .0) (c .before .pre .1))), omega (arith, c .step .ensures .1 .1))
 
 returns : tie.Need-returns
-returns c = toZ-ofZ (ok (c .forth .result) (c .forth .ok)) ∙ c .forth .ensures ∙ read (λ z. z +ℤ pos (c .before .step .result)) (c .before .before .fits .y) ∙ row-more (c .before .before .args .p .version) (c .before .before .args .n) (c .before .step .result) (c .before .before .pre .1 .here) (c .before .step .ensures .0)
+returns c =
+    let start = c .before .before in
+    let step = c .before .step in
+    toZ-ofZ (ok (c .forth .result) (c .forth .ok)) ∙ c .forth .ensures ∙ read (λ z. z +ℤ pos (step .result)) (c .before .before .fits .y) ∙ row-more (start .args .p .version) (start .args .n) (step .result) (start .pre .1 .here) (step .ensures .0)
 
 pub next-row-spec : {M : Type 1} → statement M
 next-row-spec = tie.close (tie.spec step-requires forth-requires returns)

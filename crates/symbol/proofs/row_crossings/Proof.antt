@@ -24,28 +24,54 @@ signed-requires : tie.Need-signed-requires Inv-loop μ-loop
 signed-requires c κs = omega (arith, c .before .before .pre .0 .spaced .side-is, c .before .before .pre .0 .spaced .high)
 
 loop-holds : tie.Need-loop-holds Inv-loop μ-loop
-loop-holds c = begin (c .before .before .before .args .p) columnOf (crossing (c .before .before .before .args .p .version) (c .before .before .before .args .n)) (c .before .before .before .args .grid .now) (toZ-ofZ (ok (c .signed .result) (c .signed .ok)) ∙ c .signed .ensures ∙ ap (λ (k : ℕ). pos (k - 1)) (c .before .before .before .pre .0 .spaced .side-is) ∙ column-start (c .before .before .before .args .p .version))
+loop-holds c =
+    let start = c .before .before .before in
+    begin (start .args .p) columnOf (crossing (start .args .p .version) (start .args .n)) (start .args .grid .now) (toZ-ofZ (ok (c .signed .result) (c .signed .ok)) ∙ c .signed .ensures ∙ ap (λ (k : ℕ). pos (k - 1)) (start .pre .0 .spaced .side-is) ∙ column-start (start .args .p .version))
 
 crossing-requires : tie.Need-crossing-requires Inv-loop μ-loop
-crossing-requires c κs = (roomy (c .before .before .before .before .before .before .pre .0) (c .before .before .loop .inv), record { inside = c .before .before .before .before .before .before .pre .1 .inside; here = toZ-ofZ (c .before .before .before .before .before .before .fits .y) ∙ c .before .before .before .before .before .before .pre .1 .here }, on (c .before .before .before .before .before .before .pre .0) (c .before .before .loop .inv) (column-inside (c .before .before .before .before .before .before .pre .0 .spaced) (c .before .before .loop .j) (c .before .before .loop .inv .few) (c .before .before .loop .inv .here) (c .before .loop-test .taken)))
+crossing-requires c κs =
+    let start = c .before .before .before .before .before .before in
+    let fits = c .before .before .before .before .before .before .fits in
+    let loop = c .before .before .loop in
+    (roomy (start .pre .0) (loop .inv), record { inside = start .pre .1 .inside; here = toZ-ofZ (fits .y) ∙ start .pre .1 .here }, on (start .pre .0) (loop .inv) (column-inside (start .pre .0 .spaced) (loop .j) (loop .inv .few) (loop .inv .here) (c .before .loop-test .taken)))
 
 next-column-requires : tie.Need-next-column-requires Inv-loop μ-loop
-next-column-requires c κs = (c .before .before .before .before .before .before .before .before .before .pre .0 .spaced, on (c .before .before .before .before .before .before .before .before .before .pre .0) (c .before .before .before .before .before .loop .inv) (column-inside (c .before .before .before .before .before .before .before .before .before .pre .0 .spaced) (c .before .before .before .before .before .loop .j) (c .before .before .before .before .before .loop .inv .few) (c .before .before .before .before .before .loop .inv .here) (c .before .before .before .before .loop-test .taken)))
+next-column-requires c κs =
+    let start = c .before .before .before .before .before .before .before .before .before in
+    let loop = c .before .before .before .before .before .loop in
+    let loop-test = c .before .before .before .before .loop-test in
+    (start .pre .0 .spaced, on (start .pre .0) (loop .inv) (column-inside (start .pre .0 .spaced) (loop .j) (loop .inv .few) (loop .inv .here) (loop-test .taken)))
 
 add-j : tie.Need-add-j Inv-loop μ-loop
-add-j c = omega (arith, small (c .before .before .before .before .before .before .before .before .before .before .pre .0) (c .before .before .before .before .before .before .loop .inv) (column-inside (c .before .before .before .before .before .before .before .before .before .before .pre .0 .spaced) (c .before .before .before .before .before .before .loop .j) (c .before .before .before .before .before .before .loop .inv .few) (c .before .before .before .before .before .before .loop .inv .here) (c .before .before .before .before .before .loop-test .taken)))
+add-j c =
+    let start = c .before .before .before .before .before .before .before .before .before .before in
+    let loop = c .before .before .before .before .before .before .loop in
+    let loop-test = c .before .before .before .before .before .loop-test in
+    omega (arith, small (start .pre .0) (loop .inv) (column-inside (start .pre .0 .spaced) (loop .j) (loop .inv .few) (loop .inv .here) (loop-test .taken)))
 
 loop-less : tie.Need-loop-less Inv-loop μ-loop
-loop-less c = omega (arith, (column-inside (c .before .before .before .before .before .before .before .before .before .before .pre .0 .spaced) (c .before .before .before .before .before .before .loop .j) (c .before .before .before .before .before .before .loop .inv .few) (c .before .before .before .before .before .before .loop .inv .here) (c .before .before .before .before .before .loop-test .taken)))
+loop-less c =
+    let start = c .before .before .before .before .before .before .before .before .before .before in
+    let loop = c .before .before .before .before .before .before .loop in
+    let loop-test = c .before .before .before .before .before .loop-test in
+    omega (arith, (column-inside (start .pre .0 .spaced) (loop .j) (loop .inv .few) (loop .inv .here) (loop-test .taken)))
 
 loop-again : tie.Need-loop-again Inv-loop μ-loop
-loop-again c = further (c .before .before .before .before .before .before .before .before .before .before .pre .0) (c .before .before .before .before .before .before .loop .inv) (column-inside (c .before .before .before .before .before .before .before .before .before .before .pre .0 .spaced) (c .before .before .before .before .before .before .loop .j) (c .before .before .before .before .before .before .loop .inv .few) (c .before .before .before .before .before .before .loop .inv .here) (c .before .before .before .before .before .loop-test .taken)) (c .before .before .before .crossing .ensures) (c .before .before .before .crossing .kept .0) (toZ-ofZ (ok (c .next-column .result) (c .next-column .ok)) ∙ c .next-column .ensures)
+loop-again c =
+    let start = c .before .before .before .before .before .before .before .before .before .before in
+    let loop = c .before .before .before .before .before .before .loop in
+    let loop-test = c .before .before .before .before .before .loop-test in
+    let crossing = c .before .before .before .crossing in
+    further (start .pre .0) (loop .inv) (column-inside (start .pre .0 .spaced) (loop .j) (loop .inv .few) (loop .inv .here) (loop-test .taken)) (crossing .ensures) (crossing .kept .0) (toZ-ofZ (ok (c .next-column .result) (c .next-column .ok)) ∙ c .next-column .ensures)
 
 same-length : tie.Need-same-length Inv-loop μ-loop
 same-length c = c .before .loop .inv .kept
 
 returns : tie.Need-returns Inv-loop μ-loop
-returns c = done (c .before .before .before .before .before .pre .0) (c .before .loop .inv) (column-last (c .before .before .before .before .before .pre .0 .spaced) (c .before .loop .j) (c .before .loop .inv .few) (c .before .loop .inv .here) (c .loop-test .left))
+returns c =
+    let start = c .before .before .before .before .before in
+    let loop = c .before .loop in
+    done (start .pre .0) (loop .inv) (column-last (start .pre .0 .spaced) (loop .j) (loop .inv .few) (loop .inv .here) (c .loop-test .left))
 
 pub row-crossings-spec : {M : Type 1} → statement M
 row-crossings-spec =

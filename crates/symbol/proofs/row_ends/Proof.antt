@@ -21,20 +21,36 @@ signed-requires-2 : tie.Need-signed-requires-2
 signed-requires-2 c κs = search needs
 
 add-assistant-if : tie.Need-add-assistant-if
-add-assistant-if c = omega (arith, tabled (c .before .before .before .before .before .before .args .p .version) (c .before .before .before .before .before .before .pre .0 .spaced .low) (c .before .before .before .before .before .before .pre .0 .spaced .high) .m-le, c .before .before .before .before .before .before .pre .1 .inside, c .before .before .before .before .before .before .pre .0 .spaced .m-is)
+add-assistant-if c =
+    let start = c .before .before .before .before .before .before in
+    omega (arith, tabled (start .args .p .version) (start .pre .0 .spaced .low) (start .pre .0 .spaced .high) .m-le, start .pre .1 .inside, start .pre .0 .spaced .m-is)
 
 assistant-if-requires : tie.Need-assistant-if-requires
-assistant-if-requires c κs = (omega (arith, c .before .before .before .before .before .before .pre .0 .spaced .side-is, c .before .before .before .before .before .before .pre .0 .spaced .high), room-of (c .before .before .before .before .before .before .pre .0 .spaced .side-is) (c .before .before .before .before .before .before .pre .0 .room), whole-near 1000 (ok (c .before .before .before .before .signed .result) (c .before .before .before .before .signed .ok)) (c .before .before .before .before .signed .ensures) (omega arith), near 1000 (c .before .before .before .before .before .before .fits .y) (omega (arith, row-near (c .before .before .before .before .before .before .pre .0 .spaced) (c .before .before .before .before .before .before .pre .1))))
+assistant-if-requires c κs =
+    let start = c .before .before .before .before .before .before in
+    let fits = c .before .before .before .before .before .before .fits in
+    let signed = c .before .before .before .before .signed in
+    (omega (arith, start .pre .0 .spaced .side-is, start .pre .0 .spaced .high), room-of (start .pre .0 .spaced .side-is) (start .pre .0 .room), whole-near 1000 (ok (signed .result) (signed .ok)) (signed .ensures) (omega arith), near 1000 (fits .y) (omega (arith, row-near (start .pre .0 .spaced) (start .pre .1))))
 
 assistant-if-requires-2 : tie.Need-assistant-if-requires-2
-assistant-if-requires-2 c κs = (omega (arith, c .before .before .before .before .before .before .before .before .before .before .pre .0 .spaced .side-is, c .before .before .before .before .before .before .before .before .before .before .pre .0 .spaced .high), omega (arith, c .before .before .before .assistant-if .kept .0, room-of (c .before .before .before .before .before .before .before .before .before .before .pre .0 .spaced .side-is) (c .before .before .before .before .before .before .before .before .before .before .pre .0 .room)), whole-near 1000 (ok (c .before .before .before .before .before .before .signed2 .result) (c .before .before .before .before .before .before .signed2 .ok)) (c .before .before .before .before .before .before .signed2 .ensures) (omega (arith, c .before .before .before .before .before .before .before .before .before .before .pre .0 .spaced .side-is, c .before .before .before .before .before .before .before .before .before .before .pre .0 .spaced .high)), near 1000 (c .before .before .before .before .before .before .before .before .before .before .fits .y) (omega (arith, row-near (c .before .before .before .before .before .before .before .before .before .before .pre .0 .spaced) (c .before .before .before .before .before .before .before .before .before .before .pre .1))))
+assistant-if-requires-2 c κs =
+    let start = c .before .before .before .before .before .before .before .before .before .before in
+    let fits = c .before .before .before .before .before .before .before .before .before .before .fits in
+    let signed2 = c .before .before .before .before .before .before .signed2 in
+    (omega (arith, start .pre .0 .spaced .side-is, start .pre .0 .spaced .high), omega (arith, c .before .before .before .assistant-if .kept .0, room-of (start .pre .0 .spaced .side-is) (start .pre .0 .room)), whole-near 1000 (ok (signed2 .result) (signed2 .ok)) (signed2 .ensures) (omega (arith, start .pre .0 .spaced .side-is, start .pre .0 .spaced .high)), near 1000 (fits .y) (omega (arith, row-near (start .pre .0 .spaced) (start .pre .1))))
 
 same-length : tie.Need-same-length
 same-length c = search needs
 
 returns : tie.Need-returns
 unfolding rowEnds
-returns c = next (assisted (c .before .before .before .before .before .before .before .before .before .before .before .before .before .pre .0 .spaced .side-is) (ap (λ (k : ℕ). odd (c .before .before .before .before .before .before .before .before .before .before .before .before .before .args .n + k)) (c .before .before .before .before .before .before .before .before .before .before .before .before .before .pre .0 .spaced .m-is)) (ok (c .before .before .before .before .before .before .before .before .before .before .before .signed .result) (c .before .before .before .before .before .before .before .before .before .before .before .signed .ok)) (c .before .before .before .before .before .before .before .before .before .before .before .before .before .fits .y) (c .before .before .before .before .before .before .before .before .before .before .before .signed .ensures) (c .before .before .before .before .before .before .before .before .before .before .before .before .before .pre .1 .here) (c .before .before .before .before .before .before .assistant-if .ensures)) (assisted {b = odd (c .before .before .before .before .before .before .before .before .before .before .before .before .before .args .n)} (c .before .before .before .before .before .before .before .before .before .before .before .before .before .pre .0 .spaced .side-is) refl (ok (c .before .before .before .before .before .before .before .before .before .signed2 .result) (c .before .before .before .before .before .before .before .before .before .signed2 .ok)) (c .before .before .before .before .before .before .before .before .before .before .before .before .before .fits .y) (c .before .before .before .before .before .before .before .before .before .signed2 .ensures ∙ ap (λ (k : ℕ). pos (k - 1)) (c .before .before .before .before .before .before .before .before .before .before .before .before .before .pre .0 .spaced .side-is)) (c .before .before .before .before .before .before .before .before .before .before .before .before .before .pre .1 .here) (c .before .before .assistant-if2 .ensures))
+returns c =
+    let start = c .before .before .before .before .before .before .before .before .before .before .before .before .before in
+    let fits = c .before .before .before .before .before .before .before .before .before .before .before .before .before .fits in
+    let signed = c .before .before .before .before .before .before .before .before .before .before .before .signed in
+    let signed2 = c .before .before .before .before .before .before .before .before .before .signed2 in
+    let assistant-if = c .before .before .before .before .before .before .assistant-if in
+    next (assisted (start .pre .0 .spaced .side-is) (ap (λ (k : ℕ). odd (start .args .n + k)) (start .pre .0 .spaced .m-is)) (ok (signed .result) (signed .ok)) (fits .y) (signed .ensures) (start .pre .1 .here) (assistant-if .ensures)) (assisted {b = odd (start .args .n)} (start .pre .0 .spaced .side-is) refl (ok (signed2 .result) (signed2 .ok)) (fits .y) (signed2 .ensures ∙ ap (λ (k : ℕ). pos (k - 1)) (start .pre .0 .spaced .side-is)) (start .pre .1 .here) (c .before .before .assistant-if2 .ensures))
 
 pub row-ends-spec : {M : Type 1} → statement M
 row-ends-spec =

@@ -31,7 +31,10 @@ same-length : tie.Need-same-length Inv-loop μ-loop
 same-length c = c .before .loop .inv .0 .size
 
 returns : tie.Need-returns Inv-loop μ-loop
-returns c = let e : c .before .loop .i ≡ c .before .before .args .to = omega arith in subst (λ (n : ℕ). Stored (λ i. c .before .before .args .kind) (c .before .before .args .from) n (c .before .before .args .out .now) (c .before .loop .out)) e (c .before .loop .inv .0)
+returns c =
+    let start = c .before .before in
+    let loop = c .before .loop in
+    let e : loop .i ≡ start .args .to = omega arith in subst (λ (n : ℕ). Stored (λ i. start .args .kind) (start .args .from) n (start .args .out .now) (loop .out)) e (loop .inv .0)
 
 pub run-spec : {M : Type 1} → statement M
 run-spec =

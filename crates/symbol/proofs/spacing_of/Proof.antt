@@ -36,7 +36,9 @@ wide-requires-3 c κs = search needs
 
 returns : tie.Need-returns
 unfolding kOf rOf mOf ks rs ms
-returns c = (record { low = c .before .before .before .before .pre .0; high = c .before .before .before .before .pre .1; side-is = c .before .before .before .side .ensures; k-is = c .before .before .wide .ensures; r-is = c .before .wide2 .ensures; m-is = c .wide3 .ensures }, refl)
+returns c =
+    let start = c .before .before .before .before in
+    (record { low = start .pre .0; high = start .pre .1; side-is = c .before .before .before .side .ensures; k-is = c .before .before .wide .ensures; r-is = c .before .wide2 .ensures; m-is = c .wide3 .ensures }, refl)
 
 pub spacing-of-spec : {M : Type 1} → statement M
 spacing-of-spec =

@@ -28,10 +28,16 @@ same-length c = search needs
 
 returns : tie.Need-returns
 unfolding threeAt
-returns c = let o = c .before .before .before .before .before .before .before .before .before .before .before .before .before .before .before in
-    let left = heard (λ a b. plot a b light ∷ []) (ok (c .before .before .before .before .before .before .before .before .before .before .before .before .back .result) (c .before .before .before .before .before .before .before .before .before .before .before .before .back .ok)) (o .fits .y) (c .before .before .before .before .before .before .before .before .before .before .before .before .back .ensures ∙ read (λ z. z -ℤ pos 1) (o .fits .x)) refl (c .before .before .before .before .before .before .before .before .before .before .before .plot .ensures) in
-    let middle = heard (λ a b. plot a b (o .args .kind) ∷ []) (o .fits .x) (o .fits .y) refl refl (c .before .before .before .before .before .before .before .plot2 .ensures) in
-    let right = heard (λ a b. plot a b light ∷ []) (ok (c .before .before .before .forth .result) (c .before .before .before .forth .ok)) (o .fits .y) (c .before .before .before .forth .ensures ∙ read (λ z. z +ℤ pos 1) (o .fits .x)) refl (c .before .before .plot3 .ensures) in
+returns c =
+    let before = c .before .before .before .before .before .before .before .before .before .before .before .before .before .before .before in
+    let back = c .before .before .before .before .before .before .before .before .before .before .before .before .back in
+    let plot′ = c .before .before .before .before .before .before .before .before .before .before .before .plot in
+    let plot2 = c .before .before .before .before .before .before .before .plot2 in
+    let forth = c .before .before .before .forth in
+    let o = before in
+    let left = heard (λ a b. plot a b light ∷ []) (ok (back .result) (back .ok)) (o .fits .y) (back .ensures ∙ read (λ z. z -ℤ pos 1) (o .fits .x)) refl (plot′ .ensures) in
+    let middle = heard (λ a b. plot a b (o .args .kind) ∷ []) (o .fits .x) (o .fits .y) refl refl (plot2 .ensures) in
+    let right = heard (λ a b. plot a b light ∷ []) (ok (forth .result) (forth .ok)) (o .fits .y) (forth .ensures ∙ read (λ z. z +ℤ pos 1) (o .fits .x)) refl (c .before .before .plot3 .ensures) in
     next left (next middle right)
 
 pub three-spec : {M : Type 1} → statement M

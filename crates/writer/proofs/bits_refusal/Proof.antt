@@ -19,10 +19,14 @@ mul-if1 : tie.Need-mul-if1
 mul-if1 c = omega (arith, room-is (c .before .before .before .pre) _ (c .before .before .block-row .ensures) _ (c .data-length .ensures) .1)
 
 returns : tie.Need-returns
-returns c = too-many _ _ _ _ (room-is (c .before .before .before .before .pre) _ (c .before .before .before .block-row .ensures) _ (c .before .data-length .ensures) .0) (omega (arith, c .if1 .taken))
+returns c =
+    let start = c .before .before .before .before in
+    too-many _ _ _ _ (room-is (start .pre) _ (c .before .before .before .block-row .ensures) _ (c .before .data-length .ensures) .0) (omega (arith, c .if1 .taken))
 
 returns-2 : tie.Need-returns-2
-returns-2 c = no-more _ _ _ _ (room-is (c .before .before .before .before .pre) _ (c .before .before .before .block-row .ensures) _ (c .before .data-length .ensures) .0) (omega (arith, c .if1 .left))
+returns-2 c =
+    let start = c .before .before .before .before in
+    no-more _ _ _ _ (room-is (start .pre) _ (c .before .before .before .block-row .ensures) _ (c .before .data-length .ensures) .0) (omega (arith, c .if1 .left))
 
 pub bits-refusal-spec : {M : Type 1} → statement M
 bits-refusal-spec =

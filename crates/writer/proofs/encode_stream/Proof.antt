@@ -24,8 +24,11 @@ same-length-2 c = search needs
 
 returns : tie.Need-returns
 returns c =
-    let o = c .before .before .before .before .before .before .before .before .before .before .before .before .before .before .before .before in
-    stream-encoded (o .args .script .now) (o .args .payload .now) _ _ (o .args .stream .now) _ _ (o .pre .0 .3) (c .before .before .before .before .before .before .before .before .before .encode .ensures) (o .pre .0 .2) (c .before .before .write-blocks .kept .1 .0) (c .before .before .write-blocks .ensures)
+    let before = c .before .before .before .before .before .before .before .before .before .before .before .before .before .before .before .before in
+    let encode = c .before .before .before .before .before .before .before .before .before .encode in
+    let write-blocks = c .before .before .write-blocks in
+    let o = before in
+    stream-encoded (o .args .script .now) (o .args .payload .now) _ _ (o .args .stream .now) _ _ (o .pre .0 .3) (encode .ensures) (o .pre .0 .2) (write-blocks .kept .1 .0) (write-blocks .ensures)
 
 pub encode-stream-spec : {M : Type 1} → statement M
 encode-stream-spec =

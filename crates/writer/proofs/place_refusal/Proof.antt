@@ -25,7 +25,8 @@ mul-if1 c = search needs
 
 returns : tie.Need-returns
 returns c =
-    let o = c .before .before .before .before .before in
+    let before = c .before .before .before .before .before in
+    let o = before in
     too-few _ _ (o .pre) (o .args .size) _ _ _ (c .before .before .before .side .ensures) (c .before .before .total-codewords .ensures .0) (c .before .data-modules .ensures) (c .if1 .taken)
 
 mul-if2 : tie.Need-mul-if2
@@ -33,13 +34,17 @@ mul-if2 c = omega (arith, square-small _ _ (c .before .before .before .before .b
 
 returns-2 : tie.Need-returns-2
 returns-2 c =
-    let o = c .before .before .before .before .before .before in
-    wrong-size _ _ (o .pre) (o .args .size) _ _ _ (c .before .before .before .before .side .ensures) (c .before .before .before .total-codewords .ensures .0) (c .before .before .data-modules .ensures) (omega (arith, c .before .if1 .left)) (c .if2 .taken)
+    let before = c .before .before .before .before .before .before in
+    let side = c .before .before .before .before .side in
+    let o = before in
+    wrong-size _ _ (o .pre) (o .args .size) _ _ _ (side .ensures) (c .before .before .before .total-codewords .ensures .0) (c .before .before .data-modules .ensures) (omega (arith, c .before .if1 .left)) (c .if2 .taken)
 
 returns-3 : tie.Need-returns-3
 returns-3 c =
-    let o = c .before .before .before .before .before .before in
-    right-size _ _ (o .pre) (o .args .size) _ _ _ (c .before .before .before .before .side .ensures) (c .before .before .before .total-codewords .ensures .0) (c .before .before .data-modules .ensures) (omega (arith, c .before .if1 .left)) (c .if2 .left)
+    let before = c .before .before .before .before .before .before in
+    let side = c .before .before .before .before .side in
+    let o = before in
+    right-size _ _ (o .pre) (o .args .size) _ _ _ (side .ensures) (c .before .before .before .total-codewords .ensures .0) (c .before .before .data-modules .ensures) (omega (arith, c .before .if1 .left)) (c .if2 .left)
 
 pub place-refusal-spec : {M : Type 1} → statement M
 place-refusal-spec =

@@ -25,9 +25,12 @@ slice-aggregate-place-codewords c = search needs
 
 place-codewords-requires : tie.Need-place-codewords-requires
 place-codewords-requires c κs =
-    let o = c .before .before .before .before .before .before .before .before .before .before .pre in
-    let e = c .before .before .before .before .before .side .ensures in
-    let t = c .before .before .before .before .before .before .total-codewords .ensures in
+    let start = c .before .before .before .before .before .before .before .before .before .before in
+    let total-codewords = c .before .before .before .before .before .before .total-codewords in
+    let side = c .before .before .before .before .before .side in
+    let o = start .pre in
+    let e = side .ensures in
+    let t = total-codewords .ensures in
     (omega (arith, o .1, o .0 .long), omega (arith, o .1, square-small _ _ (o .0 .ranged .high) e, ap (λ (n : ℕ). n * n) e), omega (arith, e), omega (arith, t .1, c .before .before .before .from-stream .kept), omega (arith, t .1))
 
 same-length : tie.Need-same-length
@@ -35,9 +38,13 @@ same-length c = search needs
 
 returns : tie.Need-returns
 returns c =
-    let o = c .before .before .before .before .before .before .before .before .before .before .before .before .before in
-    let t = c .before .before .before .before .before .before .before .before .before .total-codewords .ensures in
-    stream-placed _ _ (o .pre .0) (o .args .stream .now) _ _ (o .args .square .now) _ _ _ (t .0) (c .before .before .before .before .before .before .before .before .side .ensures) (t .1) (c .before .before .before .before .before .before .from-stream .kept .0) (c .before .before .before .before .before .before .from-stream .ensures) (o .pre .1) (c .before .before .place-codewords .ensures)
+    let before = c .before .before .before .before .before .before .before .before .before .before .before .before .before in
+    let total-codewords = c .before .before .before .before .before .before .before .before .before .total-codewords in
+    let side = c .before .before .before .before .before .before .before .before .side in
+    let from-stream = c .before .before .before .before .before .before .from-stream in
+    let o = before in
+    let t = total-codewords .ensures in
+    stream-placed _ _ (o .pre .0) (o .args .stream .now) _ _ (o .args .square .now) _ _ _ (t .0) (side .ensures) (t .1) (from-stream .kept .0) (from-stream .ensures) (o .pre .1) (c .before .before .place-codewords .ensures)
 
 pub place-stream-spec : {M : Type 1} → statement M
 place-stream-spec =

@@ -24,13 +24,16 @@ slice-aggregate-place-stream c = search needs
 
 place-stream-requires : tie.Need-place-stream-requires
 place-stream-requires c κs =
-    let o = c .before .before .before .before .before .before .before .before .before .before in
+    let before = c .before .before .before .before .before .before .before .before .before .before in
+    let o = before in
     (o .pre .0, size _ _ _ (o .args .script .now) (o .args .payload .now) (o .args .square .now) (o .pre .1), omega (arith, c .before .before .before .write-stream .kept))
 
 write-info-requires : tie.Need-write-info-requires
 write-info-requires c κs =
-    let o = c .before .before .before .before .before .before .before .before .before .before .before .before .before .before in
-    let e = c .before .before .before .before .before .before .before .before .before .side .ensures in
+    let before = c .before .before .before .before .before .before .before .before .before .before .before .before .before .before in
+    let side = c .before .before .before .before .before .before .before .before .before .side in
+    let o = before in
+    let e = side .ensures in
     (omega (arith, e), omega (arith, e, o .pre .0 .ranged .high), omega (arith, c .before .before .before .place-stream .kept, ap (λ (n : ℕ). n * n) e, size _ _ _ (o .args .script .now) (o .args .payload .now) (o .args .square .now) (o .pre .1)))
 
 same-length : tie.Need-same-length
@@ -38,8 +41,12 @@ same-length c = search needs
 
 returns : tie.Need-returns
 returns c =
-    let o = c .before .before .before .before .before .before .before .before .before .before .before .before .before .before .before .before .before in
-    mark-made _ (o .args .script .now) (o .args .payload .now) _ _ _ _ (o .pre .0 .ranged) (c .before .before .before .before .before .before .before .before .before .before .before .before .side .ensures) (c .before .before .before .before .before .before .before .before .before .before .write-stream .ensures) (c .before .before .before .before .before .before .place-stream .ensures) (c .before .before .write-info .ensures)
+    let before = c .before .before .before .before .before .before .before .before .before .before .before .before .before .before .before .before .before in
+    let side = c .before .before .before .before .before .before .before .before .before .before .before .before .side in
+    let write-stream = c .before .before .before .before .before .before .before .before .before .before .write-stream in
+    let place-stream = c .before .before .before .before .before .before .place-stream in
+    let o = before in
+    mark-made _ (o .args .script .now) (o .args .payload .now) _ _ _ _ (o .pre .0 .ranged) (side .ensures) (write-stream .ensures) (place-stream .ensures) (c .before .before .write-info .ensures)
 
 pub write-mark-spec : {M : Type 1} → statement M
 write-mark-spec =

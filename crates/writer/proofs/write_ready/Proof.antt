@@ -17,21 +17,29 @@ script-refusal-requires c κs = c .before .before .before .before .before .befor
 
 returns-2 : tie.Need-returns-2
 returns-2 c =
-    let o = c .before .before .before .before .before .before .before .before in
+    let before = c .before .before .before .before .before .before .before .before in
+    let o = before in
     answers-script _ _ (o .pre) (o .args .script .now) (o .args .payload .now) (o .args .square .now) _ (c .before .before .before .place-refusal .ensures) (c .before .before .if1 .left) _ (c .before .script-refusal .ensures) (c .if2 .taken)
 
 write-mark-requires : tie.Need-write-mark-requires
 write-mark-requires c κs =
-    let o = c .before .before .before .before .before .before .before .before .before in
-    (o .pre, nothing-turned _ _ (o .pre) (o .args .script .now) (o .args .payload .now) (o .args .square .now) _ (c .before .before .before .before .place-refusal .ensures) (c .before .before .before .if1 .left) _ (c .before .before .script-refusal .ensures) (c .before .if2 .left))
+    let before = c .before .before .before .before .before .before .before .before .before in
+    let place-refusal = c .before .before .before .before .place-refusal in
+    let o = before in
+    (o .pre, nothing-turned _ _ (o .pre) (o .args .script .now) (o .args .payload .now) (o .args .square .now) _ (place-refusal .ensures) (c .before .before .before .if1 .left) _ (c .before .before .script-refusal .ensures) (c .before .if2 .left))
 
 same-length : tie.Need-same-length
 same-length c = search needs
 
 returns-3 : tie.Need-returns-3
 returns-3 c =
-    let o = c .before .before .before .before .before .before .before .before .before .before .before .before in
-    answers-zero _ _ (o .pre) (o .args .script .now) (o .args .payload .now) (o .args .square .now) _ (c .before .before .before .before .before .before .before .place-refusal .ensures) (c .before .before .before .before .before .before .if1 .left) _ (c .before .before .before .before .before .script-refusal .ensures) (c .before .before .before .before .if2 .left) _ (c .before .before .write-mark .ensures)
+    let before = c .before .before .before .before .before .before .before .before .before .before .before .before in
+    let place-refusal = c .before .before .before .before .before .before .before .place-refusal in
+    let if1 = c .before .before .before .before .before .before .if1 in
+    let script-refusal = c .before .before .before .before .before .script-refusal in
+    let if2 = c .before .before .before .before .if2 in
+    let o = before in
+    answers-zero _ _ (o .pre) (o .args .script .now) (o .args .payload .now) (o .args .square .now) _ (place-refusal .ensures) (if1 .left) _ (script-refusal .ensures) (if2 .left) _ (c .before .before .write-mark .ensures)
 
 pub write-ready-spec : {M : Type 1} → statement M
 write-ready-spec =

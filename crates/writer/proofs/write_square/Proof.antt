@@ -18,7 +18,8 @@ enum-told c = search needs
 
 returns : tie.Need-returns
 returns c =
-    let o = c .before .before .before .before .before .before in
+    let before = c .before .before .before .before .before .before in
+    let o = before in
     answers-one _ _ _ (o .args .script .now) (o .args .payload .now) (o .args .square .now) (no-word _ _ _ _ (c .before .before .info-bits .ensures .0) (c .enum-told .given .1))
 
 slice-aggregate-layout : tie.Need-slice-aggregate-layout
@@ -32,8 +33,10 @@ slice-aggregate-write-ready c = search needs
 
 write-ready-requires : tie.Need-write-ready-requires
 write-ready-requires c κs =
-    let b = c .before .before .before .before .before .before .before .before .info-bits .ensures in
-    ready _ _ _ _ (b .0) _ (c .before .before .before .before .before .before .word .given .1) (b .1) _ _ (omega arith) (c .before .before .before .layout .ensures .1)
+    let info-bits = c .before .before .before .before .before .before .before .before .info-bits in
+    let word = c .before .before .before .before .before .before .word in
+    let b = info-bits .ensures in
+    ready _ _ _ _ (b .0) _ (word .given .1) (b .1) _ _ (omega arith) (c .before .before .before .layout .ensures .1)
 
 same-length : tie.Need-same-length
 same-length c = search needs

@@ -32,7 +32,9 @@ loop-less : tie.Need-loop-less Inv-loop μ-loop
 loop-less c = search needs
 
 loop-again : tie.Need-loop-again Inv-loop μ-loop
-loop-again c = (each-next _ _ _ _ _ (c .before .before .loop .inv .0) (omega arith) (sym (copied-high _ _ _ _ (c .before .before .loop .inv .1))), omega arith, omega arith)
+loop-again c =
+    let loop = c .before .before .loop in
+    (each-next _ _ _ _ _ (loop .inv .0) (omega arith) (sym (copied-high _ _ _ _ (loop .inv .1))), omega arith, omega arith)
 
 same-length : tie.Need-same-length Inv-loop μ-loop
 same-length c = c .before .loop .inv .0 .size

@@ -44,12 +44,15 @@ loop-less : tie.Need-loop-less Inv-loop μ-loop
 loop-less c = search needs
 
 loop-again : tie.Need-loop-again Inv-loop μ-loop
-loop-again c = (
-  c .before .before .add-moved .ensures .size ∙ c .before .before .before .before .before .before .loop .inv .0,
-  reduced _ (the-field _ (c .before .before .before .before .before .before .before .before .before .pre .0)) _ _ _ (c .before .before .before .before .before .before .before .before .before .args .g .now) (c .before .before .before .before .before .before .before .before .before .args .w .now) _ _ (c .before .before .before .before .before .before .before .before .before .pre .1 .1)
-      (c .before .before .before .before .before .before .loop .inv .1) (omega arith) (c .before .before .add-moved .ensures),
-  omega arith,
-)
+loop-again c =
+    let start = c .before .before .before .before .before .before .before .before .before in
+    let loop = c .before .before .before .before .before .before .loop in
+    let add-moved = c .before .before .add-moved in (
+      add-moved .ensures .size ∙ loop .inv .0,
+      reduced _ (the-field _ (start .pre .0)) _ _ _ (start .args .g .now) (start .args .w .now) _ _ (start .pre .1 .1)
+          (loop .inv .1) (omega arith) (add-moved .ensures),
+      omega arith,
+    )
 
 same-length : tie.Need-same-length Inv-loop μ-loop
 same-length c = c .before .loop .inv .0

@@ -41,7 +41,10 @@ loop-less : tie.Need-loop-less Inv-loop μ-loop
 loop-less c = search needs
 
 loop-again : tie.Need-loop-again Inv-loop μ-loop
-loop-again c = (repaired-next (length (c .before .before .before .before .args .block .now)) (c .before .before .before .loop .k) (c .before .before .before .before .args .e .now) (c .before .before .before .before .args .block .now) (c .before .before .before .loop .block) (c .before .before .before .loop .inv .0) (omega arith), omega arith, refl)
+loop-again c =
+    let start = c .before .before .before .before in
+    let loop = c .before .before .before .loop in
+    (repaired-next (length (start .args .block .now)) (loop .k) (start .args .e .now) (start .args .block .now) (loop .block) (loop .inv .0) (omega arith), omega arith, refl)
 
 same-length : tie.Need-same-length Inv-loop μ-loop
 same-length c = c .before .loop .inv .0 .size

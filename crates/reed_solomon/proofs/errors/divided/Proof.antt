@@ -44,7 +44,10 @@ loop-less : tie.Need-loop-less Inv-loop μ-loop
 loop-less c = search needs
 
 loop-again : tie.Need-loop-again Inv-loop μ-loop
-loop-again c = (dividing-next _ _ _ _ _ _ _ _ _ _ _ _ (c .before .before .before .before .before .before .loop .inv .0) (c .before .before .before .before .raised .ensures) (c .before .before .raised2 .ensures) (c .mul .ensures), omega arith)
+loop-again c =
+    let loop = c .before .before .before .before .before .before .loop in
+    let raised = c .before .before .before .before .raised in
+    (dividing-next _ _ _ _ _ _ _ _ _ _ _ _ (loop .inv .0) (raised .ensures) (c .before .before .raised2 .ensures) (c .mul .ensures), omega arith)
 
 returns : tie.Need-returns Inv-loop μ-loop
 returns c = dividing-end _ _ _ _ _ _ _ _ _ (c .before .loop .inv .0) (c .before .loop .inv .1) (omega arith)

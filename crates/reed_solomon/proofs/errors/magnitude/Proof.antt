@@ -11,13 +11,17 @@ divided-requires : tie.Need-divided-requires
 divided-requires c κs = search needs
 
 returns : tie.Need-returns
-returns c = magnitude-none _ (the-field _ (c .before .before .before .before .before .pre .0)) _ _ _ _ _ (sym (c .before .before .divided .ensures .1) ∙ c .if1 .taken)
+returns c =
+    let start = c .before .before .before .before .before in
+    magnitude-none _ (the-field _ (start .pre .0)) _ _ _ _ _ (sym (c .before .before .divided .ensures .1) ∙ c .if1 .taken)
 
 div-requires : tie.Need-div-requires
 div-requires c κs = search needs
 
 mul-raised : tie.Need-mul-raised
-mul-raised c = omega (arith, small-product (c .before .before .before .before .before .before .args .d) (c .before .before .before .before .before .before .args .first) (c .before .before .before .before .before .before .pre .1 .2) (c .before .before .before .before .before .before .pre .1 .3))
+mul-raised c =
+    let start = c .before .before .before .before .before .before in
+    omega (arith, small-product (start .args .d) (start .args .first) (start .pre .1 .2) (start .pre .1 .3))
 
 sub-raised : tie.Need-sub-raised
 sub-raised c = search needs
@@ -27,7 +31,9 @@ raised-requires c κs = search needs
 
 returns-2 : tie.Need-returns-2
 returns-2 c =
-    magnitude-some _ (the-field _ (c .before .before .before .before .before .before .before .pre .0)) _ _ _ _ _ _ _ _ _ (c .before .before .before .before .divided .ensures .0) (c .before .before .before .before .divided .ensures .1) (omega arith) (omega arith)
+    let start = c .before .before .before .before .before .before .before in
+    let divided = c .before .before .before .before .divided in
+    magnitude-some _ (the-field _ (start .pre .0)) _ _ _ _ _ _ _ _ _ (divided .ensures .0) (divided .ensures .1) (omega arith) (omega arith)
     (c .before .div .ensures) (c .raised .ensures)
 
 pub magnitude-spec : {M : Type 1} → statement M

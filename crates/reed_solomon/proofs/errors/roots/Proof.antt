@@ -18,13 +18,17 @@ abbrev μ-loop : tie.MeasureT-loop
 μ-loop field f l e₀ n terms₀ d₀ e terms d = n - d
 
 loop-holds : tie.Need-loop-holds Inv-loop μ-loop
-loop-holds c = (terms-start _ (the-field _ (c .before .before .pre .0)) _ _ (c .before .before .pre .1 .2) (c .before .before .pre .1 .1), each-start _ _, omega arith)
+loop-holds c =
+    let start = c .before .before in
+    (terms-start _ (the-field _ (start .pre .0)) _ _ (start .pre .1 .2) (start .pre .1 .1), each-start _ _, omega arith)
 
 slice-aggregate-step : tie.Need-slice-aggregate-step Inv-loop μ-loop
 slice-aggregate-step c = sym (c .before .before .loop .inv .0 .size)
 
 step-requires : tie.Need-step-requires Inv-loop μ-loop
-step-requires c κs = (c .before .before .before .before .before .pre .0, (c .before .before .before .before .before .pre .1 .0, omega (arith, c .before .before .loop .inv .0 .size)))
+step-requires c κs =
+    let start = c .before .before .before .before .before in
+    (start .pre .0, (start .pre .1 .0, omega (arith, c .before .before .loop .inv .0 .size)))
 
 flag-requires : tie.Need-flag-requires Inv-loop μ-loop
 flag-requires c κs = search needs
@@ -39,13 +43,16 @@ loop-less : tie.Need-loop-less Inv-loop μ-loop
 loop-less c = search needs
 
 loop-again : tie.Need-loop-again Inv-loop μ-loop
-loop-again c = (
-  terms-next _ (the-field _ (c .before .before .before .before .before .before .before .before .pre .0)) _ _ (c .before .before .before .before .before .before .before .before .pre .1 .2) _ _ _ (c .before .before .before .before .before .loop .inv .0) (c .before .before .step .ensures .1),
-  each-next _ _ _ _ _ (c .before .before .before .before .before .loop .inv .1) (omega arith)
-      (c .flag .ensures
-      ∙ ap zeroFlag (c .before .before .step .ensures .0 ∙ terms-value _ (the-field _ (c .before .before .before .before .before .before .before .before .pre .0)) _ _ (c .before .before .before .before .before .before .before .before .pre .1 .2) _ _ (c .before .before .before .before .before .loop .inv .0))),
-  omega arith,
-)
+loop-again c =
+    let start = c .before .before .before .before .before .before .before .before in
+    let loop = c .before .before .before .before .before .loop in
+    let step = c .before .before .step in (
+      terms-next _ (the-field _ (start .pre .0)) _ _ (start .pre .1 .2) _ _ _ (loop .inv .0) (step .ensures .1),
+      each-next _ _ _ _ _ (loop .inv .1) (omega arith)
+          (c .flag .ensures
+          ∙ ap zeroFlag (step .ensures .0 ∙ terms-value _ (the-field _ (start .pre .0)) _ _ (start .pre .1 .2) _ _ (loop .inv .0))),
+      omega arith,
+    )
 
 same-length : tie.Need-same-length Inv-loop μ-loop
 same-length c = c .before .loop .inv .1 .size

@@ -38,11 +38,12 @@ loop-less : tie.Need-loop-less Inv-loop μ-loop
 loop-less c = search needs
 
 loop-again : tie.Need-loop-again Inv-loop μ-loop
-loop-again c = (
-  ap₂ bitXor (c .before .before .before .loop .inv .0) (c .before .before .before .loop .inv .1 .rest (c .before .before .before .loop .i) (omega arith)) ∙ sym (sum-next _ _),
-  each-next _ _ _ _ _ (c .before .before .before .loop .inv .1) (omega arith) (c .raised .ensures),
-  omega arith,
-)
+loop-again c =
+    let loop = c .before .before .before .loop in (
+      ap₂ bitXor (loop .inv .0) (loop .inv .1 .rest (loop .i) (omega arith)) ∙ sym (sum-next _ _),
+      each-next _ _ _ _ _ (loop .inv .1) (omega arith) (c .raised .ensures),
+      omega arith,
+    )
 
 same-length : tie.Need-same-length Inv-loop μ-loop
 same-length c = c .before .loop .inv .1 .size

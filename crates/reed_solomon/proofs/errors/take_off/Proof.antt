@@ -23,7 +23,9 @@ returns : tie.Need-returns Inv-loop μ-loop
 returns c = off-none _ (the-field _ (c .before .before .pre .0)) _ _ _ _ _ (c .if1 .taken)
 
 mul-raised : tie.Need-mul-raised Inv-loop μ-loop
-mul-raised c = omega (arith, small-product (c .before .before .args .d) (c .before .before .args .first) (c .before .before .pre .1 .1) (c .before .before .pre .1 .2))
+mul-raised c =
+    let start = c .before .before in
+    omega (arith, small-product (start .args .d) (start .args .first) (start .pre .1 .1) (start .pre .1 .2))
 
 raised-requires : tie.Need-raised-requires Inv-loop μ-loop
 raised-requires c κs = search needs
@@ -47,11 +49,13 @@ loop-less : tie.Need-loop-less Inv-loop μ-loop
 loop-less c = search needs
 
 loop-again : tie.Need-loop-again Inv-loop μ-loop
-loop-again c = (
-  off-next _ (the-field _ (c .before .before .before .before .before .before .before .pre .0)) _ _ _ _ _ _ _ (c .before .before .before .loop .inv .0) (omega arith) (c .before .before .before .loop .inv .1),
-  weight-more _ (the-field _ (c .before .before .before .before .before .before .before .pre .0)) _ _ _ _ _ _ (c .before .before .before .loop .inv .1) (c .raised2 .ensures),
-  omega arith,
-)
+loop-again c =
+    let start = c .before .before .before .before .before .before .before in
+    let loop = c .before .before .before .loop in (
+      off-next _ (the-field _ (start .pre .0)) _ _ _ _ _ _ _ (loop .inv .0) (omega arith) (loop .inv .1),
+      weight-more _ (the-field _ (start .pre .0)) _ _ _ _ _ _ (loop .inv .1) (c .raised2 .ensures),
+      omega arith,
+    )
 
 same-length : tie.Need-same-length Inv-loop μ-loop
 same-length c = c .before .loop .inv .0 .size

@@ -15,7 +15,9 @@ abbrev μ-loop : tie.MeasureT-loop
 μ-loop field first s₀ parity e n k₀ s k = n - k
 
 loop-holds : tie.Need-loop-holds Inv-loop μ-loop
-loop-holds c = (off-all-start (polyOf (c .before .before .args .field .now)) (c .before .before .args .first) (c .before .before .args .n) (c .before .before .args .parity) (c .before .before .args .e .now) (c .before .before .args .s .now), omega arith)
+loop-holds c =
+    let start = c .before .before in
+    (off-all-start (polyOf (start .args .field .now)) (start .args .first) (start .args .n) (start .args .parity) (start .args .e .now) (start .args .s .now), omega arith)
 
 sub-d : tie.Need-sub-d Inv-loop μ-loop
 sub-d c = search needs
@@ -27,7 +29,9 @@ shared-slice-read-take-off : tie.Need-shared-slice-read-take-off Inv-loop μ-loo
 shared-slice-read-take-off c = search needs
 
 take-off-requires : tie.Need-take-off-requires Inv-loop μ-loop
-take-off-requires c κs = (c .before .before .before .before .before .before .pre .0, (omega (arith, c .before .before .before .loop .inv .0 .size), omega arith, c .before .before .before .before .before .before .pre .1 .3))
+take-off-requires c κs =
+    let start = c .before .before .before .before .before .before in
+    (start .pre .0, (omega (arith, c .before .before .before .loop .inv .0 .size), omega arith, start .pre .1 .3))
 
 add-k : tie.Need-add-k Inv-loop μ-loop
 add-k c = search needs
@@ -36,19 +40,24 @@ loop-less : tie.Need-loop-less Inv-loop μ-loop
 loop-less c = search needs
 
 loop-again : tie.Need-loop-again Inv-loop μ-loop
-loop-again c = (
-  off-all-next (polyOf (c .before .before .before .before .before .before .before .before .before .args .field .now)) (c .before .before .before .before .before .before .before .before .before .args .first) (c .before .before .before .before .before .before .before .before .before .args .n) (c .before .before .before .before .before .before .before .before .before .args .parity) (c .before .before .before .before .before .before .before .before .before .args .e .now) (c .before .before .before .before .before .before .before .before .before .args .s .now)
-      (c .before .before .before .before .before .before .loop .k) (c .before .before .before .before .before .before .loop .s) (c .before .before .take-off .last .1 .1 .0) (c .before .before .before .before .before .before .loop .inv .0) (c .before .before .take-off .ensures),
-  omega arith,
-)
+loop-again c =
+    let start = c .before .before .before .before .before .before .before .before .before in
+    let loop = c .before .before .before .before .before .before .loop in
+    let take-off = c .before .before .take-off in (
+      off-all-next (polyOf (start .args .field .now)) (start .args .first) (start .args .n) (start .args .parity) (start .args .e .now) (start .args .s .now)
+          (loop .k) (loop .s) (take-off .last .1 .1 .0) (loop .inv .0) (take-off .ensures),
+      omega arith,
+    )
 
 same-length : tie.Need-same-length Inv-loop μ-loop
 same-length c = c .before .loop .inv .0 .size
 
 returns : tie.Need-returns Inv-loop μ-loop
 returns c =
-    off-all-end (polyOf (c .before .before .before .before .args .field .now)) (c .before .before .before .before .args .first) (c .before .before .before .before .args .n) (c .before .before .before .before .args .parity) (c .before .before .before .before .args .e .now) (c .before .before .before .before .args .s .now)
-    (c .before .loop .k) (c .before .loop .s) (c .before .loop .inv .0) (c .before .loop .inv .1) (omega arith)
+    let start = c .before .before .before .before in
+    let loop = c .before .loop in
+    off-all-end (polyOf (start .args .field .now)) (start .args .first) (start .args .n) (start .args .parity) (start .args .e .now) (start .args .s .now)
+    (loop .k) (loop .s) (loop .inv .0) (loop .inv .1) (omega arith)
 
 pub take-off-all-spec : {M : Type 1} → statement M
 take-off-all-spec =

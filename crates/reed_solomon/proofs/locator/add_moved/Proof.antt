@@ -16,7 +16,9 @@ abbrev μ-loop : tie.MeasureT-loop
 μ-loop field f₀ g q m top i₀ f i = top - i
 
 loop-holds : tie.Need-loop-holds Inv-loop μ-loop
-loop-holds c = (adding-start (polyOf (c .before .before .args .field .now)) (c .before .before .args .q) (c .before .before .args .m) (c .before .before .args .g .now) (c .before .before .args .f .now), omega arith, omega arith)
+loop-holds c =
+    let start = c .before .before in
+    (adding-start (polyOf (start .args .field .now)) (start .args .q) (start .args .m) (start .args .g .now) (start .args .f .now), omega arith, omega arith)
 
 sub-mul : tie.Need-sub-mul Inv-loop μ-loop
 sub-mul c = search needs
@@ -40,12 +42,15 @@ loop-less : tie.Need-loop-less Inv-loop μ-loop
 loop-less c = search needs
 
 loop-again : tie.Need-loop-again Inv-loop μ-loop
-loop-again c = (
-  adding-next (polyOf (c .before .before .before .before .before .before .before .args .field .now)) (c .before .before .before .before .before .before .before .args .q) (c .before .before .before .before .before .before .before .args .m) (c .before .before .before .before .before .before .before .args .g .now) (c .before .before .before .before .loop .i) (c .before .mul .result)
-      (c .before .before .before .before .before .before .before .args .f .now) (c .before .before .before .before .loop .f) (c .before .before .before .before .loop .inv .0) (omega arith) (c .before .before .before .before .loop .inv .1) (c .before .mul .ensures),
-  omega arith,
-  omega arith,
-)
+loop-again c =
+    let start = c .before .before .before .before .before .before .before in
+    let loop = c .before .before .before .before .loop in
+    let mul = c .before .mul in (
+      adding-next (polyOf (start .args .field .now)) (start .args .q) (start .args .m) (start .args .g .now) (loop .i) (mul .result)
+          (start .args .f .now) (loop .f) (loop .inv .0) (omega arith) (loop .inv .1) (mul .ensures),
+      omega arith,
+      omega arith,
+    )
 
 same-length : tie.Need-same-length Inv-loop μ-loop
 same-length c = c .before .loop .inv .0 .size

@@ -14,7 +14,9 @@ same-length : tie.Need-same-length
 same-length c = search needs
 
 returns : tie.Need-returns
-returns c = register-kept _ (the-field _ (c .before .before .before .before .before .before .pre .0)) _ _ _ _ _ _ _ (c .before .before .before .before .before .before .pre .1 .1 .1) (sym (c .before .discrepancy .ensures) ∙ c .if1 .taken)
+returns c =
+    let start = c .before .before .before .before .before .before in
+    register-kept _ (the-field _ (start .pre .0)) _ _ _ _ _ _ _ (start .pre .1 .1 .1) (sym (c .before .discrepancy .ensures) ∙ c .if1 .taken)
 
 div-requires : tie.Need-div-requires
 div-requires c κs = search needs
@@ -42,9 +44,14 @@ same-length-3 c = search needs
 
 returns-2 : tie.Need-returns-2
 returns-2 c =
-    register-stayed _ (the-field _ (c .before .before .before .before .before .before .before .before .before .before .before .before .before .before .pre .0)) _ _ _ _ _ _ _ (c .before .before .before .before .before .before .before .before .before .before .before .before .before .before .pre .1 .1 .1) _ _ _ _ (c .before .before .before .before .before .before .before .before .before .discrepancy .ensures)
-    (omega (arith, c .before .before .before .before .before .before .before .before .if1 .left)) (omega arith) (c .before .before .before .before .before .before .before .div .ensures) (c .before .before .add-moved .ensures) (omega arith)
-    (omega (arith, c .before .before .before .before .before .before .before .before .before .before .before .before .before .before .pre .1 .1 .1 .behind, c .before .before .before .before .before .before .before .before .before .before .before .before .before .before .pre .1 .1 .1 .state .before, c .before .before .before .before .before .if2 .taken)) (c .before .before .before .before .before .if2 .taken)
+    let start = c .before .before .before .before .before .before .before .before .before .before .before .before .before .before in
+    let discrepancy = c .before .before .before .before .before .before .before .before .before .discrepancy in
+    let if1 = c .before .before .before .before .before .before .before .before .if1 in
+    let div = c .before .before .before .before .before .before .before .div in
+    let if2 = c .before .before .before .before .before .if2 in
+    register-stayed _ (the-field _ (start .pre .0)) _ _ _ _ _ _ _ (start .pre .1 .1 .1) _ _ _ _ (discrepancy .ensures)
+    (omega (arith, if1 .left)) (omega arith) (div .ensures) (c .before .before .add-moved .ensures) (omega arith)
+    (omega (arith, start .pre .1 .1 .1 .behind, start .pre .1 .1 .1 .state .before, if2 .taken)) (if2 .taken)
 
 add-grow : tie.Need-add-grow
 add-grow c = search needs
@@ -56,10 +63,11 @@ add-grow-2 : tie.Need-add-grow-2
 add-grow-2 c = search needs
 
 grow-requires : tie.Need-grow-requires
-grow-requires c κs = (
-  c .before .before .before .before .before .before .before .before .before .before .before .pre .0,
-  (c .before .before .before .before .before .before .before .before .before .before .before .pre .1 .1 .1 .size-f, c .before .before .before .before .before .before .before .before .before .before .before .pre .1 .1 .1 .size-g, omega arith, omega (arith, c .before .before .before .before .before .before .before .before .before .before .before .pre .1 .1 .1 .behind, c .before .before .before .before .before .before .before .before .before .before .before .pre .1 .1 .1 .within), omega arith),
-)
+grow-requires c κs =
+    let start = c .before .before .before .before .before .before .before .before .before .before .before in (
+      start .pre .0,
+      (start .pre .1 .1 .1 .size-f, start .pre .1 .1 .1 .size-g, omega arith, omega (arith, start .pre .1 .1 .1 .behind, start .pre .1 .1 .1 .within), omega arith),
+    )
 
 add-t14 : tie.Need-add-t14
 add-t14 c = search needs
@@ -78,11 +86,17 @@ same-length-5 c = search needs
 
 returns-3 : tie.Need-returns-3
 returns-3 c =
-    register-grown _ (the-field _ (c .before .before .before .before .before .before .before .before .before .before .before .before .before .before .before .before .pre .0)) _ _ _ _ _ _ _ (c .before .before .before .before .before .before .before .before .before .before .before .before .before .before .before .before .pre .1 .1 .1) _ _ _ _ (c .before .before .before .before .before .before .before .before .before .before .before .discrepancy .ensures)
-    (omega (arith, c .before .before .before .before .before .before .before .before .before .before .if1 .left)) (omega arith) (c .before .before .before .before .before .before .before .before .before .div .ensures) (c .before .before .before .before .grow .ensures .0)
-    (omega (arith, c .before .before .before .before .before .before .before .before .before .before .before .before .before .before .before .before .pre .1 .1 .1 .within, c .before .before .before .before .before .before .before .if2 .left))
-    (omega (arith, c .before .before .before .before .before .before .before .before .before .before .before .before .before .before .before .before .pre .1 .1 .1 .behind, c .before .before .before .before .before .before .before .before .before .before .before .before .before .before .before .before .pre .1 .1 .1 .state .before, c .before .before .before .before .before .before .before .if2 .left))
-    _ (c .before .before .before .before .grow .ensures .1) (omega (arith, c .before .before .before .before .before .before .before .if2 .left))
+    let start = c .before .before .before .before .before .before .before .before .before .before .before .before .before .before .before .before in
+    let discrepancy = c .before .before .before .before .before .before .before .before .before .before .before .discrepancy in
+    let if1 = c .before .before .before .before .before .before .before .before .before .before .if1 in
+    let div = c .before .before .before .before .before .before .before .before .before .div in
+    let if2 = c .before .before .before .before .before .before .before .if2 in
+    let grow = c .before .before .before .before .grow in
+    register-grown _ (the-field _ (start .pre .0)) _ _ _ _ _ _ _ (start .pre .1 .1 .1) _ _ _ _ (discrepancy .ensures)
+    (omega (arith, if1 .left)) (omega arith) (div .ensures) (grow .ensures .0)
+    (omega (arith, start .pre .1 .1 .1 .within, if2 .left))
+    (omega (arith, start .pre .1 .1 .1 .behind, start .pre .1 .1 .1 .state .before, if2 .left))
+    _ (grow .ensures .1) (omega (arith, if2 .left))
 
 pub extend-spec : {M : Type 1} → statement M
 extend-spec =

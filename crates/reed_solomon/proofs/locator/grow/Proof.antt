@@ -27,11 +27,15 @@ same-length-2 : tie.Need-same-length-2
 same-length-2 c = search needs
 
 returns : tie.Need-returns
-returns c = (
-  c .before .before .before .before .before .before .before .add-moved .ensures,
-  copied-twice (c .before .before .before .before .before .before .before .before .before .before .before .before .before .before .before .before .args .n) (c .before .before .before .before .before .before .before .before .before .before .before .before .before .before .before .before .args .f .now) (replicate 256 0) (c .before .before .before .before .before .before .before .before .before .before .before .copy .last .0) (c .before .before .before .before .before .before .before .before .before .before .before .before .before .before .before .before .args .g .now) (c .before .before .copy2 .last .0)
-      (c .before .before .before .before .before .before .before .before .before .before .before .copy .ensures) (c .before .before .copy2 .ensures),
-)
+returns c =
+    let start = c .before .before .before .before .before .before .before .before .before .before .before .before .before .before .before .before in
+    let copy = c .before .before .before .before .before .before .before .before .before .before .before .copy in
+    let add-moved = c .before .before .before .before .before .before .before .add-moved in
+    let copy2 = c .before .before .copy2 in (
+      add-moved .ensures,
+      copied-twice (start .args .n) (start .args .f .now) (replicate 256 0) (copy .last .0) (start .args .g .now) (copy2 .last .0)
+          (copy .ensures) (copy2 .ensures),
+    )
 
 pub grow-spec : {M : Type 1} → statement M
 grow-spec =

@@ -23,13 +23,17 @@ array-write-g : tie.Need-array-write-g Inv-loop μ-loop
 array-write-g c = search needs
 
 loop-holds : tie.Need-loop-holds Inv-loop μ-loop
-loop-holds c = (register-start _ _ (c .before .before .args .f .now) (replicate 256 0) (c .before .before .pre .1 .1 .1 .0) (c .before .before .pre .1 .1 .1 .1) refl (zeros 256), omega arith)
+loop-holds c =
+    let start = c .before .before in
+    (register-start _ _ (start .args .f .now) (replicate 256 0) (start .pre .1 .1 .1 .0) (start .pre .1 .1 .1 .1) refl (zeros 256), omega arith)
 
 slice-aggregate-extend : tie.Need-slice-aggregate-extend Inv-loop μ-loop
 slice-aggregate-extend c = sym (c .before .before .before .loop .inv .0 .size-g)
 
 extend-requires : tie.Need-extend-requires Inv-loop μ-loop
-extend-requires c κs = (c .before .before .before .before .before .before .pre .0, (omega arith, (c .before .before .before .before .before .before .pre .1 .1 .0, c .before .before .before .loop .inv .0)))
+extend-requires c κs =
+    let start = c .before .before .before .before .before .before in
+    (start .pre .0, (omega arith, (start .pre .1 .1 .0, c .before .before .before .loop .inv .0)))
 
 add-r : tie.Need-add-r Inv-loop μ-loop
 add-r c = search needs

@@ -38,7 +38,9 @@ loop-less : tie.Need-loop-less Inv-loop μ-loop
 loop-less c = search needs
 
 loop-again : tie.Need-loop-again Inv-loop μ-loop
-loop-again c = (each-next _ _ _ _ _ (c .before .before .before .loop .inv .0) (omega arith) (ap (λ (x : ℕ). bitXor x (c .before .before .before .before .before .args .byte)) (c .raised .ensures)), omega arith)
+loop-again c =
+    let start = c .before .before .before .before .before in
+    (each-next _ _ _ _ _ (c .before .before .before .loop .inv .0) (omega arith) (ap (λ (x : ℕ). bitXor x (start .args .byte)) (c .raised .ensures)), omega arith)
 
 same-length : tie.Need-same-length Inv-loop μ-loop
 same-length c = c .before .loop .inv .0 .size

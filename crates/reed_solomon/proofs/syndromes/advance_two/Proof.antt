@@ -47,11 +47,13 @@ loop-less : tie.Need-loop-less Inv-loop μ-loop
 loop-less c = search needs
 
 loop-again : tie.Need-loop-again Inv-loop μ-loop
-loop-again c = (
-  each-next _ _ _ _ _ (c .before .before .before .before .before .loop .inv .0) (omega arith)
-      (two-at-once _ (the-field _ (c .before .before .before .before .before .before .before .pre .0)) _ _ _ _ _ _ _ _ (c .before .before .reduced .ensures .1) (c .before .raised .ensures) (c .raised2 .ensures)),
-  omega arith,
-)
+loop-again c =
+    let start = c .before .before .before .before .before .before .before in
+    let loop = c .before .before .before .before .before .loop in (
+      each-next _ _ _ _ _ (loop .inv .0) (omega arith)
+          (two-at-once _ (the-field _ (start .pre .0)) _ _ _ _ _ _ _ _ (c .before .before .reduced .ensures .1) (c .before .raised .ensures) (c .raised2 .ensures)),
+      omega arith,
+    )
 
 same-length : tie.Need-same-length Inv-loop μ-loop
 same-length c = c .before .loop .inv .0 .size

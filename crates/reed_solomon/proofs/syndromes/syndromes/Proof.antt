@@ -38,7 +38,10 @@ shared-slice-read-advance-two-2 : tie.Need-shared-slice-read-advance-two-2 Inv-l
 shared-slice-read-advance-two-2 c = search needs
 
 advance-two-requires : tie.Need-advance-two-requires Inv-loop μ-loop
-advance-two-requires c κs = (c .before .before .before .before .before .before .pre .0, (c .before .before .before .before .before .before .pre .1, omega (arith, c .before .before .before .before .loop .inv .0 .size)))
+advance-two-requires c κs =
+    let start = c .before .before .before .before .before .before in
+    let loop = c .before .before .before .before .loop in
+    (start .pre .0, (start .pre .1, omega (arith, loop .inv .0 .size)))
 
 add-i : tie.Need-add-i Inv-loop μ-loop
 add-i c = search needs
@@ -47,12 +50,14 @@ loop-less : tie.Need-loop-less Inv-loop μ-loop
 loop-less c = search needs
 
 loop-again : tie.Need-loop-again Inv-loop μ-loop
-loop-again c = (
-  running-two _ (the-field _ (c .before .before .before .before .before .before .before .before .pre .0)) _ _ _ _ _ _ _ _ (c .before .before .before .before .before .before .loop .inv .0) (c .before .advance-two .ensures) refl refl
-      (omega (arith, c .before .before .before .shared-slice-known2 .given (c .before .before .before .before .before .before .loop .i + c .before .before .before .before .before .before .loop .i)))
-      (omega (arith, c .before .before .shared-slice-known3 .given (c .before .before .before .before .before .before .loop .i + c .before .before .before .before .before .before .loop .i + 1))),
-  omega arith,
-)
+loop-again c =
+    let start = c .before .before .before .before .before .before .before .before in
+    let loop = c .before .before .before .before .before .before .loop in (
+      running-two _ (the-field _ (start .pre .0)) _ _ _ _ _ _ _ _ (loop .inv .0) (c .before .advance-two .ensures) refl refl
+          (omega (arith, c .before .before .before .shared-slice-known2 .given (loop .i + loop .i)))
+          (omega (arith, c .before .before .shared-slice-known3 .given (loop .i + loop .i + 1))),
+      omega arith,
+    )
 
 returns : tie.Need-returns Inv-loop μ-loop
 returns c = running-end _ _ _ _ _ _ (c .before .before .loop .inv .0) (omega arith) (omega arith)
@@ -67,13 +72,18 @@ shared-slice-read-advance : tie.Need-shared-slice-read-advance Inv-loop μ-loop
 shared-slice-read-advance c = search needs
 
 advance-requires : tie.Need-advance-requires Inv-loop μ-loop
-advance-requires c κs = (c .before .before .before .before .before .before .pre .0, (c .before .before .before .before .before .before .pre .1, omega (arith, c .before .before .before .before .loop .inv .0 .size)))
+advance-requires c κs =
+    let start = c .before .before .before .before .before .before in
+    let loop = c .before .before .before .before .loop in
+    (start .pre .0, (start .pre .1, omega (arith, loop .inv .0 .size)))
 
 returns-2 : tie.Need-returns-2 Inv-loop μ-loop
 returns-2 c =
+    let start = c .before .before .before .before .before .before .before .before in
+    let loop = c .before .before .before .before .before .before .loop in
     running-end _ _ _ _ _ _
-    (running-next _ (the-field _ (c .before .before .before .before .before .before .before .before .pre .0)) _ _ _ _ _ _ _ (c .before .before .before .before .before .before .loop .inv .0) (c .before .advance .ensures) refl
-    (omega (arith, c .before .before .shared-slice-known4 .given (c .before .before .before .before .before .before .loop .i + c .before .before .before .before .before .before .loop .i))))
+    (running-next _ (the-field _ (start .pre .0)) _ _ _ _ _ _ _ (loop .inv .0) (c .before .advance .ensures) refl
+    (omega (arith, c .before .before .shared-slice-known4 .given (loop .i + loop .i))))
     (omega arith) (omega arith)
 
 pub syndromes-spec : {M : Type 1} → statement M
