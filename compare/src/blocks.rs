@@ -1,6 +1,6 @@
 //! The field and Correct a block: our `correct` against `Field::correct` of the original, answer, count and every byte.
 use crate::reed_solomon::{Field, access, gf256};
-use crate::tools::{Random, differs, hex, line, time};
+use crate::tools::{Random, differs, hex, line, time_both};
 
 #[repr(C)]
 #[derive(Clone, Copy, PartialEq, Eq, Debug)]
@@ -354,19 +354,19 @@ pub fn bench() {
             let blocks: Vec<Vec<u8>> = (0..64)
                 .map(|_| damaged(field, &mut random, length, parity, errors))
                 .collect();
-            let mut work = vec![0; length];
-            let mut i = 0;
-            let our = time(|| {
+            let (mut work, mut other) = (vec![0; length], vec![0; length]);
+            let (mut i, mut j) = (0, 0);
+            let our_call = || {
                 work.copy_from_slice(&blocks[i % 64]);
                 i += 1;
                 std::hint::black_box(ours(&mut work, parity));
-            });
-            let mut i = 0;
-            let their = time(|| {
-                work.copy_from_slice(&blocks[i % 64]);
-                i += 1;
-                std::hint::black_box(field.correct(&mut work, parity, 1));
-            });
+            };
+            let their_call = || {
+                other.copy_from_slice(&blocks[j % 64]);
+                j += 1;
+                std::hint::black_box(field.correct(&mut other, parity, 1));
+            };
+            let (our, their) = time_both(our_call, their_call);
             line(&format!("block ({length}, {parity}) {name}"), our, their);
         }
     }

@@ -1,7 +1,7 @@
 //! Segments: `parse` of the original against Segments from data, on payload bytes and acceptance; scripts and refusals beside it against
 //! the second writer in written.rs.
 use crate::han_xin::access::parse;
-use crate::tools::{MARK, ROOM, Random, differs, hex, line, time};
+use crate::tools::{MARK, ROOM, Random, differs, hex, line, time_both};
 use crate::written::{Bits, Written};
 
 #[repr(C)]
@@ -338,12 +338,13 @@ pub fn bench() {
     for (name, bits) in cases {
         let data = bits.bytes();
         assert!(data.len() <= 3264 && parse(&data).is_some(), "{name}");
-        let ours = time(|| {
+        let our_call = || {
             std::hint::black_box(from_data(std::hint::black_box(&data), &mut payload, &mut script).refusal);
-        });
-        let theirs = time(|| {
+        };
+        let their_call = || {
             std::hint::black_box(parse(std::hint::black_box(&data)));
-        });
+        };
+        let (ours, theirs) = time_both(our_call, their_call);
         line(name, ours, theirs);
     }
 }

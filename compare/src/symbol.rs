@@ -1,6 +1,6 @@
 //! The symbol: version, layout, information words and places, masks and the block table, against the original's.
 use crate::han_xin::{Module, access, info_bits, info_positions, layout, nearest_info, size, version};
-use crate::tools::{Random, line, same, time};
+use crate::tools::{Random, line, same, time_both};
 
 #[repr(C)]
 #[derive(Clone, Copy, PartialEq, Eq, Debug)]
@@ -287,12 +287,13 @@ pub fn compare() {
 pub fn bench() {
     let mut out = vec![0; 189 * 189];
     for v in [1, 20, 84] {
-        let ours = time(|| {
+        let our_call = || {
             std::hint::black_box(our_layout(std::hint::black_box(v), &mut out));
-        });
-        let theirs = time(|| {
+        };
+        let their_call = || {
             std::hint::black_box(layout(std::hint::black_box(v)));
-        });
+        };
+        let (ours, theirs) = time_both(our_call, their_call);
         line(&format!("layout, version {v}"), ours, theirs);
     }
     let mut random = Random::new(11);
@@ -306,16 +307,17 @@ pub fn bench() {
             (v, read)
         })
         .collect();
-    let ours = time(|| {
+    let our_call = || {
         for (v, read) in &reads {
             std::hint::black_box(hx_nearest_info(*v, read[0], read[1]));
         }
-    });
-    let theirs = time(|| {
+    };
+    let their_call = || {
         for (v, read) in &reads {
             std::hint::black_box(nearest_info(*v, *read));
         }
-    });
+    };
+    let (ours, theirs) = time_both(our_call, their_call);
     line("nearest word", ours / 64.0, theirs / 64.0);
 }
 
