@@ -3,7 +3,6 @@
 -- square at all that passes its first refusals. Assumes nothing.
 use mathlib.Core.Path.{_≡_, refl, sym, ap, _∙_, subst}
 use mathlib.Core.Bool.{Bool, true, false, cond, _&&_}
-use mathlib.Core.Option.{none, some}
 use mathlib.Core.List.{List, [], _∷_, _++_}
 use Prim.Native.Nat.{ℕ, _+_, _-_, _*_, _/_, _%_, _≤_, _<_}
 use native.Mathlib.Omega.{arith}
@@ -13,8 +12,7 @@ use Rattle.symbol.specs.Version.{sideOf, isSide, sideVersion}
 use Rattle.symbol.specs.Layout.{layoutOf}
 use Rattle.information.specs.Information.{isInfo, infoFlips}
 use Rattle.blocks.specs.Blocks.{shapesOf, hasBlocks, dataParts}
-use Rattle.reed_solomon.specs.Block.{distance, nearest}
-use Rattle.reed_solomon.proofs.Nearest.{Near}
+use Rattle.reed_solomon.specs.Block.{distance}
 use Rattle.blockwise.specs.Blockwise.{differences, blockAt, parityAt}
 use Rattle.segments.specs.FromData.{fromData}
 use Rattle.squares.specs.Receipt.{receiptOf}
@@ -25,12 +23,13 @@ use Rattle.squares.proofs.Marks.{Written, Ranges, ranges, written, mark
 use Rattle.squares.proofs.Starts.{in-body, side-range, level-range}
 use Rattle.squares.proofs.Demand as demand
 use Rattle.squares.proofs.Settle as settle
+use Rattle.squares.proofs.Settle.{InReach}
 
 -- ---- 1. Marks made by the writer
 
--- A script, a list of bytes, and a payload are written at a version, level and mask into a square, which then is `mark`. `square` is any square of the same
--- size with module bytes 0 or 1, each block of which differs from the written block in at most floor(parity / 2) codewords. The receipt has
--- 12 bytes, and the buffers p and s are long enough.
+-- A script (a list of bytes) and a payload are written at a version, level and mask into a square, which then is `mark`. `square` is any
+-- square of the same size with module bytes 0 or 1, each block of which differs from the written block in at most floor(parity / 2)
+-- codewords. The receipt has 12 bytes, and the buffers p and s are long enough.
 module _ (v level mask : ℕ) (script payload before mark : List ℕ) (bytes : (i : ℕ) → getD script i 0 < 256)
     (made : writeOf v level mask script payload before ≡ record { number = 0; square = mark })
     (square : List ℕ) (size : length square ≡ length mark) (modules : (i : ℕ) → getD square i 0 < 2)
@@ -79,7 +78,8 @@ module _ (v level mask : ℕ) (script payload before mark : List ℕ) (bytes : (
       demand.known-back v level mask script payload before bytes is-written square sized modules reach′ p s room-p room-s r receipt
       ∙ ap (λ (m : List ℕ). demand.given v level mask (differences (blocksIn v level mask square) (blocksIn v level mask m)) 0 script payload p s) (sym is-mark)
 
--- ---- 2. Any square
+-- ---- 2. Any square. `InReach v level mask sq j u` says that u is a codeword within floor(parity / 2) places of block j of sq: of the same
+-- length and parity, and different in at most so many bytes.
 
 -- A square that passes refusals 1 to 4 of Read a square, where the receipt has 12 bytes. Its version is its side's, level and mask are the
 -- nearest.
@@ -102,28 +102,24 @@ module _ (sq : List ℕ) (side : ℕ) (p s r : List ℕ) (receipt : length r ≡
   read-body = in-body r p s (readRefusal side sq) (bodyOf version level mask (distanceIn version sq) sq p s) receipt passes
 
   -- If some block has no codeword within floor(parity / 2) places, the answer is 6, and payload and script are left ..
-  pub lost-is-six : (j : ℕ) → j < length (shapesOf version level)
-      → nearest 0x163 1 (parityAt (shapesOf version level) j) (blockAt (blocksIn version level mask sq) j) ≡ none → readOf sq side p s r ≡ refused 6 p s
+  pub lost-is-six : (j : ℕ) → j < length (shapesOf version level) → ((u : List ℕ) → InReach version level mask sq j u → ⊥) → readOf sq side p s r ≡ refused 6 p s
   lost-is-six j h e =
       read-body ∙ settle.lost-six version level mask (distanceIn version sq) sq p s (ranged .0) (ranged .1) (level-range (sideVersion side) sq) j h e
 
   -- .. and 6 comes only then.
-  pub six-is-lost : readOf sq side p s r .number ≡ 6
-      → (j : ℕ) × (j < length (shapesOf version level)) × (nearest 0x163 1 (parityAt (shapesOf version level) j) (blockAt (blocksIn version level mask sq) j) ≡ none)
+  pub six-is-lost : readOf sq side p s r .number ≡ 6 → (j : ℕ) × (j < length (shapesOf version level)) × ((u : List ℕ) → InReach version level mask sq j u → ⊥)
   six-is-lost e =
       settle.six-lost version level mask (distanceIn version sq) sq p s (ranged .0) (ranged .1) (level-range (sideVersion side) sq)
       (sym (ap (λ (x : Reading). x .number) read-body) ∙ e)
 
   -- No block has two.
-  pub no-block-has-two : (j : ℕ) → j < length (shapesOf version level) → (u w : List ℕ)
-      → Near 0x163 1 (parityAt (shapesOf version level) j) (blockAt (blocksIn version level mask sq) j) u
-      → Near 0x163 1 (parityAt (shapesOf version level) j) (blockAt (blocksIn version level mask sq) j) w → u ≡ w
+  pub no-block-has-two : (j : ℕ) → j < length (shapesOf version level) → (u w : List ℕ) → InReach version level mask sq j u → InReach version level mask sq j w → u ≡ w
   no-block-has-two = settle.no-two version level mask (distanceIn version sq) sq p s (ranged .0) (ranged .1) (level-range (sideVersion side) sq)
 
   -- When each has one, each is set to it: payload and script, or the refusal, are what Segments from data gives for their data parts, and
   -- the count is the number of places in which the square's blocks differ from them.
   pub each-is-set : (ws : List (List ℕ)) → length ws ≡ length (shapesOf version level)
-      → ((j : ℕ) → j < length (shapesOf version level) → nearest 0x163 1 (parityAt (shapesOf version level) j) (blockAt (blocksIn version level mask sq) j) ≡ some (blockAt ws j))
+      → ((j : ℕ) → j < length (shapesOf version level) → InReach version level mask sq j (blockAt ws j))
       → readOf sq side p s r ≡ told version level mask (distanceIn version sq) (differences (blocksIn version level mask sq) ws) (fromData (dataParts (shapesOf version level) ws) p s)
   each-is-set ws n e =
       read-body ∙ settle.each-told version level mask (distanceIn version sq) sq p s (ranged .0) (ranged .1) (level-range (sideVersion side) sq) ws n e
@@ -138,19 +134,15 @@ module _ (sq : List ℕ) (v l k : ℕ) (p s r : List ℕ) (receipt : length r �
   unfolding readKnownOf
   known-body = in-body r p s (knownRefusal v l k sq) (bodyOf v l k 0 sq p s) receipt passes
 
-  pub known-lost-is-six : (j : ℕ) → j < length (shapesOf v l)
-      → nearest 0x163 1 (parityAt (shapesOf v l) j) (blockAt (blocksIn v l k sq) j) ≡ none → readKnownOf sq v l k p s r ≡ refused 6 p s
+  pub known-lost-is-six : (j : ℕ) → j < length (shapesOf v l) → ((u : List ℕ) → InReach v l k sq j u → ⊥) → readKnownOf sq v l k p s r ≡ refused 6 p s
   known-lost-is-six j h e = known-body ∙ settle.lost-six v l k 0 sq p s (in-range .low) (in-range .high) (in-range .level) j h e
 
-  pub known-six-is-lost : readKnownOf sq v l k p s r .number ≡ 6
-      → (j : ℕ) × (j < length (shapesOf v l)) × (nearest 0x163 1 (parityAt (shapesOf v l) j) (blockAt (blocksIn v l k sq) j) ≡ none)
+  pub known-six-is-lost : readKnownOf sq v l k p s r .number ≡ 6 → (j : ℕ) × (j < length (shapesOf v l)) × ((u : List ℕ) → InReach v l k sq j u → ⊥)
   known-six-is-lost e = settle.six-lost v l k 0 sq p s (in-range .low) (in-range .high) (in-range .level) (sym (ap (λ (x : Reading). x .number) known-body) ∙ e)
 
-  pub known-no-block-has-two : (j : ℕ) → j < length (shapesOf v l) → (u w : List ℕ)
-      → Near 0x163 1 (parityAt (shapesOf v l) j) (blockAt (blocksIn v l k sq) j) u → Near 0x163 1 (parityAt (shapesOf v l) j) (blockAt (blocksIn v l k sq) j) w → u ≡ w
+  pub known-no-block-has-two : (j : ℕ) → j < length (shapesOf v l) → (u w : List ℕ) → InReach v l k sq j u → InReach v l k sq j w → u ≡ w
   known-no-block-has-two = settle.no-two v l k 0 sq p s (in-range .low) (in-range .high) (in-range .level)
 
-  pub known-each-is-set : (ws : List (List ℕ)) → length ws ≡ length (shapesOf v l)
-      → ((j : ℕ) → j < length (shapesOf v l) → nearest 0x163 1 (parityAt (shapesOf v l) j) (blockAt (blocksIn v l k sq) j) ≡ some (blockAt ws j))
+  pub known-each-is-set : (ws : List (List ℕ)) → length ws ≡ length (shapesOf v l) → ((j : ℕ) → j < length (shapesOf v l) → InReach v l k sq j (blockAt ws j))
       → readKnownOf sq v l k p s r ≡ told v l k 0 (differences (blocksIn v l k sq) ws) (fromData (dataParts (shapesOf v l) ws) p s)
   known-each-is-set ws n e = known-body ∙ settle.each-told v l k 0 sq p s (in-range .low) (in-range .high) (in-range .level) ws n e
