@@ -9,7 +9,7 @@ use native.Mathlib.Decide.{ℕ-discrete}
 use lib.Bits.{bitXor, xor-comm, xor-self, xor-zero-r, xor-mod}
 use Rattle.field.specs.Field.{mul}
 use Rattle.field.proofs.Xor.{xor-assoc, xor-swap}
-use Rattle.field.proofs.Field.{Passes, mul-comm, mul-assoc, sum-lt}
+use Rattle.field.proofs.Field.{Passes, mul-comm, mul-assoc}
 use Rattle.field.proofs.Field.{mul-sum as sum-mul}
 use Rattle.field.proofs.Entries.{mul-right-zero}
 use Rattle.algebra.specs.Sum.{_⊕_, sum}
@@ -65,20 +65,12 @@ unfolding sum
 sum-drop f m zero z = ap (sum f) (add-zero m) ∙ sum-zero f m z
 sum-drop f m (suc n) z = ap (sum f) (add-suc m n) ∙ ap (λ (x : ℕ). x ⊕ f (m + n)) (sum-drop f m n z)
 
-pub sum-bytes : (f : ℕ → ℕ) (n : ℕ) → ((i : ℕ) → f i < 256) → sum f n < 256
-unfolding sum
-sum-bytes f zero h = omega arith
-sum-bytes f (suc n) h = sum-lt (sum f n) (f n) (sum-bytes f n h) (h n)
-
 pub add-cancel : (a b : ℕ) → a ⊕ (a ⊕ b) ≡ b
 add-cancel a b = sym (xor-assoc a a b) ∙ ap (λ (x : ℕ). x ⊕ b) (xor-self a)
 
 -- what sums to zero is equal
 pub add-zero-eq : (a b : ℕ) → a ⊕ b ≡ 0 → a ≡ b
 add-zero-eq a b e = sym (xor-zero-r a) ∙ ap (bitXor a) (sym e) ∙ add-cancel a b
-
-pub add-left : (a b c : ℕ) → a ⊕ (b ⊕ c) ≡ b ⊕ (a ⊕ c)
-add-left a b c = sym (xor-assoc a b c) ∙ ap (λ (x : ℕ). x ⊕ c) (xor-comm a b) ∙ xor-assoc b a c
 
 -- ---- and products
 

@@ -1,5 +1,5 @@
 -- Document 01, "Blocks" (000: `BLOCKS`): the rows of the block table, the rule of a row, and how a stream is cut into blocks.
-use mathlib.Core.Bool.{Bool, cond, _&&_, _||_}
+use mathlib.Core.Bool.{Bool, _&&_, _||_}
 use mathlib.Core.List.{List, [], _∷_, _++_}
 use Prim.Native.Nat.{ℕ, zero, suc, _+_, _-_, _*_}
 use lib.Dec.{eqb, ltb, leb}
@@ -43,9 +43,6 @@ dataModules (suc k ∷ ks) = dataModules ks
 -- refusal 1: a version and level whose row breaks the rule, or a version with too few data modules
 unfoldable pub hasBlocks : ℕ → ℕ → Bool
 hasBlocks v level = rowHolds (rowOf v level) (totalOf v) && leb (8 * totalOf v) (dataModules (layoutOf v))
-
-unfoldable pub blocksRefusal : ℕ → ℕ → ℕ
-blocksRefusal v level = cond (hasBlocks v level) 0 1
 
 -- The blocks of a stream.
 

@@ -29,9 +29,6 @@ module _ (a n : ℕ) (xs s : List ℕ) (size : length xs ≡ n) (room : a + n �
   pub spliced-behind : drop (a + n) (spliced a n xs s) ≡ drop (a + n) s
   spliced-behind = ap (drop (a + n)) opened ∙ drop-at (take a s ++ xs) (drop (a + n) s) (a + n) front-length
 
-  pub spliced-length : length (spliced a n xs s) ≡ length s
-  spliced-length = ap length opened ∙ length-append (take a s ++ xs) (drop (a + n) s) ∙ omega (arith, front-length, length-drop (a + n) s)
-
   -- two parts, one behind the other, are one
   pub spliced-more : (m : ℕ) (ys : List ℕ) → spliced (a + n) m ys (spliced a n xs s) ≡ spliced a (n + m) (xs ++ ys) s
   unfolding spliced
