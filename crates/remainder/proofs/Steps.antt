@@ -1,0 +1,171 @@
+-- A step of the division: four bytes leave the register, four come in, and the rows of those that left are added.
+use mathlib.Core.Path.{_≡_, refl, sym, ap, ap₂, _∙_}
+use mathlib.Core.List.{List, [], _∷_}
+use Prim.Native.Nat.{ℕ, zero, suc, _+_, _-_, _*_, _/_, _%_, _^_, _≤_, _<_}
+use native.Mathlib.Omega.{arith}
+use native.Mathlib.Nat.{mod-lt}
+use native.Mathlib.Numerals.{add-one}
+use lib.Dec.{T}
+use lib.ListN.{length, getD, take}
+use lib.Pow.{mod-pow-add, pow-pos}
+use lib.Bits.{bitXor, xor-comm, xor-self, xor-zero-l, xor-zero-r, xor-shifted, xor-lt}
+use Rattle.field.specs.Field.{mul, orderTest}
+use Rattle.field.proofs.Field.{Passes, passes}
+use Rattle.field.proofs.Xor.{xor-assoc}
+use Rattle.reed_solomon.specs.Block.{evalFrom}
+use Rattle.remainder.specs.declared.Register.{Register}
+use Rattle.remainder.specs.Words.{digits, behind, Zero, rowAt, sumOf, movedOf, Rows, Front, Keeps, Left}
+use Rattle.remainder.proofs.Digits.{pow-up, digits-sum, behind-sum, behind-moved, digits-none, digits-next, one-digit}
+
+-- the low i + 1 hexadecimal digits
+low-next : (x i : ℕ) → bitXor (x % 2 ^ (4 * i)) (x / 2 ^ (4 * i) % 16 * 2 ^ (4 * i)) ≡ x % 2 ^ (4 * (i + 1))
+low-next x i =
+    let e : 4 * (i + 1) ≡ 4 + 4 * i = omega arith in
+    xor-comm (x % 2 ^ (4 * i)) (x / 2 ^ (4 * i) % 16 * 2 ^ (4 * i))
+    ∙ xor-shifted (x / 2 ^ (4 * i) % 16) (4 * i) (x % 2 ^ (4 * i)) (mod-lt x (pow-pos (4 * i)))
+    ∙ sym (ap (λ (n : ℕ). x % 2 ^ n) e ∙ mod-pow-add x 4 (4 * i))
+
+module _ (poly : ℕ) (P : Passes poly) (x : ℕ) where
+  -- the row of one more digit of y
+  pub add-row : (e h y i : ℕ) (n row : Register) → Zero poly x (y / 2 ^ (4 * i) % 16 * 2 ^ (4 * i)) row
+      → behind poly x (digits poly x e 4 (bitXor h (y % 2 ^ (4 * i)))) n ≡ 0 → behind poly x (digits poly x e 4 (bitXor h (y % 2 ^ (4 * (i + 1))))) (sumOf n row) ≡ 0
+  add-row e h y i n row w z =
+      let f = y / 2 ^ (4 * i) % 16 in
+      let lo = y % 2 ^ (4 * i) in
+      ap (λ (a : ℕ). behind poly x a (sumOf n row))
+      (ap₂ (λ (a b : ℕ). digits poly x a 4 b) (sym (xor-zero-r e)) (ap (bitXor h) (sym (low-next y i)) ∙ sym (xor-assoc h lo (f * 2 ^ (4 * i))))
+      ∙ digits-sum poly P x 4 e 0 (bitXor h lo) (f * 2 ^ (4 * i)))
+      ∙ behind-sum poly P x (digits poly x e 4 (bitXor h lo)) (digits poly x 0 4 (f * 2 ^ (4 * i))) n row
+      ∙ ap₂ bitXor z w
+
+  -- one byte leaves the register
+  pub byte-on : (v : ℕ) (r : Register) → v < 2 ^ 24 → r .a < 2 ^ 64 → r .b < 2 ^ 64 → r .c < 2 ^ 64 → r .d < 2 ^ 64 → Zero poly x v r
+      → Zero poly x (v * 256 + r .a / 2 ^ 56) (movedOf 1 7 r)
+  byte-on v r lv la lb lc ld z =
+      ap (λ (a : ℕ). behind poly x a (movedOf 1 7 r)) (digits-next poly P x v (r .a / 2 ^ 56) lv (omega arith) ∙ sym (one-digit poly P x (digits poly x 0 4 v) (r .a / 2 ^ 56) (omega arith)))
+      ∙ behind-moved poly P x 1 7 (digits poly x 0 4 v) r refl (omega arith) (omega arith) (omega arith)
+      ∙ ap (λ (a : ℕ). digits poly x a 1 0) z ∙ digits-none poly P x 1
+
+module _ (poly x : ℕ) (t : List ℕ) (R : Rows poly x t) where
+  P : Passes poly
+  P = passes poly (R .field)
+
+  pub add-next : (e h y i : ℕ) (n : Register) → i < 8 → behind poly x (digits poly x e 4 (bitXor h (y % 2 ^ (4 * i)))) n ≡ 0
+      → behind poly x (digits poly x e 4 (bitXor h (y % 2 ^ (4 * (i + 1))))) (sumOf n (rowAt t (16 * i + y / 2 ^ (4 * i) % 16))) ≡ 0
+  add-next e h y i n li z = add-row poly P x e h y i n (rowAt t (16 * i + y / 2 ^ (4 * i) % 16)) (R .zero-at i (y / 2 ^ (4 * i) % 16) li (omega arith)) z
+
+  pub moved-on : (e : ℕ) (r : Register) → r .b < 2 ^ 64 → r .c < 2 ^ 64 → r .d < 2 ^ 64 → behind poly x e r ≡ 0
+      → behind poly x (digits poly x e 4 (r .a / 2 ^ 32)) (movedOf 4 4 r) ≡ 0
+  moved-on e r lb lc ld z =
+      behind-moved poly P x 4 4 e r refl (omega arith) (omega arith) (omega arith)
+      ∙ ap (λ (a : ℕ). digits poly x a 4 0) z ∙ digits-none poly P x 4
+
+-- the digits of no byte, and of all four
+pub no-digits : (h y : ℕ) → bitXor h (y % 2 ^ (4 * 0)) ≡ h
+no-digits h y = let o : y % 1 ≡ 0 = omega arith in ap (bitXor h) o ∙ xor-zero-r h
+
+pub all-digits : (y i : ℕ) → i ≤ 8 → 8 ≤ i → y < 2 ^ 32 → y % 2 ^ (4 * i) ≡ y
+all-digits y i a b l =
+    let e : 4 * i ≡ 32 = omega arith in
+    let m : y % 4294967296 ≡ y = omega arith in
+    ap (λ (n : ℕ). y % 2 ^ n) e ∙ m
+
+pub back : (h v : ℕ) → bitXor h (bitXor h v) ≡ v
+back h v = sym (xor-assoc h h v) ∙ ap (λ (a : ℕ). bitXor a v) (xor-self h) ∙ xor-zero-l v
+
+-- one byte more of a block
+pub eval-next : (poly x acc : ℕ) (xs : List ℕ) (i n : ℕ) → n ≡ suc i → i < length xs
+    → evalFrom poly x acc (take n xs) ≡ bitXor (mul poly (evalFrom poly x acc (take i xs)) x) (getD xs i 0)
+unfolding evalFrom
+eval-next poly x acc xs i n e h = rw e (go acc xs i h)
+  where
+    go : (acc : ℕ) (xs : List ℕ) (i : ℕ) → i < length xs → evalFrom poly x acc (take (suc i) xs) ≡ bitXor (mul poly (evalFrom poly x acc (take i xs)) x) (getD xs i 0)
+    go acc [] i h = absurd (omega arith)
+    go acc (b ∷ bs) zero h = refl
+    go acc (b ∷ bs) (suc i) h = go (bitXor (mul poly acc x) b) bs i (omega arith)
+
+-- four bytes more
+pub eval-four : (poly x : ℕ) (xs : List ℕ) (i v : ℕ) → i + 4 ≤ length xs → ((j : ℕ) → getD xs j 0 < 256)
+    → v ≡ getD xs i 0 * 16777216 + getD xs (i + 1) 0 * 65536 + getD xs (i + 2) 0 * 256 + getD xs (i + 3) 0
+    → digits poly x (evalFrom poly x 0 (take i xs)) 4 v ≡ evalFrom poly x 0 (take (i + 4) xs)
+unfolding digits
+eval-four poly x xs i v h bs e =
+    let l₀ : getD xs i 0 < 256 = bs i in
+    let l₁ : getD xs (i + 1) 0 < 256 = bs (i + 1) in
+    let l₂ : getD xs (i + 2) 0 < 256 = bs (i + 2) in
+    let l₃ : getD xs (i + 3) 0 < 256 = bs (i + 3) in
+    let r₃ : v % 256 ≡ getD xs (i + 3) 0 = omega arith in
+    let q₃ : v / 256 ≡ getD xs i 0 * 65536 + getD xs (i + 1) 0 * 256 + getD xs (i + 2) 0 = omega arith in
+    let q₂ : v / 256 / 256 ≡ getD xs i 0 * 256 + getD xs (i + 1) 0 = ap (λ (y : ℕ). y / 256) q₃ ∙ omega arith in
+    let q₁ : v / 256 / 256 / 256 ≡ getD xs i 0 = ap (λ (y : ℕ). y / 256) q₂ ∙ omega arith in
+    let r₂ : v / 256 % 256 ≡ getD xs (i + 2) 0 = ap (λ (y : ℕ). y % 256) q₃ ∙ omega arith in
+    let r₁ : v / 256 / 256 % 256 ≡ getD xs (i + 1) 0 = ap (λ (y : ℕ). y % 256) q₂ ∙ omega arith in
+    let r₀ : v / 256 / 256 / 256 % 256 ≡ getD xs i 0 = ap (λ (y : ℕ). y % 256) q₁ ∙ omega arith in
+    let one : (a b : ℕ) (j n : ℕ) → n ≡ suc j → j < length xs → a ≡ evalFrom poly x 0 (take j xs) → b ≡ getD xs j 0 → bitXor (mul poly a x) b ≡ evalFrom poly x 0 (take n xs) =
+    λ a b j n o l p q. ap₂ (λ (y z : ℕ). bitXor (mul poly y x) z) p q ∙ sym (eval-next poly x 0 xs j n o l) in
+    one _ _ (i + 3) (i + 4) (omega arith) (omega arith)
+    (one _ _ (i + 2) (i + 3) (omega arith) (omega arith) (one _ _ (i + 1) (i + 2) (omega arith) (omega arith) (one _ _ i (i + 1) (omega arith) (omega arith) refl r₀) r₁) r₂) r₃
+
+pub front-none : (xs : List ℕ) → Front xs 0 0
+unfolding evalFrom
+front-none xs = record { small = omega arith; value = λ poly x T. digits-none poly (passes poly T) x 4 }
+
+pub front-small : (xs : List ℕ) (i v : ℕ) → Front xs i v → i < 3 → v < 16777216
+front-small xs zero v F h = omega (arith, F .small)
+front-small xs (suc zero) v F h = omega (arith, F .small)
+front-small xs (suc (suc zero)) v F h = omega (arith, F .small)
+front-small xs (suc (suc (suc i))) v F h = absurd (omega arith)
+
+pub front-next : (xs : List ℕ) (i v b : ℕ) → Front xs i v → i < 3 → i < length xs → b ≡ getD xs i 0 → b < 256 → Front xs (i + 1) (v * 256 + b)
+front-next xs i v b F h l e lb = record {
+  small = omega (arith, F .small, ap (λ (n : ℕ). 256 ^ n) (add-one i) ∙ pow-up i);
+  value = λ poly x T.
+      digits-next poly (passes poly T) x v b (front-small xs i v F h) lb ∙ ap₂ (λ (y z : ℕ). bitXor (mul poly y x) z) (F .value poly x T) e ∙ sym (eval-next poly x 0 xs i (i + 1) (omega arith) l);
+}
+
+pub front-lt : (xs : List ℕ) (i v : ℕ) → Front xs i v → i < 4 → v < 2 ^ 32
+front-lt xs zero v F h = omega (arith, F .small)
+front-lt xs (suc zero) v F h = omega (arith, F .small)
+front-lt xs (suc (suc zero)) v F h = omega (arith, F .small)
+front-lt xs (suc (suc (suc zero))) v F h = omega (arith, F .small)
+front-lt xs (suc (suc (suc (suc i)))) v F h = absurd (omega arith)
+
+-- nothing read
+pub empty-zero : (poly : ℕ) → Passes poly → (x : ℕ) → behind poly x 0 (record { a = 0; b = 0; c = 0; d = 0 }) ≡ 0
+unfolding behind
+empty-zero poly P x =
+    ap (λ (y : ℕ). digits poly x (digits poly x (digits poly x y 8 0) 8 0) 8 0) (digits-none poly P x 8) ∙ ap (λ (y : ℕ). digits poly x (digits poly x y 8 0) 8 0) (digits-none poly P x 8)
+    ∙ ap (λ (y : ℕ). digits poly x y 8 0) (digits-none poly P x 8) ∙ digits-none poly P x 8
+
+pub left-start : (t block : List ℕ) (m v : ℕ) (r : Register) → Front block m v → Keeps t v (record { a = 0; b = 0; c = 0; d = 0 }) r → Left t m block r
+left-start t block m v r F K = record {
+  zero-at = λ poly x R. ap (λ (e : ℕ). behind poly x e r) (sym (F .value poly x (R .field))) ∙ K .keeps poly x 0 R (empty-zero poly (passes poly (R .field)) x);
+}
+
+pub left-next : (t block : List ℕ) (i v : ℕ) (r n : Register) → Left t i block r → i + 4 ≤ length block → ((j : ℕ) → getD block j 0 < 256)
+    → v ≡ getD block i 0 * 16777216 + getD block (i + 1) 0 * 65536 + getD block (i + 2) 0 * 256 + getD block (i + 3) 0 → Keeps t v r n → Left t (i + 4) block n
+left-next t block i v r n L h bs e K = record {
+  zero-at = λ poly x R. ap (λ (e : ℕ). behind poly x e n) (sym (eval-four poly x block i v h bs e)) ∙ K .keeps poly x (evalFrom poly x 0 (take i block)) R (L .zero-at poly x R);
+}
+
+-- where the byte that left is taken off
+pub off-again : (v y : ℕ) → y < 256 → bitXor (v * 256 + y) (y % 2 ^ (4 * 2)) ≡ v * 256
+off-again v y h =
+    let o : y % 256 ≡ y = omega arith in
+    ap (bitXor (v * 256 + y)) o ∙ ap (λ (a : ℕ). bitXor a y) (sym (xor-shifted v 8 y h)) ∙ xor-assoc (v * 256) y y ∙ ap (bitXor (v * 256)) (xor-self y) ∙ xor-zero-r (v * 256)
+
+-- a register one byte further up, where the byte that leaves it is taken off by its two rows
+pub shift-on : (poly : ℕ) (P : Passes poly) (x : ℕ) (t : List ℕ) → ((i f : ℕ) → i < 2 → f < 16 → Zero poly x (f * 2 ^ (4 * i)) (rowAt t (16 * i + f)))
+    → (v : ℕ) (r : Register) → v < 2 ^ 24 → r .a < 2 ^ 64 → r .b < 2 ^ 64 → r .c < 2 ^ 64 → r .d < 2 ^ 64 → Zero poly x v r
+    → Zero poly x (v * 256) (sumOf (sumOf (movedOf 1 7 r) (rowAt t (16 * 0 + r .a / 2 ^ 56 / 2 ^ (4 * 0) % 16))) (rowAt t (16 * 1 + r .a / 2 ^ 56 / 2 ^ (4 * 1) % 16)))
+shift-on poly P x t rows v r lv la lb lc ld z =
+    let y = r .a / 2 ^ 56 in
+    let h = v * 256 + y in
+    let n₀ = movedOf 1 7 r in
+    let n₁ = sumOf n₀ (rowAt t (16 * 0 + y / 2 ^ (4 * 0) % 16)) in
+    let n₂ = sumOf n₁ (rowAt t (16 * 1 + y / 2 ^ (4 * 1) % 16)) in
+    let z₀ : behind poly x (digits poly x 0 4 (bitXor h (y % 2 ^ (4 * 0)))) n₀ ≡ 0 =
+    ap (λ (a : ℕ). behind poly x (digits poly x 0 4 a) n₀) (no-digits h y) ∙ byte-on poly P x v r lv la lb lc ld z in
+    let z₁ = add-row poly P x 0 h y 0 n₀ (rowAt t (16 * 0 + y / 2 ^ (4 * 0) % 16)) (rows 0 (y / 2 ^ (4 * 0) % 16) (omega arith) (omega arith)) z₀ in
+    let z₂ = add-row poly P x 0 h y 1 n₁ (rowAt t (16 * 1 + y / 2 ^ (4 * 1) % 16)) (rows 1 (y / 2 ^ (4 * 1) % 16) (omega arith) (omega arith)) z₁ in
+    ap (λ (a : ℕ). behind poly x (digits poly x 0 4 a) n₂) (sym (off-again v y (omega arith))) ∙ z₂

@@ -1,0 +1,47 @@
+-- `extend` meets its contract. Assumes nothing.
+use mathlib.Core.Path.{_≡_, _∙_}
+use Prim.Native.Nat.{_-_, _≤_}
+use native.Mathlib.Omega.{arith}
+use borrow.Author.Needs.{needs}
+use Rattle.remainder.specs.Words.{Extended}
+use Rattle.remainder.proofs.Fill.{extended-start, extended-next}
+use Rattle.remainder.proofs.extend.Statement.{statement}
+use Rattle.remainder.proofs.extend.Tie as tie
+
+abbrev Inv-loop : tie.InvT-loop
+Inv-loop t₀ at n r f₀ t f = Extended at n f r t₀ t × (f ≤ n)
+
+abbrev μ-loop : tie.MeasureT-loop
+μ-loop t₀ at n r f₀ t f = n - f
+
+loop-holds : tie.Need-loop-holds Inv-loop μ-loop
+loop-holds c = (extended-start _ _ _ _, omega arith)
+
+row-at-requires : tie.Need-row-at-requires Inv-loop μ-loop
+row-at-requires c κs = let size = c .before .before .loop .inv .0 .size in (omega arith, omega arith)
+
+put-row-requires : tie.Need-put-row-requires Inv-loop μ-loop
+put-row-requires c κs = let size = c .before .before .before .before .before .loop .inv .0 .size in (omega arith, omega arith)
+
+loop-again : tie.Need-loop-again Inv-loop μ-loop
+loop-again c =
+    let put = c .before .before .put-row in
+    let sum = c .before .before .before .sum in
+    let row = c .before .before .before .before .before .row-at in
+    let loop = c .before .before .before .before .before .before .before .before .loop in
+    (extended-next _ _ _ _ _ _ _ _ _ (loop .inv .0) (omega arith) (row .ensures) (sum .ensures) (put .ensures), omega arith)
+
+same-length : tie.Need-same-length Inv-loop μ-loop
+same-length c = c .before .loop .inv .0 .size
+
+returns : tie.Need-returns Inv-loop μ-loop
+returns c =
+    let loop = c .before .loop in
+    let e : loop .f ≡ c .before .before .before .args .n = omega arith in
+    rw e at (loop .inv .0)
+
+pub extend-spec : {M : Type 1} → statement M
+extend-spec =
+    tie.close
+    (tie.spec Inv-loop μ-loop loop-holds (λ c. search needs) row-at-requires (λ c. search needs) (λ c. search needs) (λ c κs. search needs) put-row-requires
+    (λ c. search needs) (λ c. search needs) loop-again same-length returns)

@@ -1,0 +1,46 @@
+-- `fill_digit` meets its contract. Assumes nothing.
+use mathlib.Core.Path.{_≡_, _∙_}
+use Prim.Native.Nat.{ℕ, _+_, _-_, _*_, _^_, _≤_, _<_}
+use native.Mathlib.Omega.{arith}
+use borrow.Author.Needs.{needs}
+use Rattle.remainder.specs.Words.{Filling}
+use Rattle.remainder.proofs.Fill.{bit-of, filling-start, filling-next}
+use Rattle.remainder.proofs.fill_digit.Statement.{statement}
+use Rattle.remainder.proofs.fill_digit.Tie as tie
+
+abbrev Inv-loop : tie.InvT-loop
+Inv-loop t₀ i r₀ b₀ t r b = Filling i b r₀ t₀ t r × (b ≤ 4)
+
+abbrev μ-loop : tie.MeasureT-loop
+μ-loop t₀ i r₀ b₀ t r b = 4 - b
+
+loop-holds : tie.Need-loop-holds Inv-loop μ-loop
+loop-holds c = (filling-start _ _ _ (c .before .pre .1) (c .before .pre .2), omega arith)
+
+extend-requires : tie.Need-extend-requires Inv-loop μ-loop
+extend-requires c κs =
+    let loop = c .before .before .loop in
+    let one = bit-of (loop .b) (omega arith) in
+    (omega (arith, loop .inv .0 .size), omega (arith, one .0, one .1))
+
+loop-again : tie.Need-loop-again Inv-loop μ-loop
+loop-again c =
+    let start = c .before .before .before .before .before .before .before .before in
+    let loop = c .before .before .before .before .before .before .loop in
+    let extend = c .before .before .before .extend in
+    (filling-next _ _ _ (start .pre .1) _ _ _ _ _ (loop .inv .0) (omega arith) (rw (bit-of (loop .b) (omega arith) .0) at (extend .ensures)) (c .doubled .ensures), omega arith)
+
+same-length : tie.Need-same-length Inv-loop μ-loop
+same-length c = c .before .loop .inv .0 .size
+
+returns : tie.Need-returns Inv-loop μ-loop
+returns c =
+    let loop = c .before .loop in
+    let e : loop .b ≡ 4 = omega arith in
+    rw e at (loop .inv .0)
+
+pub fill-digit-spec : {M : Type 1} → statement M
+fill-digit-spec =
+    tie.close
+    (tie.spec Inv-loop μ-loop loop-holds (λ c. search needs) (λ c. search needs) extend-requires (λ c κs. search needs) (λ c. search needs) (λ c. search needs) loop-again
+    same-length returns)

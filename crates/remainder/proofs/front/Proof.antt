@@ -1,0 +1,39 @@
+-- `front` meets its contract. Assumes nothing.
+use mathlib.Core.Path.{_≡_, refl, sym, ap, _∙_}
+use Prim.Native.Nat.{ℕ, _-_, _+_, _*_, _^_, _≤_, _<_}
+use native.Mathlib.Omega.{arith}
+use borrow.Author.Needs.{needs}
+use Rattle.reed_solomon.specs.Block.{evalFrom}
+use Rattle.remainder.specs.Words.{Front}
+use Rattle.remainder.proofs.Steps.{front-none, front-next, front-small}
+use Rattle.remainder.proofs.front.Statement.{statement}
+use Rattle.remainder.proofs.front.Tie as tie
+
+abbrev Inv-loop : tie.InvT-loop
+Inv-loop s n v₀ i₀ v i = (i ≤ n) × Front s i v
+
+abbrev μ-loop : tie.MeasureT-loop
+μ-loop s n v₀ i₀ v i = n - i
+
+loop-holds : tie.Need-loop-holds Inv-loop μ-loop
+loop-holds c = (omega arith, front-none _)
+
+mul-v : tie.Need-mul-v Inv-loop μ-loop
+mul-v c = record { fits = omega (arith, front-small _ _ _ (c .before .loop .inv .1) (omega arith)) }
+
+add-v : tie.Need-add-v Inv-loop μ-loop
+add-v c = record { fits = omega (arith, front-small _ _ _ (c .before .before .before .loop .inv .1) (omega arith)) }
+
+loop-again : tie.Need-loop-again Inv-loop μ-loop
+loop-again c =
+    let loop = c .before .before .before .loop in
+    (omega arith, front-next _ _ _ _ (loop .inv .1) (omega arith) (omega arith) (c .wide .ensures .0) (c .wide .ensures .1))
+
+returns : tie.Need-returns Inv-loop μ-loop
+returns c =
+    let loop = c .before .loop in
+    let e : loop .i ≡ c .before .before .before .args .n = omega arith in
+    rw e at (loop .inv .1)
+
+pub front-spec : {M : Type 1} → statement M
+front-spec = tie.close (tie.spec Inv-loop μ-loop loop-holds mul-v (λ c. search needs) (λ c κs. search needs) add-v (λ c. search needs) (λ c. search needs) loop-again returns)

@@ -1,0 +1,41 @@
+-- `remainder` meets its contract. Assumes nothing.
+use mathlib.Core.Path.{_≡_, sym, ap, _∙_}
+use Prim.Native.Nat.{ℕ, _+_, _-_, _%_, _≤_}
+use native.Mathlib.Omega.{arith}
+use lib.ListN.{take}
+use borrow.Author.Needs.{needs}
+use Rattle.reed_solomon.specs.Block.{evalFrom}
+use Rattle.remainder.specs.Words.{behind, Left}
+use Rattle.remainder.proofs.Steps.{front-lt, left-start, left-next}
+use Rattle.remainder.proofs.remainder.Statement.{statement}
+use Rattle.remainder.proofs.remainder.Tie as tie
+
+abbrev Inv-loop : tie.InvT-loop
+Inv-loop t block k m r₀ i₀ r i = (i ≤ k) × (i % 4 ≡ k % 4) × Left t i block r
+
+abbrev μ-loop : tie.MeasureT-loop
+μ-loop t block k m r₀ i₀ r i = k - i
+
+step-requires : tie.Need-step-requires Inv-loop μ-loop
+step-requires c κs = (c .before .before .before .pre .0, front-lt _ _ _ (c .front .ensures) (omega arith))
+
+loop-holds : tie.Need-loop-holds Inv-loop μ-loop
+loop-holds c = (omega arith, omega arith, left-start _ _ _ _ _ (c .before .front .ensures) (c .step .ensures))
+
+step-requires-2 : tie.Need-step-requires-2 Inv-loop μ-loop
+step-requires-2 c κs = (c .before .before .before .before .before .before .before .pre .0, c .four .ensures .1)
+
+loop-again : tie.Need-loop-again Inv-loop μ-loop
+loop-again c =
+    let loop = c .before .before .before .loop in
+    let known = c .before .before .before .before .before .before .shared-slice-known2 in
+    (omega arith, omega arith, left-next _ _ _ _ _ _ (loop .inv .2) (omega arith) (λ j. omega (arith, known .given j)) (c .before .four .ensures .0) (c .step2 .ensures))
+
+returns : tie.Need-returns Inv-loop μ-loop
+returns c =
+    let loop = c .before .loop in
+    let e : loop .i ≡ c .before .before .before .before .before .before .args .k = omega arith in
+    rw e at (loop .inv .2)
+
+pub remainder-spec : {M : Type 1} → statement M
+remainder-spec = tie.close (tie.spec Inv-loop μ-loop (λ c κs. search needs) step-requires loop-holds (λ c κs. search needs) step-requires-2 (λ c. search needs) (λ c. search needs) loop-again returns)

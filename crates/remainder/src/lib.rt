@@ -1,0 +1,288 @@
+// What is left of a block by division by its generator, four bytes a time. The register is 32 bytes in four words, the first byte the
+// highest of the first word; a table has what four bytes leave, by hexadecimal digits. Two reads of the table stand for the products of
+// a byte with all coefficients of the generator.
+ghost use mathlib.Core.Path.{_≡_};
+ghost use mathlib.Core.List.{List};
+ghost use Prim.Native.Nat.{ℕ, _+_, _-_, _*_, _/_, _%_, _^_, _≤_, _<_};
+ghost use lib.ListN.{length, getD, take};
+ghost use lib.Bits.{bitXor};
+ghost use Rattle.remainder.specs.Words.{digits, behind, Zero, rowAt, sumOf, doubleOf, doubledOf, movedOf, none, Rows, Adds, Keeps, Front, Left, Put, Extended, Filling, Bytewise, Shifts, Prepared};
+ghost use Rattle.remainder.specs.Generators.{generators};
+
+mod table;
+
+// 32 bytes.
+pub struct Register {
+    pub a: u64,
+    pub b: u64,
+    pub c: u64,
+    pub d: u64,
+}
+
+// A row of a table.
+fn row_at(t: &[u64], n: usize) -> Register
+    requires { ⌜ (4 * n + 4 ≤ length (now t)) × (n < 128) ⌝ }
+    ensures { λ r. ⌜ r ≡ rowAt (now (t .entry)) n ⌝ }
+{
+    let at = 4 * n;
+    Register {
+        a: t[at],
+        b: t[at + 1],
+        c: t[at + 2],
+        d: t[at + 3],
+    }
+}
+
+fn put_row(t: &mut [u64], n: usize, r: Register)
+    requires { ⌜ (4 * n + 4 ≤ length (now t)) × (n < 128) ⌝ }
+    ensures { λ _. ⌜ Put n r (now (t .entry)) (now (t .exit)) ⌝ }
+{
+    let at = 4 * n;
+    t[at] = r.a;
+    t[at + 1] = r.b;
+    t[at + 2] = r.c;
+    t[at + 3] = r.d;
+}
+
+fn sum(r: Register, s: Register) -> Register
+    ensures { λ n. ⌜ n ≡ sumOf r s ⌝ }
+{
+    Register {
+        a: r.a ^ s.a,
+        b: r.b ^ s.b,
+        c: r.c ^ s.c,
+        d: r.d ^ s.d,
+    }
+}
+
+// Each byte of a word times α.
+fn double(w: u64) -> u64
+    ensures { λ r. ⌜ r ≡ doubleOf 0x163 8 w ⌝ }
+{
+    ((w & 0x7f7f7f7f7f7f7f7f) * 2) ^ (((w >> 7) & 0x0101010101010101) * 0x63)
+}
+
+fn doubled(r: Register) -> Register
+    ensures { λ n. ⌜ n ≡ doubledOf 0x163 r ⌝ }
+{
+    Register {
+        a: double(r.a),
+        b: double(r.b),
+        c: double(r.c),
+        d: double(r.d),
+    }
+}
+
+// A word moved up by one byte, which comes from the word behind it.
+fn byte_up(a: u64, b: u64) -> u64
+    ensures { λ r. ⌜ r ≡ a % 256 ^ 7 * 256 ^ 1 + b / 256 ^ 7 ⌝ }
+{
+    (a << 8) + (b >> 56)
+}
+
+// By four bytes.
+fn half_up(a: u64, b: u64) -> u64
+    ensures { λ r. ⌜ r ≡ a % 256 ^ 4 * 256 ^ 4 + b / 256 ^ 4 ⌝ }
+{
+    (a << 32) + (b >> 32)
+}
+
+fn moved(r: Register) -> Register
+    ensures { λ n. ⌜ n ≡ movedOf 1 7 r ⌝ }
+{
+    Register {
+        a: byte_up(r.a, r.b),
+        b: byte_up(r.b, r.c),
+        c: byte_up(r.c, r.d),
+        d: byte_up(r.d, 0),
+    }
+}
+
+fn moved_half(r: Register) -> Register
+    ensures { λ n. ⌜ n ≡ movedOf 4 4 r ⌝ }
+{
+    Register {
+        a: half_up(r.a, r.b),
+        b: half_up(r.b, r.c),
+        c: half_up(r.c, r.d),
+        d: half_up(r.d, 0),
+    }
+}
+
+// The hexadecimal digit i of x.
+fn digit(x: u64, i: usize) -> usize
+    requires { ⌜ i < 8 ⌝ }
+    ensures { λ r. ⌜ (r ≡ x / 2 ^ (4 * i) % 16) × (r < 16) ⌝ }
+{
+    ((x >> (4 * i)) % 16) as usize
+}
+
+fn add_digit(t: &[u64], r: Register, x: u64, i: usize) -> Register
+    requires { ⌜ (length (now t) ≡ 512) × (i < 8) ⌝ }
+    ensures { λ n. ⌜ n ≡ sumOf r (rowAt (now (t .entry)) (16 * i + x / 2 ^ (4 * i) % 16)) ⌝ }
+{
+    sum(r, row_at(t, 16 * i + digit(x, i)))
+}
+
+// The rows of all digits of x.
+fn add_digits(t: &[u64], r: Register, x: u64) -> Register
+    requires { ⌜ (length (now t) ≡ 512) × (x < 2 ^ 32) ⌝ }
+    ensures { λ n. ⌜ Adds (now (t .entry)) x r n ⌝ }
+{
+    let mut n = r;
+    let mut i: usize = 0;
+    while i < 8 {
+        n = add_digit(t, n, x, i);
+        i += 1;
+    }
+    n
+}
+
+// Four bytes more.
+fn step(t: &[u64], r: Register, v: u64) -> Register
+    requires { ⌜ (length (now t) ≡ 512) × (v < 2 ^ 32) ⌝ }
+    ensures { λ n. ⌜ Keeps (now (t .entry)) v r n ⌝ }
+{
+    add_digits(t, moved_half(r), (r.a >> 32) ^ v)
+}
+
+fn wide(x: u8) -> u64
+    ensures { λ r. ⌜ (r ≡ x) × (r < 256) ⌝ }
+{
+    x as u64
+}
+
+// The four bytes from the place i on as one number.
+fn four(s: &[u8], i: usize) -> u64
+    requires { ⌜ i + 4 ≤ length (now s) ⌝ }
+    ensures { λ r. ⌜ (r ≡ getD (now (s .entry)) i 0 * 16777216 + getD (now (s .entry)) (i + 1) 0 * 65536 + getD (now (s .entry)) (i + 2) 0 * 256 + getD (now (s .entry)) (i + 3) 0) × (r < 2 ^ 32) ⌝ }
+{
+    wide(s[i]) * 16777216 + wide(s[i + 1]) * 65536 + wide(s[i + 2]) * 256 + wide(s[i + 3])
+}
+
+// The first bytes, fewer than four.
+fn front(s: &[u8], n: usize) -> u64
+    requires { ⌜ (n < 4) × (n ≤ length (now s)) ⌝ }
+    ensures { λ r. ⌜ Front (now (s .entry)) n r ⌝ }
+{
+    let mut v: u64 = 0;
+    let mut i: usize = 0;
+    while i < n {
+        v = v * 256 + wide(s[i]);
+        i += 1;
+    }
+    v
+}
+
+// What is left of the first k bytes of a block.
+pub fn remainder(t: &[u64], block: &[u8], k: usize) -> Register
+    requires { ⌜ (length (now t) ≡ 512) × (k ≤ length (now block)) ⌝ }
+    ensures { λ r. ⌜ Left (now (t .entry)) k (now (block .entry)) r ⌝ }
+{
+    let none = Register {
+        a: 0,
+        b: 0,
+        c: 0,
+        d: 0,
+    };
+    let m = k % 4;
+    let mut r = step(t, none, front(block, m));
+    let mut i = m;
+    while i < k {
+        r = step(t, r, four(block, i));
+        i += 4;
+    }
+    r
+}
+
+// The rows from at + n on, n of them, are those from `at` on plus r.
+fn extend(t: &mut [u64], at: usize, n: usize, r: Register)
+    requires { ⌜ (length (now t) ≡ 512) × (at + (n + n) ≤ 128) ⌝ }
+    ensures { λ _. ⌜ Extended at n n r (now (t .entry)) (now (t .exit)) ⌝ }
+{
+    let mut f: usize = 0;
+    while f < n {
+        let row = row_at(t, at + f);
+        put_row(t, at + n + f, sum(row, r));
+        f += 1;
+    }
+}
+
+// The rows of the digit i, where `first` is that of 1. The answer is the row of 16, which is the next digit's first in the same byte.
+fn fill_digit(t: &mut [u64], i: usize, first: Register) -> Register
+    requires { ⌜ (length (now t) ≡ 512) × (i < 8) × (rowAt (now t) (16 * i) ≡ none) ⌝ }
+    ensures { λ r. ⌜ Filling i 4 first (now (t .entry)) (now (t .exit)) r ⌝ }
+{
+    let mut r = first;
+    let mut b: usize = 0;
+    while b < 4 {
+        extend(t, 16 * i, 1 << b, r);
+        r = doubled(r);
+        b += 1;
+    }
+    r
+}
+
+// The rows of the byte k of four, where r is that of 1.
+fn fill_byte(t: &mut [u64], k: usize, r: Register)
+    requires { ⌜ (length (now t) ≡ 512) × (k < 4) × (rowAt (now t) (32 * k) ≡ none) × (rowAt (now t) (32 * k + 16) ≡ none) ⌝ }
+    ensures { λ _. ⌜ Bytewise k r (now (t .entry)) (now (t .exit)) ⌝ }
+{
+    let next = fill_digit(t, 2 * k, r);
+    fill_digit(t, 2 * k + 1, next);
+}
+
+// One byte further up: the byte that leaves the register is taken off by its rows.
+fn shifted(t: &[u64], r: Register) -> Register
+    requires { ⌜ length (now t) ≡ 512 ⌝ }
+    ensures { λ n. ⌜ Shifts (now (t .entry)) r n ⌝ }
+{
+    let y = r.a >> 56;
+    add_digit(t, add_digit(t, moved(r), y, 0), y, 1)
+}
+
+// The table of the generator g, which is the row of 1.
+fn rows(g: Register) -> [u64; 512]
+    ensures { λ t. ⌜ (length t ≡ 512) × ((x : ℕ) → Zero 0x163 x 1 g → Rows 0x163 x t) ⌝ }
+{
+    let mut t = [0u64; 512];
+    let mut r = g;
+    let mut k: usize = 0;
+    while k < 4 {
+        fill_byte(&mut t, k, r);
+        r = shifted(&t, r);
+        k += 1;
+    }
+    t
+}
+
+// The generator of a parity, and nothing where the parity is not tabled.
+fn generator(parity: usize) -> Register
+    ensures { λ r. ⌜ (2 ≤ parity → parity ≤ 32 → r ≡ rowAt generators (parity / 2 - 1)) ⌝ }
+{
+    if parity < 2 {
+        return Register {
+            a: 0,
+            b: 0,
+            c: 0,
+            d: 0,
+        };
+    }
+    if 32 < parity {
+        return Register {
+            a: 0,
+            b: 0,
+            c: 0,
+            d: 0,
+        };
+    }
+    let t = table::GENERATORS;
+    row_at(&t, parity / 2 - 1)
+}
+
+// The table for a parity.
+pub fn prepare(parity: usize) -> [u64; 512]
+    ensures { λ t. ⌜ Prepared parity t ⌝ }
+{
+    rows(generator(parity))
+}
