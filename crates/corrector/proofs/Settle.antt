@@ -45,17 +45,17 @@ unfolding distance
 distance-self [] = refl
 distance-self (x ∷ xs) = flag-same x (distance xs xs) ∙ distance-self xs
 
+-- a codeword is its own
+pub zero-settled : (poly : ℕ) → Passes poly → (first parity : ℕ) (w : List ℕ) → length w ≤ 255 → Bytes w → ((j : ℕ) → j < parity → eval poly (power poly (first + j)) w ≡ 0)
+    → record { number = 0; count = 0; block = w } ≡ settled w (nearest poly first parity w)
+unfolding settled
+zero-settled poly P first parity w small bw z =
+    let N : Near poly first parity w w = record { size = refl; bytes = bw; code = zero-codeword poly first parity w z; near = omega (arith, distance-self w) } in
+    sym (ap (settled w) (near-some poly first parity w P small w N) ∙ ap (λ (n : ℕ). record { number = 0; count = n; block = w }) (distance-self w))
+
 module _ (poly : ℕ) (P : Passes poly) (first parity : ℕ) (w : List ℕ) (small : length w ≤ 255) (bw : Bytes w) (s : List ℕ) (Y : Syndromes poly first parity w s) where
   pub clean-settled : true ≡ isClean parity s → record { number = 0; count = 0; block = w } ≡ settled w (nearest poly first parity w)
-  unfolding settled
-  clean-settled t =
-      let N : Near poly first parity w w = record {
-        size = refl;
-        bytes = bw;
-        code = zero-codeword poly first parity w (λ j h. sym (Y .are j h) ∙ clean-zero parity s t j h);
-        near = omega (arith, distance-self w);
-      } in
-      sym (ap (settled w) (near-some poly first parity w P small w N) ∙ ap (λ (n : ℕ). record { number = 0; count = n; block = w }) (distance-self w))
+  clean-settled t = zero-settled poly P first parity w small bw (λ j h. sym (Y .are j h) ∙ clean-zero parity s t j h)
 
   -- ---- with the locator f of length l
 

@@ -1,10 +1,12 @@
 // Document 01's Correct a block (001: `correct`), on a block that may be lent from the middle of a longer buffer.
 ghost use mathlib.Core.Path.{_≡_};
-ghost use Prim.Native.Nat.{_≤_};
+ghost use mathlib.Core.Bool.{false};
+ghost use Prim.Native.Nat.{_≤_, _<_};
 ghost use lib.ListN.{length};
 ghost use Rattle.field.specs.Table.{Field, polyOf};
 ghost use Rattle.reed_solomon.specs.Block.{nearest};
 ghost use Rattle.reed_solomon.specs.Inner.{Syndromes};
+ghost use Rattle.remainder.specs.Words.{tabled, Prepared};
 ghost use Rattle.corrector.specs.Correct.{correctOf, outcome, settled};
 use reed_solomon::errors;
 use reed_solomon::locator;
@@ -76,10 +78,55 @@ pub fn correct_over(
     repair(field, first, block, parity, &mut s)
 }
 
+// Whether there is no table for the parity, or the length is unfit.
+fn is_untabled(n: usize, parity: usize) -> bool
+    ensures { λ b. ⌜ (b ≡ false → tabled parity × (parity < n) × (n ≤ 255)) ⌝ }
+{
+    if parity < 2 {
+        return true;
+    }
+    if 32 < parity {
+        return true;
+    }
+    if n <= parity {
+        return true;
+    }
+    if 255 < n {
+        return true;
+    }
+    if parity % 2 != 0 {
+        return true;
+    }
+    false
+}
+
+// The same for the field of Han Xin, by a table that is prepared once for all blocks of one parity: a block of which nothing is left by
+// division has no error, and the syndromes of any other are those of the few bytes that are left.
+pub fn correct_with(
+    field: &[u16; 1280],
+    rows: &[u64],
+    block: &mut [u8],
+    parity: usize,
+) -> Correction
+    requires { ⌜ Field (now field) × (polyOf (now field) ≡ 0x163) × Prepared parity (now rows) ⌝ }
+    ensures { λ r. ⌜ outcome r (now (block .exit)) ≡ correctOf 0x163 1 parity (now (block .entry)) ⌝ }
+{
+    if is_untabled(block.len(), parity) {
+        return correct_over(field, 1, block, parity);
+    }
+    let r = remainder::remainder(rows, block, block.len());
+    if remainder::is_none(r) {
+        return Correction::Corrected(0);
+    }
+    let mut s = remainder::syndromes(field, 1, r, parity);
+    repair(field, 1, block, parity, &mut s)
+}
+
 // Document 01's Correct a block: GF(256) under 163 hex, first root α^1.
 pub fn correct(block: &mut [u8], parity: usize) -> Correction
     ensures { λ r. ⌜ outcome r (now (block .exit)) ≡ correctOf 0x163 1 parity (now (block .entry)) ⌝ }
 {
     let field = field::han_xin();
-    correct_over(&field, 1, block, parity)
+    let rows = remainder::prepare(parity);
+    correct_with(&field, &rows, block, parity)
 }

@@ -5,3 +5,4 @@ pub mod Places
 pub mod Steps
 pub mod Fill
 pub mod Generators
+pub mod Lowered

@@ -2,12 +2,12 @@
 use mathlib.Core.Path.{_≡_}
 use mathlib.Core.Logic.{_≢_}
 use mathlib.Core.List.{List}
-use Prim.Native.Nat.{ℕ, zero, suc, _+_, _*_, _/_, _%_, _^_, _≤_, _<_}
+use Prim.Native.Nat.{ℕ, zero, suc, _+_, _-_, _*_, _/_, _%_, _^_, _≤_, _<_}
 use lib.ListN.{length, getD, take}
 use lib.Bits.{bitXor}
 use lib.Dec.{T}
 use Rattle.field.specs.Field.{timesAlpha, mul, power, orderTest}
-use Rattle.reed_solomon.specs.Block.{evalFrom}
+use Rattle.reed_solomon.specs.Block.{evalFrom, eval}
 use Rattle.remainder.specs.declared.Register.{Register}
 
 -- Horner's rule at x over the n low bytes of a number, the highest first, behind a value so far
@@ -118,3 +118,17 @@ tabled parity = (2 ≤ parity) × (parity ≤ 32) × (parity % 2 ≡ 0)
 pub record Prepared (parity : ℕ) (t : List ℕ) : Type 0 where
   pub size : length t ≡ 512
   pub rows : tabled parity → (j : ℕ) → j < parity → Rows 0x163 (power 0x163 (1 + j)) t
+
+unfoldable pub wordAt : Register → ℕ → ℕ
+wordAt r zero = r .a
+wordAt r (suc zero) = r .b
+wordAt r (suc (suc zero)) = r .c
+wordAt r (suc (suc (suc k))) = r .d
+
+abbrev pub byteAt : Register → ℕ → ℕ
+byteAt r i = wordAt r (i / 8) / 2 ^ (56 - 8 * (i % 8)) % 256
+
+-- a block of bytes followed by the register r is zero at α^first to α^(first + parity - 1)
+pub record Remains (poly first parity : ℕ) (block : List ℕ) (r : Register) : Type 0 where
+  pub byte : (j : ℕ) → j < parity → eval poly (power poly (first + j)) block < 256
+  pub zero-at : (j : ℕ) → j < parity → behind poly (power poly (first + j)) (eval poly (power poly (first + j)) block) r ≡ 0

@@ -6,8 +6,13 @@ ghost use mathlib.Core.List.{List};
 ghost use Prim.Native.Nat.{ℕ, _+_, _-_, _*_, _/_, _%_, _^_, _≤_, _<_};
 ghost use lib.ListN.{length, getD, take};
 ghost use lib.Bits.{bitXor};
-ghost use Rattle.remainder.specs.Words.{digits, behind, Zero, rowAt, sumOf, doubleOf, doubledOf, movedOf, none, Rows, Adds, Keeps, Front, Left, Put, Extended, Filling, Bytewise, Shifts, Prepared};
+ghost use Rattle.remainder.specs.Words.{digits, behind, Zero, rowAt, sumOf, doubleOf, doubledOf, movedOf, none, Rows, Adds, Keeps, Front, Left, Put, Extended, Filling, Bytewise, Shifts, Prepared, wordAt, byteAt, Remains};
+ghost use mathlib.Core.Bool.{true};
+ghost use Rattle.field.specs.Field.{power, mul};
+ghost use Rattle.field.specs.Table.{Field, polyOf};
+ghost use Rattle.reed_solomon.specs.Inner.{Each, Syndromes};
 ghost use Rattle.remainder.specs.Generators.{generators};
+use reed_solomon::syndromes;
 
 mod table;
 
@@ -285,4 +290,80 @@ pub fn prepare(parity: usize) -> [u64; 512]
     ensures { λ t. ⌜ Prepared parity t ⌝ }
 {
     rows(generator(parity))
+}
+
+// The word k of a register.
+fn word_at(r: Register, k: usize) -> u64
+    ensures { λ w. ⌜ w ≡ wordAt r k ⌝ }
+{
+    if k == 0 {
+        return r.a;
+    }
+    if k == 1 {
+        return r.b;
+    }
+    if k == 2 {
+        return r.c;
+    }
+    r.d
+}
+
+fn byte_at(r: Register, i: usize) -> u8
+    ensures { λ b. ⌜ b ≡ byteAt r i ⌝ }
+{
+    ((word_at(r, i / 8) >> (56 - 8 * (i % 8))) % 256) as u8
+}
+
+// The bytes of a register.
+pub fn bytes(r: Register) -> [u8; 32]
+    ensures { λ s. ⌜ (length s ≡ 32) × ((i : ℕ) → i < 32 → getD s i 0 ≡ byteAt r i) ⌝ }
+{
+    let mut s = [0u8; 32];
+    let mut i: usize = 0;
+    while i < 32 {
+        s[i] = byte_at(r, i);
+        i += 1;
+    }
+    s
+}
+
+// A syndrome j of a block out of that of its remainder, which stands 32 places higher: times α^(-32 (first + j)).
+fn lower(field: &[u16; 1280], first: usize, s: &mut [u8], parity: usize)
+    requires { ⌜ Field (now field) ⌝ }
+    requires { ⌜ (first ≤ 255) × (parity ≤ 256) × (parity ≤ length (now s)) ⌝ }
+    ensures { λ _. ⌜ Each (λ j x. mul (polyOf (now (field .entry))) x (power (polyOf (now (field .entry))) (223 * (first + j)))) parity (now (s .entry)) (now (s .exit)) ⌝ }
+{
+    let mut j: usize = 0;
+    while j < parity {
+        s[j] = field::raised(field, s[j], 223 * (first + j) % 255);
+        j += 1;
+    }
+}
+
+// The syndromes of a block out of what is left of it.
+pub fn syndromes(field: &[u16; 1280], first: usize, r: Register, parity: usize) -> [u8; 256]
+    requires { ⌜ Field (now field) ⌝ }
+    requires { ⌜ (first ≤ 255) × (first + parity ≤ 256) ⌝ }
+    ensures { λ s. ⌜ ((block : List ℕ) → Remains (polyOf (now (field .entry))) first parity block r → Syndromes (polyOf (now (field .entry))) first parity block s) ⌝ }
+{
+    let b = bytes(r);
+    let mut s = syndromes::syndromes(field, first, &b, parity);
+    lower(field, first, &mut s, parity);
+    s
+}
+
+// Whether nothing is left.
+pub fn is_none(r: Register) -> bool
+    ensures { λ b. ⌜ (b ≡ true → r ≡ none) ⌝ }
+{
+    if r.a != 0 {
+        return false;
+    }
+    if r.b != 0 {
+        return false;
+    }
+    if r.c != 0 {
+        return false;
+    }
+    r.d == 0
 }

@@ -1,0 +1,135 @@
+-- The bytes of a register, and the syndromes of a block out of them.
+use mathlib.Core.Path.{_≡_, refl, sym, ap, ap₂, _∙_}
+use mathlib.Core.List.{List}
+use Prim.Native.Nat.{ℕ, zero, suc, _+_, _-_, _*_, _/_, _%_, _^_, _≤_, _<_}
+use native.Mathlib.Omega.{arith}
+use native.Mathlib.Decide.{decLt}
+use native.Mathlib.Nat.{add-zero, suc-mul}
+use lib.ListN.{length, getD}
+use lib.Pow.{shr-shr}
+use lib.Seq.{take-length}
+use lib.Bits.{bitXor, xor-zero-l, xor-zero-r}
+use Rattle.field.specs.Field.{raised, mul, power}
+use Rattle.field.proofs.Field.{Passes, passes, mul-assoc, mul-one, mul-power, power-period, mul-lt}
+use Rattle.field.proofs.Instances.{passes-163}
+use Rattle.field.proofs.Entries.{mul-left-zero}
+use Rattle.algebra.specs.Sum.{_⊕_, seq, horner}
+use Rattle.algebra.proofs.Sum.{add-zero-eq}
+use Rattle.algebra.proofs.Horner.{horner-ext, horner-lt}
+use Rattle.reed_solomon.specs.Block.{eval}
+use Rattle.reed_solomon.specs.Inner.{Each, Syndromes}
+use Rattle.reed_solomon.proofs.Codeword.{eval-horner}
+use Rattle.remainder.specs.declared.Register.{Register}
+use Rattle.remainder.specs.Words.{digits, behind, sumOf, none, wordAt, byteAt, Remains, Prepared, tabled, Left}
+use Rattle.remainder.proofs.Digits.{behind-sum}
+use Rattle.remainder.proofs.Places.{register-eq}
+use Rattle.remainder.proofs.Steps.{empty-zero}
+
+-- Horner's rule over a word is that over its bytes, behind m others
+digits-horner : (poly x : ℕ) (f : ℕ → ℕ) (m n w : ℕ) → ((k : ℕ) → k < n → f (m + k) ≡ w / 2 ^ (8 * (n - suc k)) % 256)
+    → digits poly x (horner poly f x m) n w ≡ horner poly f x (m + n)
+unfolding digits horner
+digits-horner poly x f m zero w h = ap (horner poly f x) (sym (add-zero m))
+digits-horner poly x f m (suc n) w h =
+    let o : m + suc n ≡ suc (m + n) = omega arith in
+    let last : f (m + n) ≡ w % 256 = h n (omega arith) ∙ (let e : 8 * (suc n - suc n) ≡ 0 = omega arith in let q : w / 1 ≡ w = omega arith in ap (λ (k : ℕ). w / 2 ^ k % 256) e ∙ ap (λ (y : ℕ). y % 256) q) in
+    ap₂ (λ (y z : ℕ). mul poly y x ⊕ z)
+    (digits-horner poly x f m n (w / 256) (λ k l. h k (omega arith) ∙ (let e : 8 * (suc n - suc k) ≡ 8 + 8 * (n - suc k) = omega arith in
+    ap (λ (i : ℕ). w / 2 ^ i % 256) e ∙ ap (λ (y : ℕ). y % 256) (sym (shr-shr w 8 (8 * (n - suc k))))))) (sym last)
+    ∙ ap (horner poly f x) (sym o)
+
+-- the byte k of the word j
+byte-in : (r : Register) (j k : ℕ) → k < 8 → byteAt r (8 * j + k) ≡ wordAt r j / 2 ^ (8 * (8 - suc k)) % 256
+byte-in r j k h =
+    let q : (8 * j + k) / 8 ≡ j = omega arith in
+    let o : 56 - 8 * ((8 * j + k) % 8) ≡ 8 * (8 - suc k) = omega arith in
+    ap₂ (λ (a b : ℕ). wordAt r a / 2 ^ b % 256) q o
+
+behind-horner : (poly x : ℕ) (r : Register) → behind poly x 0 r ≡ horner poly (byteAt r) x 32
+unfolding behind horner wordAt
+behind-horner poly x r =
+    let f = byteAt r in
+    let d = digits poly x in
+    ap (λ (y : ℕ). d (d (d y 8 (r .b)) 8 (r .c)) 8 (r .d)) (digits-horner poly x f 0 8 (r .a) (λ k h. byte-in r 0 k h))
+    ∙ ap (λ (y : ℕ). d (d y 8 (r .c)) 8 (r .d)) (digits-horner poly x f 8 8 (r .b) (λ k h. byte-in r 1 k h))
+    ∙ ap (λ (y : ℕ). d y 8 (r .d)) (digits-horner poly x f 16 8 (r .c) (λ k h. byte-in r 2 k h))
+    ∙ digits-horner poly x f 24 8 (r .d) (λ k h. byte-in r 3 k h)
+
+pub bytes-value : (poly x : ℕ) (r : Register) (s : List ℕ) → length s ≡ 32 → ((i : ℕ) → i < 32 → seq s i ≡ byteAt r i) → eval poly x s ≡ behind poly x 0 r
+bytes-value poly x r s e h = eval-horner poly x s ∙ ap (horner poly (seq s) x) e ∙ horner-ext poly (seq s) (byteAt r) x 32 h ∙ sym (behind-horner poly x r)
+
+first : (poly : ℕ) → power poly 0 ≡ 1
+unfolding raised
+first poly = refl
+
+module _ (poly : ℕ) (P : Passes poly) (m : ℕ) where
+  -- n zeros behind a value
+  digits-zeros : (e n : ℕ) → e < 256 → digits poly (power poly m) e n 0 ≡ mul poly e (power poly (n * m))
+  unfolding digits
+  digits-zeros e zero h = let q : e % 256 ≡ e = omega arith in let o : 0 * m ≡ 0 = omega arith in sym (ap (λ (k : ℕ). mul poly e (power poly k)) o ∙ one ∙ q)
+    where
+      one : mul poly e (power poly 0) ≡ e % 256
+      one = ap (mul poly e) (first poly) ∙ mul-one poly P e
+  digits-zeros e (suc n) h =
+      let o : n * m + m ≡ suc n * m = omega (arith, suc-mul n m) in
+      ap (λ (y : ℕ). bitXor (mul poly y (power poly m)) 0) (digits-zeros e n h) ∙ xor-zero-r (mul poly (mul poly e (power poly (n * m))) (power poly m))
+      ∙ mul-assoc poly P e (power poly (n * m)) (power poly m) ∙ ap (mul poly e) (mul-power poly P (n * m) m ∙ ap (power poly) o)
+
+  behind-zeros : (e : ℕ) → e < 256 → behind poly (power poly m) e none ≡ mul poly e (power poly (32 * m))
+  unfolding behind
+  behind-zeros e h =
+      let d = digits poly (power poly m) in
+      let p = power poly (8 * m) in
+      let lt : (a : ℕ) → mul poly a p < 256 = λ a. mul-lt poly P a p in
+      let two : (a b : ℕ) → mul poly (mul poly e (power poly a)) (power poly b) ≡ mul poly e (power poly (a + b)) = λ a b. mul-assoc poly P e (power poly a) (power poly b) ∙ ap (mul poly e) (mul-power poly P a b) in
+      let o : 8 * m + 8 * m + 8 * m + 8 * m ≡ 32 * m = omega arith in
+      ap (λ (y : ℕ). d (d (d y 8 0) 8 0) 8 0) (digits-zeros e 8 h)
+      ∙ ap (λ (y : ℕ). d (d y 8 0) 8 0) (digits-zeros (mul poly e p) 8 (lt e) ∙ two (8 * m) (8 * m))
+      ∙ ap (λ (y : ℕ). d y 8 0) (digits-zeros (mul poly e (power poly (8 * m + 8 * m))) 8 (mul-lt poly P e (power poly (8 * m + 8 * m))) ∙ two (8 * m + 8 * m) (8 * m))
+      ∙ digits-zeros (mul poly e (power poly (8 * m + 8 * m + 8 * m))) 8 (mul-lt poly P e (power poly (8 * m + 8 * m + 8 * m))) ∙ two (8 * m + 8 * m + 8 * m) (8 * m) ∙ ap (λ (k : ℕ). mul poly e (power poly k)) o
+
+  -- the value of a block out of that of its remainder
+  pub lowered : (e : ℕ) (r : Register) → e < 256 → behind poly (power poly m) e r ≡ 0 → e ≡ mul poly (behind poly (power poly m) 0 r) (power poly (223 * m))
+  lowered e r h z =
+      let x = power poly m in
+      let apart : bitXor (mul poly e (power poly (32 * m))) (behind poly x 0 r) ≡ 0 =
+      ap (λ (y : ℕ). bitXor y (behind poly x 0 r)) (sym (behind-zeros e h)) ∙ sym (behind-sum poly P x e 0 none r)
+      ∙ ap₂ (behind poly x) (xor-zero-r e) (register-eq (xor-zero-l (r .a)) (xor-zero-l (r .b)) (xor-zero-l (r .c)) (xor-zero-l (r .d))) ∙ z in
+      let o : 32 * m + 223 * m ≡ 255 * m + 0 = omega arith in
+      let q : e % 256 ≡ e = omega arith in
+      sym (ap (λ (y : ℕ). mul poly y (power poly (223 * m))) (sym (add-zero-eq (mul poly e (power poly (32 * m))) (behind poly x 0 r) apart))
+      ∙ mul-assoc poly P e (power poly (32 * m)) (power poly (223 * m))
+      ∙ ap (mul poly e) (mul-power poly P (32 * m) (223 * m) ∙ ap (power poly) o ∙ power-period poly P m 0 ∙ first poly) ∙ mul-one poly P e ∙ q)
+
+  pub none-left : (e : ℕ) → e < 256 → behind poly (power poly m) e none ≡ 0 → e ≡ 0
+  none-left e h z = lowered e none h z ∙ ap (λ (y : ℕ). mul poly y (power poly (223 * m))) (empty-zero poly P (power poly m)) ∙ mul-left-zero poly (power poly (223 * m))
+
+pub reduced-power : (poly : ℕ) → Passes poly → (n : ℕ) → power poly (n % 255) ≡ power poly n
+reduced-power poly P n = let e : 255 * (n / 255) + n % 255 ≡ n = omega arith in sym (power-period poly P (n / 255) (n % 255)) ∙ ap (power poly) e
+
+pub syndromes-left : (poly : ℕ) → Passes poly → (first parity : ℕ) (block : List ℕ) (r : Register) (b s s′ : List ℕ) → Remains poly first parity block r
+    → length b ≡ 32 → ((i : ℕ) → i < 32 → seq b i ≡ byteAt r i) → Syndromes poly first parity b s
+    → Each (λ j x. mul poly x (power poly (223 * (first + j)))) parity s s′ → Syndromes poly first parity block s′
+syndromes-left poly P first parity block r b s s′ R lb is S E = record {
+  size = E .size ∙ S .size;
+  bytes = λ j. elim (decLt j parity) [
+    | yes h ↦ omega (arith, E .done j h, mul-lt poly P (seq s j) (power poly (223 * (first + j))))
+    | no h ↦ omega (arith, E .rest j (omega arith), S .bytes j)
+  ];
+  are = λ j h.
+      E .done j h ∙ ap (λ (y : ℕ). mul poly y (power poly (223 * (first + j)))) (S .are j h ∙ bytes-value poly (power poly (first + j)) r b lb is)
+      ∙ sym (lowered poly P (first + j) (eval poly (power poly (first + j)) block) r (R .byte j h) (R .zero-at j h));
+}
+
+-- what the division leaves of a whole block
+pub remains : (parity : ℕ) (t block : List ℕ) (r : Register) → Prepared parity t → tabled parity → ((i : ℕ) → seq block i < 256) → Left t (length block) block r
+    → Remains 0x163 1 parity block r
+remains parity t block r Q T bs L = record {
+  byte = λ j h. omega (arith, eval-horner 0x163 (power 0x163 (1 + j)) block, horner-lt 0x163 (passes 0x163 passes-163) (seq block) (power 0x163 (1 + j)) (length block) bs);
+  zero-at = λ j h. let x = power 0x163 (1 + j) in
+      ap (λ (b : List ℕ). behind 0x163 x (eval 0x163 x b) r) (sym (take-length block)) ∙ L .zero-at 0x163 x (Q .rows T j h);
+}
+
+-- nothing is left of a codeword only
+pub none-remains : (parity : ℕ) (block : List ℕ) → Remains 0x163 1 parity block none → (j : ℕ) → j < parity → eval 0x163 (power 0x163 (1 + j)) block ≡ 0
+none-remains parity block R j h = none-left 0x163 (passes 0x163 passes-163) (1 + j) (eval 0x163 (power 0x163 (1 + j)) block) (R .byte j h) (R .zero-at j h)

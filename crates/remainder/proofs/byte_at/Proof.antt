@@ -1,0 +1,12 @@
+-- `byte_at` meets its contract. Assumes nothing.
+use mathlib.Core.Path.{ap}
+use Prim.Native.Nat.{ℕ, _-_, _*_, _/_, _%_, _^_}
+use borrow.Author.Needs.{needs}
+use Rattle.remainder.proofs.byte_at.Statement.{statement}
+use Rattle.remainder.proofs.byte_at.Tie as tie
+
+returns : tie.Need-returns
+returns c = ap (λ (w : ℕ). w / 2 ^ (56 - 8 * (c .before .args .i % 8)) % 256) (c .word-at .ensures)
+
+pub byte-at-spec : {M : Type 1} → statement M
+byte-at-spec = tie.close (tie.spec (λ c κs. search needs) (λ c. search needs) (λ c. search needs) (λ c. search needs) (λ c. search needs) returns)

@@ -1,0 +1,49 @@
+-- `lower` meets its contract. Assumes nothing.
+use mathlib.Core.Path.{_≡_, ap, _∙_}
+use Prim.Native.Nat.{ℕ, _+_, _-_, _*_, _≤_}
+use native.Mathlib.Omega.{arith}
+use borrow.Author.Needs.{needs}
+use Rattle.field.specs.Field.{power, mul}
+use Rattle.field.specs.Table.{polyOf}
+use Rattle.field.proofs.Entries.{the-field}
+use Rattle.reed_solomon.specs.Inner.{Each}
+use Rattle.reed_solomon.proofs.Each.{each-start, each-next, each-end}
+use Rattle.remainder.proofs.Lowered.{reduced-power}
+use Rattle.remainder.proofs.lower.Statement.{statement}
+use Rattle.remainder.proofs.lower.Tie as tie
+
+abbrev Inv-loop : tie.InvT-loop
+Inv-loop field first s₀ parity j₀ s j = Each (λ j x. mul (polyOf field) x (power (polyOf field) (223 * (first + j)))) j s₀ s × (j ≤ parity)
+
+abbrev μ-loop : tie.MeasureT-loop
+μ-loop field first s₀ parity j₀ s j = parity - j
+
+loop-holds : tie.Need-loop-holds Inv-loop μ-loop
+loop-holds c = (each-start _ _, omega arith)
+
+slice-read-raised : tie.Need-slice-read-raised Inv-loop μ-loop
+slice-read-raised c = omega (arith, c .before .before .loop .inv .0 .size)
+
+slice-write-s : tie.Need-slice-write-s Inv-loop μ-loop
+slice-write-s c = omega (arith, c .before .before .before .loop .inv .0 .size)
+
+loop-again : tie.Need-loop-again Inv-loop μ-loop
+loop-again c =
+    let start = c .before .before .before .before .before in
+    let loop = c .before .before .before .loop in (
+      each-next _ _ _ _ _ (loop .inv .0) (omega (arith, loop .inv .0 .size))
+          (c .raised .ensures ∙ ap (mul (polyOf (start .args .field .now)) _) (reduced-power _ (the-field _ (start .pre .0)) (223 * (start .args .first + loop .j)))),
+      omega arith,
+    )
+
+same-length : tie.Need-same-length Inv-loop μ-loop
+same-length c = c .before .loop .inv .0 .size
+
+returns : tie.Need-returns Inv-loop μ-loop
+returns c = each-end _ _ _ _ _ (c .before .loop .inv .0) (c .before .loop .inv .1) (omega arith)
+
+pub lower-spec : {M : Type 1} → statement M
+lower-spec =
+    tie.close
+    (tie.spec Inv-loop μ-loop loop-holds slice-read-raised (λ c. search needs) (λ c. search needs) (λ c κs. search needs) slice-write-s (λ c. search needs) (λ c. search needs)
+    loop-again same-length returns)
