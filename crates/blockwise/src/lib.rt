@@ -8,6 +8,7 @@ ghost use lib.ListN.{length, take, drop, getD};
 ghost use Rattle.field.specs.Table.{Field, polyOf};
 ghost use Rattle.algebra.specs.Sum.{seq};
 ghost use Rattle.reed_solomon.specs.Block.{parityOf};
+ghost use Rattle.remainder.specs.Words.{Prepared};
 ghost use Rattle.parity.specs.Encode.{withParity};
 ghost use Rattle.parity.specs.Inner.{Generator};
 ghost use Rattle.blocks.specs.Blocks.{batchHolds, rowLength, rowHolds, batch, shapes, totalSize, totalData, cut, joined, dataParts};
@@ -32,24 +33,25 @@ fn number(row: &[u8], n: usize) -> usize
 // One block, lent to the corrector as a part of the stream from its place on.
 fn correct_block(
     field: &[u16; 1280],
+    rows: &[u64],
     stream: &mut [u8],
     from: usize,
     info: usize,
     parity: usize,
 ) -> Blocks
-    requires { ⌜ Field (now field) × (polyOf (now field) ≡ 0x163) ⌝ }
+    requires { ⌜ Field (now field) × (polyOf (now field) ≡ 0x163) × Prepared parity (now rows) ⌝ }
     requires { ⌜ (0 < info) × (0 < parity) × (info + parity ≤ 255) × (from + (info + parity) ≤ length (now stream)) ⌝ }
     ensures { λ r. ⌜ Corrects (batch 1 info parity) from (now (stream .entry)) (now (stream .exit)) r ⌝ }
 {
     let to = from + (info + parity);
-    match corrector::correct_over(field, 1, &mut stream[from..to], parity) {
+    match corrector::correct_with(field, rows, &mut stream[from..to], parity) {
         Correction::Corrected(n) => Blocks::Corrected(n),
         Correction::Unfit => Blocks::Refused,
         Correction::OutOfReach => Blocks::Refused,
     }
 }
 
-// The blocks of batch k of the row, whose first begins at `from`.
+// The blocks of batch k of the row, whose first begins at `from`. The corrector's table is made once for all of them.
 fn correct_batch(
     field: &[u16; 1280],
     stream: &mut [u8],
@@ -62,13 +64,17 @@ fn correct_batch(
     ensures { λ r. ⌜ Corrects (batchAt (now (row .entry)) k) from (now (stream .entry)) (now (stream .exit)) r ⌝ }
 {
     let count = number(row, 3 * k);
+    if count == 0 {
+        return Blocks::Corrected(0);
+    }
     let info = number(row, 3 * k + 1);
     let parity = number(row, 3 * k + 2);
+    let rows = remainder::prepare(parity);
     let mut n: usize = 0;
     let mut at = from;
     let mut i: usize = 0;
     while i < count {
-        let r = correct_block(field, stream, at, info, parity);
+        let r = correct_block(field, &rows, stream, at, info, parity);
         let Blocks::Corrected(m) = r else {
             return Blocks::Refused;
         };
