@@ -35,6 +35,15 @@ pub fn power(field: &[u16; 1280], n: usize) -> u8
     power_entry(field, n)
 }
 
+// The n with α^n = a.
+pub fn log(field: &[u16; 1280], a: u8) -> usize
+    requires { ⌜ Field (now field) ⌝ }
+    requires { ⌜ 0 < a ⌝ }
+    ensures { λ r. ⌜ (r < 255) × (power (polyOf (now (field .entry))) r ≡ a) ⌝ }
+{
+    log_entry(field, a)
+}
+
 // a times b
 pub fn mul(field: &[u16; 1280], a: u8, b: u8) -> u8
     requires { ⌜ Field (now field) ⌝ }

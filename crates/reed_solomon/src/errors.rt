@@ -122,7 +122,8 @@ pub fn magnitudes(
     }
 }
 
-// The syndromes without the error y at degree d.
+// The syndromes without the error y at degree d. The exponent of its weight is carried and not the weight itself, which would wait for two
+// reads of the table in each turn.
 fn take_off(field: &[u16; 1280], first: usize, s: &mut [u8], parity: usize, y: u8, d: usize)
     requires { ⌜ Field (now field) ⌝ }
     requires { ⌜ (parity ≤ length (now s)) × (d ≤ 255) × (first ≤ 255) ⌝ }
@@ -131,11 +132,11 @@ fn take_off(field: &[u16; 1280], first: usize, s: &mut [u8], parity: usize, y: u
     if y == 0 {
         return;
     }
-    let mut z = field::raised(field, y, d * first % 255);
+    let mut n = crate::syndromes::reduced(field::log(field, y) + d * first % 255);
     let mut j = 0;
     while j < parity {
-        s[j] ^= z;
-        z = field::raised(field, z, d);
+        s[j] ^= field::power(field, n);
+        n = crate::syndromes::reduced(n + d);
         j += 1;
     }
 }

@@ -19,7 +19,7 @@ fn advance(field: &[u16; 1280], first: usize, s: &mut [u8], parity: usize, byte:
 }
 
 // An exponent below 511, reduced to what the table has.
-fn reduced(n: usize) -> usize
+pub fn reduced(n: usize) -> usize
     requires { ⌜ n ≤ 510 ⌝ }
     ensures { λ r. ⌜ (r ≤ 255) × Reduced n r ⌝ }
 {
