@@ -9,7 +9,7 @@ use lib.ListN.{length, take, drop, getD, length-append, length-drop, take-append
 use lib.Seq.{drop-drop, take-at, take-take, take-length, length-take-le}
 use Rattle.reed_solomon.specs.Block.{parityOf}
 use Rattle.parity.specs.Encode.{withParity, writtenOf}
-use Rattle.parity.specs.Inner.{Generator}
+use Rattle.remainder.specs.Words.{Prepared}
 use Rattle.blocks.specs.Blocks.{rowLength, Shape, size, batch, shapes, totalSize, totalData, cut, joined, dataParts, cutData}
 use Rattle.blocks.proofs.Rows.{total-append, total-batch, total-shapes}
 use Rattle.blockwise.specs.Blockwise.{encoded, streamOf}
@@ -231,20 +231,20 @@ module _ (r : List ℕ) (k : ℕ) (lo : k ≤ 3) (hi : 3 ≤ k) (t s s₁ : List
 
 -- ---- a block with its data in front
 
-pub front-written : (poly : ℕ) → poly ≡ 0x163 → (block ds b₁ b₂ : List ℕ) → length ds ≤ length block → b₁ ≡ spliced 0 (length ds) (take (length ds) (drop 0 ds)) block
-    → b₂ ≡ writtenOf poly 1 (length b₁ - length ds) b₁ → length b₁ ≡ length block → b₂ ≡ withParity ds (parityOf 0x163 1 (length block - length ds) ds)
+pub front-written : (block ds b₁ b₂ : List ℕ) → length ds ≤ length block → b₁ ≡ spliced 0 (length ds) (take (length ds) (drop 0 ds)) block
+    → b₂ ≡ writtenOf 0x163 1 (length b₁ - length ds) b₁ → length b₁ ≡ length block → b₂ ≡ withParity ds (parityOf 0x163 1 (length block - length ds) ds)
 unfolding writtenOf spliced
-front-written poly han block ds b₁ b₂ h e f n =
+front-written block ds b₁ b₂ h e f n =
     let m : length b₁ - (length b₁ - length ds) ≡ length ds = omega arith in
     let d : take (length b₁ - (length b₁ - length ds)) b₁ ≡ ds =
     ap₂ take m e
     ∙ ap (λ (l : List ℕ). take (length ds) (l ++ drop (0 + length ds) block)) (take-length ds)
     ∙ take-at ds (drop (0 + length ds) block) (length ds) refl in
-    f ∙ ap₂ (λ (q : ℕ) (w : List ℕ). withParity w (parityOf q 1 (length b₁ - length ds) w)) han d
+    f ∙ ap (λ (w : List ℕ). withParity w (parityOf 0x163 1 (length b₁ - length ds) w)) d
     ∙ ap (λ (x : ℕ). withParity ds (parityOf 0x163 1 (x - length ds) ds)) n
 
-pub generator-as : (poly poly′ n m : ℕ) (g : ℕ → ℕ) → poly ≡ poly′ → n ≡ m → Generator poly 1 n g → Generator poly′ 1 m g
-generator-as poly poly′ n m g e f G = subst (λ (x : ℕ). Generator poly′ 1 x g) f (subst (λ (x : ℕ). Generator x 1 n g) e G)
+pub prepared-as : (n m : ℕ) (t : List ℕ) → n ≡ m → Prepared n t → Prepared m t
+prepared-as n m t e Q = subst (λ (x : ℕ). Prepared x t) e Q
 
 -- a batch of no blocks
 pub writes-zero : (r : List ℕ) (k c a : ℕ) (ds s : List ℕ) → c ≡ getD r (3 * k) 0 → c ≡ 0 → Writes (batchAt r k) a ds s s

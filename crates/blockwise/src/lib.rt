@@ -6,11 +6,9 @@ ghost use Prim.Native.Nat.{ℕ, _+_, _-_, _*_, _≤_, _<_};
 ghost use lib.Dec.{T};
 ghost use lib.ListN.{length, take, drop, getD};
 ghost use Rattle.field.specs.Table.{Field, polyOf};
-ghost use Rattle.algebra.specs.Sum.{seq};
 ghost use Rattle.reed_solomon.specs.Block.{parityOf};
 ghost use Rattle.remainder.specs.Words.{Prepared};
 ghost use Rattle.parity.specs.Encode.{withParity};
-ghost use Rattle.parity.specs.Inner.{Generator};
 ghost use Rattle.blocks.specs.Blocks.{batchHolds, rowLength, rowHolds, batch, shapes, totalSize, totalData, cut, joined, dataParts};
 ghost use Rattle.blockwise.specs.Blockwise.{corrected, refusalOf, countOf, blocksOf, streamOf, numberOf, correctionsOf};
 ghost use Rattle.blockwise.specs.Inner.{batchAt, batches, spliced, Corrects, Writes, Gathers};
@@ -202,18 +200,18 @@ pub fn gather_data(out: &mut [u8], stream: &[u8], row: &[u8]) -> usize
     data_before(row, 3)
 }
 
-// Data at the front of a block, and their parity behind them, whose generator is g.
-fn write_block(field: &[u16; 1280], g: &[u8], block: &mut [u8], info: &[u8])
+// Data at the front of a block, and their parity behind them.
+fn write_block(field: &[u16; 1280], rows: &[u64], block: &mut [u8], info: &[u8])
     requires { ⌜ Field (now field) × (polyOf (now field) ≡ 0x163) ⌝ }
-    requires { ⌜ (length (now info) ≤ length (now block)) × (length (now block) ≤ 255) × (length (now g) ≡ 256) × Generator 0x163 1 (length (now block) - length (now info)) (seq (now g)) ⌝ }
+    requires { ⌜ (length (now info) ≤ length (now block)) × (length (now block) ≤ 255) × Prepared (length (now block) - length (now info)) (now rows) × (0 < length (now info)) ⌝ }
     ensures { λ _. ⌜ now (block .exit) ≡ withParity (now (info .entry)) (parityOf 0x163 1 (length (now (block .entry)) - length (now (info .entry))) (now (info .entry))) ⌝ }
 {
     let n = info.len();
     copy(block, 0, info, 0, n);
-    parity::write_parity(field, g, block, n);
+    parity::write_with(field, rows, block, n);
 }
 
-// The blocks of batch k of the row, their generator computed once.
+// The blocks of batch k of the row. The table for their parity is made once for all of them.
 fn write_batch(field: &[u16; 1280], stream: &mut [u8], data: &[u8], row: &[u8], k: usize)
     requires { ⌜ Field (now field) × (polyOf (now field) ≡ 0x163) ⌝ }
     requires { ⌜ (length (now row) ≡ 9) × (k < 3) × T (rowHolds (now row) (rowLength (now row))) × (rowLength (now row) ≤ length (now stream)) × (totalData (shapes (now row)) ≤ length (now «data»)) ⌝ }
@@ -225,14 +223,14 @@ fn write_batch(field: &[u16; 1280], stream: &mut [u8], data: &[u8], row: &[u8], 
     }
     let info = number(row, 3 * k + 1);
     let parity = number(row, 3 * k + 2);
-    let g = parity::generator(field, 1, parity);
+    let rows = remainder::prepare(parity);
     let mut at = data_before(row, k);
     let mut from = length_before(row, k);
     let mut i: usize = 0;
     while i < count {
         write_block(
             field,
-            &g,
+            &rows,
             &mut stream[from..from + (info + parity)],
             &data[at..at + info],
         );

@@ -128,7 +128,18 @@ module _ (poly : ℕ) (P : Passes poly) (first parity : ℕ) (ds : List ℕ) whe
         rest-follows (length ds) refl (g .0) (r .0) (g .1) (r .1) (each parity (λ i. r .0 (length ds + i))) (each-length parity (λ i. r .0 (length ds + i))) (each-at parity (λ i. r .0 (length ds + i))),
       )
 
--- ---- what is written: w₁ are the data and zeros, w₂ the rest of their division
+-- ---- what is written: data that stay, and bytes that follow them
+
+pub written-by : (poly : ℕ) → Passes poly → (first k : ℕ) (block block′ : List ℕ) → Bytes block → length block ≤ 255 → k ≤ length block → take k block′ ≡ take k block
+    → Follows poly first (length block - k) (take k block) (drop k block′) → block′ ≡ writtenOf poly first (length block - k) block
+unfolding writtenOf withParity
+written-by poly P first k block block′ bytes small h stay F =
+    sym (take-append-drop k block′) ∙ ap (λ (xs : List ℕ). xs ++ drop k block′) stay
+    ∙ sym ((let e : length block - (length block - k) ≡ k = omega arith in
+    ap (λ (m : ℕ). withParity (take m block) (parityOf poly first (length block - k) (take m block))) e)
+    ∙ ap (withParity (take k block)) (follows-found poly P first (length block - k) (take k block) (take-bytes k block bytes) (omega (arith, length-take-le k block h)) (drop k block′) F))
+
+-- ---- by plain division: w₁ are the data and zeros, w₂ the rest of their division
 
 module _ (poly : ℕ) (P : Passes poly) (k : ℕ) (block block′ w₁ w₂ : List ℕ) (g : ℕ → ℕ) (bytes : Bytes block) (small : length block ≤ 255) (h : k ≤ length block)
     (E₁ : Each (copiedFrom 0 block) k (replicate 256 0) w₁)
@@ -157,16 +168,9 @@ module _ (poly : ℕ) (P : Passes poly) (k : ℕ) (block block′ w₁ w₂ : Li
       size = length-take-le k block′ (omega (arith, E₂ .size))
 
   pub written : (first : ℕ) → Generator poly first (length block - k) g → block′ ≡ writtenOf poly first (length block - k) block
-  unfolding writtenOf withParity
   written first G =
-      sym (take-append-drop k block′) ∙ ap (λ (xs : List ℕ). xs ++ drop k block′) data-stay
-      ∙ sym ((let e : length block - (length block - k) ≡ k = omega arith in
-      ap (λ (m : ℕ). withParity (take m block) (parityOf poly first (length block - k) (take m block))) e)
-      ∙ ap (withParity ds) (follows-found poly P first (length block - k) ds (take-bytes k block bytes) (omega (arith, ds-length)) (drop k block′) follows))
-    where
-      follows : Follows poly first (length block - k) ds (drop k block′)
-      follows =
-          rest-follows poly P first (length block - k) ds k ds-length g (seq w₂) G
-          (subst (λ (w : ℕ → ℕ). Divided poly (length block - k) g (k + (length block - k)) k w (seq w₂)) data-zeros D) (drop k block′)
-          (length-drop k block′ ∙ ap (λ (n : ℕ). n - k) (E₂ .size))
-          (λ i l. getD-drop k block′ i 0 ∙ E₂ .done (k + i) (omega arith) ∙ copied-high k w₂ (k + i) (seq block (k + i)) (omega arith))
+      written-by poly P first k block block′ bytes small h data-stay
+      (rest-follows poly P first (length block - k) ds k ds-length g (seq w₂) G
+      (subst (λ (w : ℕ → ℕ). Divided poly (length block - k) g (k + (length block - k)) k w (seq w₂)) data-zeros D) (drop k block′)
+      (length-drop k block′ ∙ ap (λ (n : ℕ). n - k) (E₂ .size))
+      (λ i l. getD-drop k block′ i 0 ∙ E₂ .done (k + i) (omega arith) ∙ copied-high k w₂ (k + i) (seq block (k + i)) (omega arith)))

@@ -2,4 +2,5 @@
 pub mod Remainder
 pub mod Followed
 pub mod Fit
+pub mod Left
 pub mod Theorems

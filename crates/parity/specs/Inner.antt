@@ -2,7 +2,7 @@
 use mathlib.Core.Path.{_≡_}
 use mathlib.Core.Logic.{ite}
 use mathlib.Core.List.{List}
-use Prim.Native.Nat.{ℕ, suc, _+_, _<_}
+use Prim.Native.Nat.{ℕ, suc, _+_, _-_, _<_}
 use native.Mathlib.Decide.{decLt}
 use Rattle.field.specs.Field.{power}
 use Rattle.algebra.specs.Sum.{seq, horner}
@@ -28,3 +28,7 @@ pub record Divided (poly d : ℕ) (g : ℕ → ℕ) (n i : ℕ) (w w′ : ℕ �
 -- what src has at the place i, from the place k on
 unfoldable pub copiedFrom : ℕ → List ℕ → ℕ → ℕ → ℕ
 copiedFrom k src i x = ite (decLt i k) x (seq src i)
+
+-- what src has at the place i - k, from the place k on
+unfoldable pub behindOf : ℕ → List ℕ → ℕ → ℕ → ℕ
+behindOf k src i x = ite (decLt i k) x (seq src (i - k))

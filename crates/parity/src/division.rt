@@ -5,7 +5,7 @@ ghost use lib.ListN.{length};
 ghost use Rattle.field.specs.Table.{Field, polyOf};
 ghost use Rattle.algebra.specs.Sum.{seq};
 ghost use Rattle.reed_solomon.specs.Inner.{Each};
-ghost use Rattle.parity.specs.Inner.{Monic, Divided, copiedFrom};
+ghost use Rattle.parity.specs.Inner.{Monic, Divided, copiedFrom, behindOf};
 use reed_solomon::locator;
 
 // What is left of w, of k + d coefficients, by division by g of degree d: its first k become zero.
@@ -31,6 +31,19 @@ pub fn copy(dst: &mut [u8], src: &[u8], k: usize, n: usize)
     let mut i = k;
     while i < n {
         dst[i] = src[i];
+        i += 1;
+    }
+}
+
+// The bytes of a block from the place k on become the first of b.
+pub fn put_behind(block: &mut [u8], k: usize, b: &[u8; 32])
+    requires { ⌜ (k ≤ length (now block)) × (length (now block) ≤ k + 32) × (length (now b) ≡ 32) ⌝ }
+    ensures { λ _. ⌜ Each (behindOf k (now (b .entry))) (length (now (block .entry))) (now (block .entry)) (now (block .exit)) ⌝ }
+{
+    let n = block.len();
+    let mut i = k;
+    while i < n {
+        block[i] = b[i - k];
         i += 1;
     }
 }

@@ -2,9 +2,11 @@
 // to every function but the outermost.
 ghost use mathlib.Core.Path.{_≡_};
 ghost use Prim.Native.Nat.{ℕ, _+_, _-_, _≤_, _<_};
-ghost use lib.ListN.{length};
+ghost use lib.ListN.{length, getD};
 ghost use Rattle.field.specs.Table.{Field, polyOf};
 ghost use Rattle.algebra.specs.Sum.{seq};
+ghost use mathlib.Core.Bool.{true};
+ghost use Rattle.remainder.specs.Words.{tabled, Prepared};
 ghost use Rattle.parity.specs.Encode.{writtenOf, encodeOf, encoding};
 ghost use Rattle.parity.specs.Inner.{Monic, Generator};
 use reed_solomon::locator;
@@ -48,6 +50,47 @@ pub fn write_parity(field: &[u16; 1280], g: &[u8], block: &mut [u8], k: usize)
     division::copy(&mut w, block, 0, k);
     division::divide(field, g, n - k, &mut w, k);
     division::copy(block, &w, k, n);
+}
+
+// Whether b, what is left of the data, is their parity and zeros behind it. It always is for a parity that has a table; the test is shorter
+// than a proof of that.
+fn is_parity(b: &[u8; 32], parity: usize) -> bool
+    ensures { λ r. ⌜ (r ≡ true → tabled parity × ((i : ℕ) → parity ≤ i → i < 32 → getD (now (b .entry)) i 0 ≡ 0)) ⌝ }
+{
+    if parity < 2 {
+        return false;
+    }
+    if 32 < parity {
+        return false;
+    }
+    if parity % 2 != 0 {
+        return false;
+    }
+    let mut i = parity;
+    while i < 32 {
+        if b[i] != 0 {
+            return false;
+        }
+        i += 1;
+    }
+    true
+}
+
+// The first k bytes of a block are data of Han Xin's field; the others become their parity, by a table that is prepared once for all blocks
+// of one parity.
+pub fn write_with(field: &[u16; 1280], rows: &[u64], block: &mut [u8], k: usize)
+    requires { ⌜ Field (now field) × (polyOf (now field) ≡ 0x163) ⌝ }
+    requires { ⌜ (k ≤ length (now block)) × (length (now block) ≤ 255) × Prepared (length (now block) - k) (now rows) × (0 < k) ⌝ }
+    ensures { λ _. ⌜ now (block .exit) ≡ writtenOf 0x163 1 (length (now (block .entry)) - k) (now (block .entry)) ⌝ }
+{
+    let n = block.len();
+    let b = remainder::bytes(remainder::remainder(rows, block, k));
+    if is_parity(&b, n - k) {
+        division::put_behind(block, k, &b);
+        return;
+    }
+    let g = generator(field, 1, n - k);
+    write_parity(field, &g, block, k);
 }
 
 // The parity of a block of the field with the lent table, whose first root is α^first.

@@ -88,13 +88,18 @@ module _ (poly : ℕ) (P : Passes poly) (m : ℕ) where
       ∙ ap (λ (y : ℕ). d y 8 0) (digits-zeros (mul poly e (power poly (8 * m + 8 * m))) 8 (mul-lt poly P e (power poly (8 * m + 8 * m))) ∙ two (8 * m + 8 * m) (8 * m))
       ∙ digits-zeros (mul poly e (power poly (8 * m + 8 * m + 8 * m))) 8 (mul-lt poly P e (power poly (8 * m + 8 * m + 8 * m))) ∙ two (8 * m + 8 * m + 8 * m) (8 * m) ∙ ap (λ (k : ℕ). mul poly e (power poly k)) o
 
+  -- a value in front of a register
+  pub behind-from : (e : ℕ) (r : Register) → e < 256 → behind poly (power poly m) e r ≡ bitXor (mul poly e (power poly (32 * m))) (behind poly (power poly m) 0 r)
+  behind-from e r h =
+      let x = power poly m in
+      sym (ap₂ (behind poly x) (xor-zero-r e) (register-eq (xor-zero-l (r .a)) (xor-zero-l (r .b)) (xor-zero-l (r .c)) (xor-zero-l (r .d))))
+      ∙ behind-sum poly P x e 0 none r ∙ ap (λ (y : ℕ). bitXor y (behind poly x 0 r)) (behind-zeros e h)
+
   -- the value of a block out of that of its remainder
   pub lowered : (e : ℕ) (r : Register) → e < 256 → behind poly (power poly m) e r ≡ 0 → e ≡ mul poly (behind poly (power poly m) 0 r) (power poly (223 * m))
   lowered e r h z =
       let x = power poly m in
-      let apart : bitXor (mul poly e (power poly (32 * m))) (behind poly x 0 r) ≡ 0 =
-      ap (λ (y : ℕ). bitXor y (behind poly x 0 r)) (sym (behind-zeros e h)) ∙ sym (behind-sum poly P x e 0 none r)
-      ∙ ap₂ (behind poly x) (xor-zero-r e) (register-eq (xor-zero-l (r .a)) (xor-zero-l (r .b)) (xor-zero-l (r .c)) (xor-zero-l (r .d))) ∙ z in
+      let apart : bitXor (mul poly e (power poly (32 * m))) (behind poly x 0 r) ≡ 0 = sym (behind-from e r h) ∙ z in
       let o : 32 * m + 223 * m ≡ 255 * m + 0 = omega arith in
       let q : e % 256 ≡ e = omega arith in
       sym (ap (λ (y : ℕ). mul poly y (power poly (223 * m))) (sym (add-zero-eq (mul poly e (power poly (32 * m))) (behind poly x 0 r) apart))

@@ -6,16 +6,16 @@ use lib.ListN.{length, take, drop}
 use Rattle.blocks.specs.Blocks.{batch, totalSize, totalData}
 use Rattle.blockwise.specs.Inner.{batches, Writes}
 use Rattle.blockwise.proofs.Batches.{batch-is, numbers-fit, row-batch}
-use Rattle.blockwise.proofs.Makes.{writes-none, writes-zero, stream-room, data-room, part-length, one-written, generator-as, writes-next, writes-end}
+use Rattle.blockwise.proofs.Makes.{writes-none, writes-zero, stream-room, data-room, part-length, one-written, prepared-as, writes-next, writes-end}
 use borrow.Author.Needs.{needs}
 use Rattle.blockwise.proofs.write_batch.Statement.{statement}
 use Rattle.blockwise.proofs.write_batch.Tie as tie
 
 abbrev Inv-loop : tie.InvT-loop
-Inv-loop field stream₀ «data» row k count info parity g at₀ from₀ i₀ stream at from i = (i ≤ count) × (at ≡ totalData (batches k row) + i * info) × (from ≡ totalSize (batches k row) + i * (info + parity)) × Writes (batch i info parity) (totalSize (batches k row)) (drop (totalData (batches k row)) «data») stream₀ stream
+Inv-loop field stream₀ «data» row k count info parity rows at₀ from₀ i₀ stream at from i = (i ≤ count) × (at ≡ totalData (batches k row) + i * info) × (from ≡ totalSize (batches k row) + i * (info + parity)) × Writes (batch i info parity) (totalSize (batches k row)) (drop (totalData (batches k row)) «data») stream₀ stream
 
 abbrev μ-loop : tie.MeasureT-loop
-μ-loop field stream₀ «data» row k count info parity g at₀ from₀ i₀ stream at from i = count - i
+μ-loop field stream₀ «data» row k count info parity rows at₀ from₀ i₀ stream at from i = count - i
 
 mul-number : tie.Need-mul-number Inv-loop μ-loop
 mul-number c = search needs
@@ -46,14 +46,6 @@ add-number-2 c = search needs
 number-requires-3 : tie.Need-number-requires-3 Inv-loop μ-loop
 number-requires-3 c κs = search needs
 
-generator-requires : tie.Need-generator-requires Inv-loop μ-loop
-generator-requires c κs =
-    let start = c .before .before .before .before .before .before .before in
-    let number = c .before .before .before .number in
-    let number2 = c .before .number2 in
-    let q = numbers-fit (start .args .row .now) (start .args .k) (number .result) (number2 .result) (c .number3 .result) (number .ensures .0) (number2 .ensures .0) (c .number3 .ensures .0) (row-batch _ _ (start .pre .1 .2) (start .args .k) (start .pre .1 .1)) (let z = c .before .before .if1 .left in omega arith) in
-    (start .pre .0 .0, (omega arith, omega (arith, q .0, q .2)))
-
 data-before-requires : tie.Need-data-before-requires Inv-loop μ-loop
 data-before-requires c κs =
     let start = c .before .before .before .before .before .before .before .before in
@@ -69,7 +61,7 @@ unfolding batch
 loop-holds c = (omega arith, omega (arith, c .before .data-before .ensures), omega (arith, c .length-before .ensures), writes-none _ _ _)
 
 slice-aggregate-write-block : tie.Need-slice-aggregate-write-block Inv-loop μ-loop
-slice-aggregate-write-block c = search needs
+slice-aggregate-write-block c = sym (c .before .before .before .before .before .prepare .ensures .size)
 
 add-write-block : tie.Need-add-write-block Inv-loop μ-loop
 add-write-block c = search needs
@@ -140,7 +132,7 @@ write-block-requires c κs =
     let number = c .before .before .before .before .before .before .before .before .before .before .before .number in
     let number2 = c .before .before .before .before .before .before .before .before .before .number2 in
     let number3 = c .before .before .before .before .before .before .before .before .number3 in
-    let generator = c .before .before .before .before .before .before .before .generator in
+    let prepare = c .before .before .before .before .before .before .before .prepare in
     let loop = c .before .before .before .before .loop in
     let loop-test = c .before .before .before .loop-test in
     let d = number2 .result in
@@ -150,7 +142,7 @@ write-block-requires c κs =
     let m = part-length (l .from) (l .from + (d + p)) (d + p) (l .stream) refl (omega (arith, loop .inv .2, loop .inv .3 .size, start .pre .1 .3, stream-room (start .args .row .now) (start .args .k) (number .result) (number2 .result) (number3 .result) (start .pre .1 .1) (number .ensures .0) (number2 .ensures .0) (number3 .ensures .0) (loop .i) (loop-test .taken))) in
     let n = part-length (l .at) (l .at + d) d (start .args .«data» .now) refl (omega (arith, loop .inv .1, start .pre .1 .4, data-room (start .args .row .now) (start .args .k) (number .result) (number2 .result) (number3 .result) (start .pre .1 .1) (number .ensures .0) (number2 .ensures .0) (number3 .ensures .0) (loop .i) (loop-test .taken))) in
     let e : p ≡ length (take (l .from + (d + p) - l .from) (drop (l .from) (l .stream))) - length (take (l .at + d - l .at) (drop (l .at) (start .args .«data» .now))) = omega (arith, m, n) in
-    (start .pre .0, (omega (arith, m, n), omega (arith, m, q .2), generator .ensures .0, generator-as _ _ _ _ _ (start .pre .0 .1) e (generator .ensures .1)))
+    (start .pre .0, (omega (arith, m, n), omega (arith, m, q .2), prepared-as _ _ _ e (prepare .ensures), omega (arith, n, q .0)))
 
 add-at : tie.Need-add-at Inv-loop μ-loop
 add-at c =
@@ -231,7 +223,7 @@ write-batch-spec =
     mul-number-3
     add-number-2
     number-requires-3
-    generator-requires
+    (λ c κs. search needs)
     data-before-requires
     length-before-requires
     loop-holds
