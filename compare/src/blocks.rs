@@ -1,6 +1,9 @@
 //! The field and Correct a block: our `correct` against `Field::correct` of the original, answer, count and every byte.
 use crate::reed_solomon::{Field, access, gf256};
-use crate::tools::{Random, differs, hex, line, time_both};
+use crate::others::Fec;
+use crate::sheet::{Sheet, time};
+use crate::tools::{Random, differs, hex};
+use std::hint::black_box;
 
 #[repr(C)]
 #[derive(Clone, Copy, PartialEq, Eq, Debug)]
@@ -334,40 +337,57 @@ pub fn compare() {
     both.report("codewords of another field");
 }
 
-pub fn bench() {
+/// Lengths and parities that are timed.
+const SHAPES: [(usize, usize); 6] = [(25, 4), (50, 30), (150, 28), (187, 30), (255, 32), (255, 128)];
+
+/// Calls on a copy of the next of some blocks.
+fn each<'a, T>(blocks: &'a [Vec<u8>], mut call: impl FnMut(&mut [u8]) -> T + 'a) -> impl FnMut() + 'a {
+    let (mut work, mut i) = (blocks[0].clone(), 0);
+    move || {
+        work.copy_from_slice(&blocks[i % blocks.len()]);
+        i += 1;
+        black_box(call(&mut work));
+    }
+}
+
+/// Blocks beside the original and beside libfec, and parities beside libfec: the original writes none.
+pub fn bench(sheet: &mut Sheet) {
+    sheet.part("blocks", "Rust");
+    let field = gf256(0x163);
+    corrections(sheet, "block", |_, parity| Some(Box::new(move |b| field.correct(b, parity, 1).is_some())));
+    sheet.part("blocks", "libfec");
+    if Fec::new(25, 4).is_none() {
+        println!("libfec (Debian's libfec-dev) is not installed, so its times are left out");
+    }
+    corrections(sheet, "block beside libfec", |length, parity| {
+        let code = Fec::new(length, parity)?;
+        Some(Box::new(move |b| code.correct(b) >= 0))
+    });
+    let mut random = Random::new(2);
+    for (length, parity) in SHAPES {
+        let blocks: Vec<Vec<u8>> = (0..64).map(|_| damaged(field, &mut random, length, parity, 0)).collect();
+        let mut ours = each(&blocks, |b| our_parity(b, parity));
+        let code = Fec::new(length, parity);
+        let mut theirs = code.as_ref().map(|code| each(&blocks, |b| code.parity(b)));
+        let times = time(&mut ours, theirs.as_mut().map(|call| call as &mut dyn FnMut()));
+        sheet.case("parity beside libfec", &format!("({length}, {parity})"), 0, times);
+    }
+}
+
+/// Whether a block was corrected.
+type Correct = Box<dyn FnMut(&mut [u8]) -> bool>;
+
+/// Blocks in each situation, beside another corrector.
+fn corrections(sheet: &mut Sheet, group: &str, other: impl Fn(usize, usize) -> Option<Correct>) {
     let field = gf256(0x163);
     let mut random = Random::new(2);
-    for (length, parity) in [
-        (25, 4),
-        (50, 30),
-        (150, 28),
-        (187, 30),
-        (255, 32),
-        (255, 128),
-    ] {
-        for (name, errors) in [
-            ("clean", 0),
-            ("half of the reach", parity / 4),
-            ("full reach", parity / 2),
-            ("out of reach", parity),
-        ] {
-            let blocks: Vec<Vec<u8>> = (0..64)
-                .map(|_| damaged(field, &mut random, length, parity, errors))
-                .collect();
-            let (mut work, mut other) = (vec![0; length], vec![0; length]);
-            let (mut i, mut j) = (0, 0);
-            let our_call = || {
-                work.copy_from_slice(&blocks[i % 64]);
-                i += 1;
-                std::hint::black_box(ours(&mut work, parity));
-            };
-            let their_call = || {
-                other.copy_from_slice(&blocks[j % 64]);
-                j += 1;
-                std::hint::black_box(field.correct(&mut other, parity, 1));
-            };
-            let (our, their) = time_both(our_call, their_call);
-            line(&format!("block ({length}, {parity}) {name}"), our, their);
+    for (name, wrong) in [("clean", 0), ("half of the reach", 1), ("full reach", 2), ("out of reach", 4)] {
+        for (length, parity) in SHAPES {
+            let blocks: Vec<Vec<u8>> = (0..64).map(|_| damaged(field, &mut random, length, parity, wrong * parity / 4)).collect();
+            let mut our_call = each(&blocks, |b| ours(b, parity));
+            let mut their_call = other(length, parity).map(|call| each(&blocks, call));
+            let times = time(&mut our_call, their_call.as_mut().map(|call| call as &mut dyn FnMut()));
+            sheet.case(&format!("{group}, {name}"), &format!("({length}, {parity})"), 0, times);
         }
     }
 }

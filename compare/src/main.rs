@@ -1,13 +1,15 @@
 //! Both sides by running: the original Rust, unchanged, and our static libraries.
 //!
 //! `compare [PART ..]` compares every answer and every lent byte, prints how many of which kind were tried, and stops at the first
-//! difference with the input that shows it. `compare bench [PART ..]` times both. `compare record [PART ..]` writes, from the Rust's
+//! difference with the input that shows it. `compare bench [--all] [PART ..]` times both, `compare instructions` runs what callgrind counts. `compare record [PART ..]` writes, from the Rust's
 //! answers, the lists that the programs `replay_PART` of the repository run on and what they must print.
 #![allow(dead_code)]
 include!(concat!(env!("OUT_DIR"), "/original.rs"));
 
 mod blocks;
+mod others;
 mod segments;
+mod sheet;
 mod squares;
 mod symbol;
 mod tools;
@@ -27,11 +29,10 @@ pub mod encoding {
     }
 }
 
-/// A part: its comparison, its benchmark, and the list that its replay runs on with what that must print.
+/// A part: its comparison, and the list that its replay runs on with what that must print.
 struct Part {
     name: &'static str,
     compare: fn(),
-    bench: fn(),
     record: fn() -> (Vec<u8>, String),
 }
 
@@ -39,61 +40,73 @@ const PARTS: [Part; 4] = [
     Part {
         name: "blocks",
         compare: blocks::compare,
-        bench: blocks::bench,
         record: blocks::record,
     },
     Part {
         name: "symbol",
         compare: symbol::compare,
-        bench: symbol::bench,
         record: symbol::record,
     },
     Part {
         name: "segments",
         compare: segments::compare,
-        bench: segments::bench,
         record: segments::record,
     },
     Part {
         name: "squares",
         compare: squares::compare,
-        bench: squares::bench,
         record: squares::record,
     },
 ];
 
+/// The parts of the benchmark.
+const BENCHES: [(&str, fn(&mut sheet::Sheet)); 6] = [
+    ("read", squares::reading),
+    ("write", squares::writing_speed),
+    ("blocks", blocks::bench),
+    ("segments", segments::bench),
+    ("symbol", symbol::bench),
+    ("stack", |_| squares::stack()),
+];
+
+/// Ends where a word is none of the parts.
+fn known(words: &[String], parts: &[&str]) {
+    if let Some(w) = words.iter().find(|w| !parts.contains(&w.as_str())) {
+        eprintln!("compare: no part {w}, but {}", parts.join(", "));
+        std::process::exit(2);
+    }
+}
+
+fn bench(mut words: Vec<String>) {
+    let all = words.iter().any(|w| w == "--all");
+    words.retain(|w| w != "--all");
+    known(&words, &BENCHES.map(|b| b.0));
+    let mut sheet = sheet::Sheet::new(all);
+    for (_, run) in BENCHES.iter().filter(|b| words.is_empty() || words.iter().any(|w| w == b.0)) {
+        run(&mut sheet);
+    }
+    sheet.end();
+}
+
+fn record(part: &Part) {
+    let (list, answers) = (part.record)();
+    let folder = format!("crates/replay_{}", part.name);
+    std::fs::write(format!("{folder}/stdin"), list).unwrap();
+    std::fs::write(format!("{folder}/stdout"), answers).unwrap();
+}
+
 fn main() {
     let mut words: Vec<String> = std::env::args().skip(1).collect();
     let mode = match words.first().map(String::as_str) {
-        Some("bench" | "record") => words.remove(0),
+        Some("bench" | "instructions" | "record") => words.remove(0),
         _ => "compare".to_string(),
     };
-    if let Some(w) = words
-        .iter()
-        .find(|w| PARTS.iter().all(|p| p.name != w.as_str()))
-    {
-        eprintln!("compare: no part {w}");
-        std::process::exit(2);
+    match mode.as_str() {
+        "bench" => return bench(words),
+        "instructions" => return squares::instructions(),
+        _ => known(&words, &PARTS.map(|p| p.name)),
     }
-    if mode == "bench" {
-        println!(
-            "{:34} {:>12} {:>12} {:>7}",
-            "name", "ours, ns", "Rust, ns", "ratio"
-        );
-    }
-    for part in PARTS
-        .iter()
-        .filter(|p| words.is_empty() || words.iter().any(|w| w == p.name))
-    {
-        match mode.as_str() {
-            "bench" => (part.bench)(),
-            "record" => {
-                let (list, answers) = (part.record)();
-                let folder = format!("crates/replay_{}", part.name);
-                std::fs::write(format!("{folder}/stdin"), list).unwrap();
-                std::fs::write(format!("{folder}/stdout"), answers).unwrap();
-            }
-            _ => (part.compare)(),
-        }
+    for part in PARTS.iter().filter(|p| words.is_empty() || words.iter().any(|w| w == p.name)) {
+        if mode == "record" { record(part) } else { (part.compare)() }
     }
 }

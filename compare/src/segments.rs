@@ -1,8 +1,11 @@
 //! Segments: `parse` of the original against Segments from data, on payload bytes and acceptance; scripts and refusals beside it against
 //! the second writer in written.rs.
 use crate::han_xin::access::parse;
-use crate::tools::{MARK, ROOM, Random, differs, hex, line, time_both};
+use crate::sheet::{Sheet, time};
+use crate::tools::{MARK, ROOM, Random, differs, hex};
 use crate::written::{Bits, Written};
+use std::hint::black_box;
+use std::iter::once;
 
 #[repr(C)]
 struct Told {
@@ -292,60 +295,37 @@ fn bad(tally: &mut Tally) {
     println!("segments: {} scripts with their refusals", SCRIPTS.len() + 3);
 }
 
-pub fn bench() {
-    let size = 8 * 3264;
-    let mut cases: Vec<(&str, Bits)> = Vec::new();
-    let mut bits = Bits::default();
-    bits.put(4, 2);
-    while bits.0.len() + 6 < size - 6 {
-        let code = bits.0.len() / 6 % 62;
-        bits.put(6, code);
-    }
-    bits.put(6, 63);
-    cases.push(("one text segment", bits));
-    let mut bits = Bits::default();
-    bits.put(4, 1);
-    while bits.0.len() + 10 < size - 10 {
-        let group = bits.0.len() % 1000;
-        bits.put(10, group);
-    }
-    bits.put(10, 1023);
-    cases.push(("one numeric segment", bits));
-    let mut bits = Bits::default();
-    bits.put(4, 3);
-    bits.put(13, 3260);
-    for i in 0..3260 {
-        bits.put(8, i % 256);
-    }
-    cases.push(("one bytes segment", bits));
-    let mut bits = Bits::default();
-    for i in 0..1000 {
-        bits.put(4, 2);
-        bits.put(6, i % 62);
-        bits.put(6, 36 + i % 26);
-        bits.put(6, 63);
-    }
-    cases.push(("1,000 short segments", bits));
-    let mut bits = Bits::default();
-    bits.put(4, 4);
-    for i in 0..1080 {
-        bits.put(12, i % 3000);
-        bits.put(12, 4094);
-    }
-    bits.put(12, 4095);
-    cases.push(("1,080 region switches", bits));
+/// Data of one kind of segment each: a width and a value for each of its numbers.
+fn streams() -> [(&'static str, Bits); 5] {
+    let bits = |numbers: &mut dyn Iterator<Item = (usize, usize)>| {
+        let mut bits = Bits::default();
+        numbers.for_each(|(width, value)| bits.put(width, value));
+        bits
+    };
+    let framed = |mode, numbers: &mut dyn Iterator<Item = (usize, usize)>, end| bits(&mut once((4, mode)).chain(numbers).chain(once(end)));
+    [
+        ("one text segment", framed(2, &mut (0..4350).map(|i| (6, i % 62)), (6, 63))),
+        ("one numeric segment", framed(1, &mut (0..2609).map(|i| (10, 10 * i % 1000)), (10, 1023))),
+        ("one bytes segment", bits(&mut [(4, 3), (13, 3260)].into_iter().chain((0..3260).map(|i| (8, i % 256))))),
+        ("1,000 short segments", bits(&mut (0..1000).flat_map(|i| [(4, 2), (6, i % 62), (6, 36 + i % 26), (6, 63)]))),
+        ("1,080 region switches", framed(4, &mut (0..1080).flat_map(|i| [(12, i % 3000), (12, 4094)]), (12, 4095))),
+    ]
+}
+
+/// Segments from data.
+pub fn bench(sheet: &mut Sheet) {
+    sheet.part("segments of 3,264 bytes", "Rust");
     let (mut payload, mut script) = (vec![0; ROOM], vec![0; ROOM]);
-    for (name, bits) in cases {
+    for (name, bits) in streams() {
         let data = bits.bytes();
         assert!(data.len() <= 3264 && parse(&data).is_some(), "{name}");
-        let our_call = || {
-            std::hint::black_box(from_data(std::hint::black_box(&data), &mut payload, &mut script).refusal);
+        let mut ours = || {
+            black_box(from_data(black_box(&data), &mut payload, &mut script).refusal);
         };
-        let their_call = || {
-            std::hint::black_box(parse(std::hint::black_box(&data)));
+        let mut theirs = || {
+            black_box(parse(black_box(&data)));
         };
-        let (ours, theirs) = time_both(our_call, their_call);
-        line(name, ours, theirs);
+        sheet.case("segments", name, 0, time(&mut ours, Some(&mut theirs)));
     }
 }
 

@@ -2,10 +2,12 @@
 //! level, mask and information distance. The marks are written by our writer and held to those that plan.rs makes. What the original does
 //! not tell, the script and the number of a refusal, is held to the script that was written and to the original's own steps.
 mod bad;
+mod instructions;
 mod kinds;
 mod plan;
 mod record;
 mod speed;
+mod stack;
 mod writing;
 
 use crate::han_xin::{Read, decode_data, decode_matrix, nearest_info};
@@ -14,7 +16,9 @@ use crate::written::Written;
 pub use kinds::compare;
 use plan::Plan;
 pub use record::record;
-pub use speed::bench;
+pub use instructions::instructions;
+pub use speed::{VERSIONS, reading, writing as writing_speed};
+pub use stack::stack;
 
 unsafe extern "C" {
     fn hx_read_square(

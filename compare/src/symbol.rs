@@ -1,6 +1,9 @@
 //! The symbol: version, layout, information words and places, masks and the block table, against the original's.
 use crate::han_xin::{Module, access, info_bits, info_positions, layout, nearest_info, size, version};
-use crate::tools::{Random, line, same, time_both};
+use crate::sheet::{Sheet, time};
+use crate::squares::VERSIONS;
+use crate::tools::{Random, same};
+use std::hint::black_box;
 
 #[repr(C)]
 #[derive(Clone, Copy, PartialEq, Eq, Debug)]
@@ -29,7 +32,7 @@ unsafe extern "C" {
     safe fn hx_info_position(side: usize, copy: usize, n: usize) -> usize;
 }
 
-fn our_layout(version: usize, out: &mut [u8]) -> usize {
+pub fn our_layout(version: usize, out: &mut [u8]) -> usize {
     // SAFETY: the pointer and the length are those of one mutable slice.
     unsafe { hx_layout(version, out.as_mut_ptr(), out.len()) }
 }
@@ -284,17 +287,18 @@ pub fn compare() {
     masks();
 }
 
-pub fn bench() {
+/// Layouts, and the nearest word of what was read.
+pub fn bench(sheet: &mut Sheet) {
+    sheet.part("the symbol", "Rust");
     let mut out = vec![0; 189 * 189];
-    for v in [1, 20, 84] {
-        let our_call = || {
-            std::hint::black_box(our_layout(std::hint::black_box(v), &mut out));
+    for v in VERSIONS {
+        let mut ours = || {
+            black_box(our_layout(black_box(v), &mut out));
         };
-        let their_call = || {
-            std::hint::black_box(layout(std::hint::black_box(v)));
+        let mut theirs = || {
+            black_box(layout(black_box(v)));
         };
-        let (ours, theirs) = time_both(our_call, their_call);
-        line(&format!("layout, version {v}"), ours, theirs);
+        sheet.case("layout", &format!("v{v}"), size(v) * size(v), time(&mut ours, Some(&mut theirs)));
     }
     let mut random = Random::new(11);
     let reads: Vec<(usize, [u64; 2])> = (0..64)
@@ -307,18 +311,18 @@ pub fn bench() {
             (v, read)
         })
         .collect();
-    let our_call = || {
-        for (v, read) in &reads {
-            std::hint::black_box(hx_nearest_info(*v, read[0], read[1]));
-        }
+    let (mut i, mut j) = (0, 0);
+    let mut ours = || {
+        let (v, read) = reads[i % 64];
+        i += 1;
+        black_box(hx_nearest_info(v, read[0], read[1]));
     };
-    let their_call = || {
-        for (v, read) in &reads {
-            std::hint::black_box(nearest_info(*v, *read));
-        }
+    let mut theirs = || {
+        let (v, read) = reads[j % 64];
+        j += 1;
+        black_box(nearest_info(v, read));
     };
-    let (ours, theirs) = time_both(our_call, their_call);
-    line("nearest word", ours / 64.0, theirs / 64.0);
+    sheet.case("information", "nearest word", 0, time(&mut ours, Some(&mut theirs)));
 }
 
 /// Two sums over the bytes of a layout, for the replay: a layout is too long to print.

@@ -1,5 +1,4 @@
-//! What the parts share: numbers that look random and are the same in each run, the end at a difference, and timing.
-use std::time::Instant;
+//! What the parts share: numbers that look random and are the same in each run, and the end at a difference.
 
 /// The length of payload and script buffers that is enough for any mark.
 pub const ROOM: usize = 12_288;
@@ -68,46 +67,4 @@ pub fn same<T: PartialEq + std::fmt::Debug>(what: &str, input: &str, ours: T, th
     if ours != theirs {
         differs(what, input, &format!("{ours:?}"), &format!("{theirs:?}"));
     }
-}
-
-/// How often to call in a round that is long enough to be measured.
-fn turns(call: &mut impl FnMut()) -> u32 {
-    let mut turns = 1u32;
-    loop {
-        let start = Instant::now();
-        for _ in 0..turns {
-            call();
-        }
-        if start.elapsed().as_micros() >= 2000 {
-            return turns;
-        }
-        turns *= 2;
-    }
-}
-
-/// Nanoseconds of one call in a round.
-fn round(call: &mut impl FnMut(), turns: u32) -> f64 {
-    let start = Instant::now();
-    for _ in 0..turns {
-        call();
-    }
-    start.elapsed().as_secs_f64() * 1e9 / f64::from(turns)
-}
-
-/// Nanoseconds of one call: the least of several rounds.
-pub fn time(mut call: impl FnMut()) -> f64 {
-    let n = turns(&mut call);
-    (0..7).map(|_| round(&mut call, n)).fold(f64::INFINITY, f64::min)
-}
-
-/// The same of two calls by turns, so that what else the machine does meets both.
-pub fn time_both(mut ours: impl FnMut(), mut theirs: impl FnMut()) -> (f64, f64) {
-    let (n, m) = (turns(&mut ours), turns(&mut theirs));
-    let least = |(a, b): (f64, f64), (c, d): (f64, f64)| (a.min(c), b.min(d));
-    (0..9).map(|_| (round(&mut ours, n), round(&mut theirs, m))).fold((f64::INFINITY, f64::INFINITY), least)
-}
-
-/// One line of the benchmark.
-pub fn line(name: &str, ours: f64, theirs: f64) {
-    println!("{name:34} {ours:12.1} {theirs:12.1} {:7.2}", ours / theirs);
 }

@@ -56,7 +56,7 @@ fn clean(both: &mut Both, random: &mut Random) {
 }
 
 /// Changes `count` codewords of a block.
-fn damage(plan: &Plan, random: &mut Random, square: &mut [u8], level: usize, block: usize, count: usize) {
+pub fn damage(plan: &Plan, random: &mut Random, square: &mut [u8], level: usize, block: usize, count: usize) {
     let block = plan.blocks(level)[block];
     random.each_of(block.data + block.parity, count, |random, place| {
         plan.change(square, block.start + place, random.change());

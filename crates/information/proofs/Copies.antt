@@ -1,5 +1,5 @@
 -- What the functions on information modules need of numbers.
-use mathlib.Core.Path.{_≡_, sym, ap, ap₂, subst, _∙_}
+use mathlib.Core.Path.{_≡_, refl, sym, ap, ap₂, subst, _∙_}
 use mathlib.Core.Bool.{Bool, true, false}
 use mathlib.Core.List.{List}
 use Prim.Native.Nat.{ℕ, zero, suc, _+_, _-_, _*_, _^_, _<_, _≤_}
@@ -9,7 +9,8 @@ use native.Mathlib.Omega.{arith}
 use lib.Dec.{lit<}
 use lib.Pow.{pow-mono}
 use lib.ListN.{set}
-use Rattle.information.specs.Information.{positionRow, positionColumn, infoPosition, numberOf, bitOf, bitsWritten}
+use Rattle.information.specs.Information.{positionRow, positionColumn, infoPosition, numberOf, bitOf, bitsWritten, copyWritten}
+use Rattle.information.specs.Inner.{ArmWritten}
 use Rattle.information.proofs.Distinct.{row-lt, place-lt}
 
 module _ (s n : ℕ) (big : 23 ≤ s) (hi : s ≤ 189) (h : n < 34) {r : ℕ} (d : r ≡ positionRow n) where
@@ -48,3 +49,11 @@ write-more s b w n g₀ {g} {i} {x} e d f =
 -- by the flag of a copy
 pub by-copy : (s n i : ℕ) (b t : Bool) → b ≡ t → i ≡ infoPosition s t n → i ≡ infoPosition s b n
 by-copy s n i b t e d = d ∙ ap (λ (c : Bool). infoPosition s c n) (sym e)
+
+-- one arm after another, and all of them
+pub arm-next : {s : ℕ} {second : Bool} {w a b c : ℕ} {g g' g'' : List ℕ} → ArmWritten s second w a b g g' → ArmWritten s second w b c g' g'' → ArmWritten s second w a c g g''
+arm-next x y = record { is = λ h e. y .is h (x .is h e) }
+
+pub arms-all : {s : ℕ} {second : Bool} {w : ℕ} {g g' : List ℕ} → ArmWritten s second w 0 34 g g' → g' ≡ copyWritten s second w g
+unfolding bitsWritten copyWritten
+arms-all {g = g} x = x .is g refl

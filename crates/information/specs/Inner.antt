@@ -1,7 +1,9 @@
--- What only the code of the nearest word uses. Nobody has to believe it.
+-- What only inner functions use. Nobody has to believe it.
 use mathlib.Core.Path.{_≡_}
+use mathlib.Core.Bool.{Bool}
 use mathlib.Core.List.{List, [], _∷_}
 use Prim.Native.Nat.{ℕ, _<_}
+use Rattle.information.specs.Information.{bitsWritten}
 use Rattle.information.specs.declared.Best.{Best}
 
 -- by which bits word k of a version differs from its word 0: the same for every version, since the code is linear
@@ -14,3 +16,7 @@ pub record Found (d : ℕ → ℕ) (k : ℕ) (b : Best) : Type 0 where
   pub word-is : b .word ≡ k
   pub at : b .distance ≡ d k
   pub small : b .word < 16
+
+-- bits from to below `to` of a word were written into a copy that held those before
+pub record ArmWritten (s : ℕ) (second : Bool) (w from to : ℕ) (g g' : List ℕ) : Type 0 where
+  pub is : (h : List ℕ) → g ≡ bitsWritten s second w from h → g' ≡ bitsWritten s second w to h

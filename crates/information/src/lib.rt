@@ -7,8 +7,8 @@ ghost use lib.Dec.{ltb};
 ghost use lib.Bits.{bitXor};
 ghost use lib.Count.{ones};
 ghost use lib.ListN.{length, getD};
-ghost use Rattle.information.specs.Information.{timesX, plusIfOdd, gf16Mul, generatorTimes, remainder, wordOf, infoRefusal, infoWord, wordRefusalOf, wordIn, distance, leastOf, nearest, nearestRefusal, nearestLevel, nearestMask, nearestDistance, nearestRefusalOf, levelOf, maskOf, distanceOf, positionRow, positionColumn, infoPosition, copyOf, bitOf, copyWritten, infoWritten};
-ghost use Rattle.information.specs.Inner.{Found};
+ghost use Rattle.information.specs.Information.{timesX, plusIfOdd, gf16Mul, generatorTimes, remainder, wordOf, infoRefusal, infoWord, wordRefusalOf, wordIn, distance, leastOf, nearest, nearestRefusal, nearestLevel, nearestMask, nearestDistance, nearestRefusalOf, levelOf, maskOf, distanceOf, positionRow, positionColumn, infoPosition, numberOf, copyOf, bitOf, copyWritten, infoWritten};
+ghost use Rattle.information.specs.Inner.{Found, ArmWritten};
 use symbol::Version;
 
 // What operation Information word answers.
@@ -250,19 +250,31 @@ fn wide8(x: u8) -> u64
     x as u64
 }
 
-// A copy, read out of a square of 0 and 1.
-pub fn read_copy(square: &[u8], side: usize, second: bool) -> u64
-    requires { ⌜ (23 ≤ side) × (side ≤ 189) × (side * side ≤ length (now square)) × ((i : ℕ) → getD (now square) i 0 < 2) ⌝ }
-    ensures { λ r. ⌜ r ≡ copyOf side second (now (square .entry)) ⌝ }
+// The bits from to below to of a copy, behind those before. Called for one arm at a time: the compiler then knows the row or the column of
+// each bit and unrolls the loop.
+fn read_arm(square: &[u8], side: usize, second: bool, word: u64, from: usize, to: usize) -> u64
+    requires { ⌜ (23 ≤ side) × (side ≤ 189) × (side * side ≤ length (now square)) × ((i : ℕ) → getD (now square) i 0 < 2) × (from ≤ to) × (to ≤ 34) × (word ≡ numberOf (λ n. getD (now square) (infoPosition side second n) 0) from) ⌝ }
+    ensures { λ r. ⌜ r ≡ numberOf (λ n. getD (now (square .entry)) (infoPosition side second n) 0) to ⌝ }
 {
-    let mut w: u64 = 0;
-    let mut n: usize = 0;
-    while n < 34 {
+    let mut w = word;
+    let mut n = from;
+    while n < to {
         let i = info_position(side, second, n);
         w = w * 2 + wide8(square[i]);
         n += 1;
     }
     w
+}
+
+// A copy, read out of a square of 0 and 1.
+pub fn read_copy(square: &[u8], side: usize, second: bool) -> u64
+    requires { ⌜ (23 ≤ side) × (side ≤ 189) × (side * side ≤ length (now square)) × ((i : ℕ) → getD (now square) i 0 < 2) ⌝ }
+    ensures { λ r. ⌜ r ≡ copyOf side second (now (square .entry)) ⌝ }
+{
+    let a = read_arm(square, side, second, 0, 0, 9);
+    let b = read_arm(square, side, second, a, 9, 17);
+    let c = read_arm(square, side, second, b, 17, 26);
+    read_arm(square, side, second, c, 26, 34)
 }
 
 fn bit(word: u64, n: usize) -> u8
@@ -272,16 +284,27 @@ fn bit(word: u64, n: usize) -> u8
     ((word >> (33 - n)) % 2) as u8
 }
 
-fn write_copy(square: &mut [u8], side: usize, second: bool, word: u64)
-    requires { ⌜ (23 ≤ side) × (side ≤ 189) × (side * side ≤ length (now square)) ⌝ }
-    ensures { λ _. ⌜ now (square .exit) ≡ copyWritten side second word (now (square .entry)) ⌝ }
+// Writes bits from to below to of a word into a copy, one arm at a time as they are read.
+fn write_arm(square: &mut [u8], side: usize, second: bool, word: u64, from: usize, to: usize)
+    requires { ⌜ (23 ≤ side) × (side ≤ 189) × (side * side ≤ length (now square)) × (from ≤ to) × (to ≤ 34) ⌝ }
+    ensures { λ _. ⌜ ArmWritten side second word from to (now (square .entry)) (now (square .exit)) ⌝ }
 {
-    let mut n: usize = 0;
-    while n < 34 {
+    let mut n = from;
+    while n < to {
         let i = info_position(side, second, n);
         square[i] = bit(word, n);
         n += 1;
     }
+}
+
+fn write_copy(square: &mut [u8], side: usize, second: bool, word: u64)
+    requires { ⌜ (23 ≤ side) × (side ≤ 189) × (side * side ≤ length (now square)) ⌝ }
+    ensures { λ _. ⌜ now (square .exit) ≡ copyWritten side second word (now (square .entry)) ⌝ }
+{
+    write_arm(square, side, second, word, 0, 9);
+    write_arm(square, side, second, word, 9, 17);
+    write_arm(square, side, second, word, 17, 26);
+    write_arm(square, side, second, word, 26, 34);
 }
 
 // Writes a word into both copies of a square.

@@ -30,6 +30,10 @@ cast x f l = subst (λ (z : ℤ). T (nonNeg z) × Fits w64 (natAbs z)) (sym (toZ
     positive (pos n) l = tt
     positive (negsuc n) l = absurd (true-false l)
 
+pub whole-is : (x : ℤ) → ltZ x (pos 0) ≡ false → x ≡ pos (natAbs x)
+whole-is (pos n) l = refl
+whole-is (negsuc n) l = absurd (true-false l)
+
 mag-sub : (a b : ℕ) → mag (subℕ a b) ≤ a + b
 mag-sub a b = by (ltb a b) refl
   where
@@ -107,6 +111,10 @@ module _ (s : ℕ) where
   place-in (pos x) (negsuc y) a b l h = absurd (true-false b)
   place-in (negsuc x) y a b l h = absurd (true-false a)
 
+-- the place of two numbers
+pub whole-in : (s x y : ℕ) → x < s → y < s → placeAt s (pos x) (pos y) ≡ y * s + x
+whole-in s x y l h = sym (place-in s (pos x) (pos y) (le-ltb x 0 (omega arith)) (le-ltb y 0 (omega arith)) l h)
+
 -- the same of signed numbers as the machine reads them
 module _ (s : ℕ) (x y : ℤ) (f : SFits w64 x) (g : SFits w64 y) where
   pub right-of : s ≤ natAbs (toZ w64 (ofZ w64 x)) → s * s ≡ placeAt s x y
@@ -114,9 +122,6 @@ module _ (s : ℕ) (x y : ℤ) (f : SFits w64 x) (g : SFits w64 y) where
 
   pub under : natAbs (toZ w64 (ofZ w64 x)) < s → s ≤ natAbs (toZ w64 (ofZ w64 y)) → s * s ≡ placeAt s x y
   under l h = place-below s x y (simp (toZ-ofZ f) at l) (simp (toZ-ofZ g) at h)
-
-  pub inside : ltZ x (pos 0) ≡ false → ltZ y (pos 0) ≡ false → natAbs (toZ w64 (ofZ w64 x)) < s → natAbs (toZ w64 (ofZ w64 y)) < s → natAbs (toZ w64 (ofZ w64 y)) * s + natAbs (toZ w64 (ofZ w64 x)) ≡ placeAt s x y
-  inside a b l h = simp (toZ-ofZ f, toZ-ofZ g) (place-in s x y a b (simp (toZ-ofZ f) at l) (simp (toZ-ofZ g) at h))
 
 -- what is said of signed numbers as the machine reads them, of the numbers
 pub read : {A : Type 0} (F : ℤ → A) {x : ℤ} → SFits w64 x → F (toZ w64 (ofZ w64 x)) ≡ F x
@@ -153,3 +158,20 @@ above-difference a (suc b) = by (ltb a (suc b)) refl
 
 pub take-off : (a b c : ℕ) → pos a -ℤ pos b -ℤ pos c ≡ pos a -ℤ pos (b + c)
 take-off a b c = +ℤ-assoc (pos a) (negℤ (pos b)) (negℤ (pos c)) ∙ ap (λ (z : ℤ). pos a +ℤ z) (sym (negℤ-+ℤ (pos b) (pos c)))
+
+-- a coordinate moved to the left stays inside or leaves the square
+pub difference : (a b : ℕ) → b ≤ a → pos a -ℤ pos b ≡ pos (a - b)
+difference a zero h = let e : a + 0 ≡ a - 0 = omega arith in ap pos e
+difference a (suc b) h = by (ltb a (suc b)) refl
+  where
+    by : (t : Bool) → ltb a (suc b) ≡ t → cond t (negsuc (suc b - suc a)) (pos (a - suc b)) ≡ pos (a - suc b)
+    by true e = absurd (let k : a < suc b = ltb-true a (suc b) e in omega arith)
+    by false e = refl
+
+pub negative : (a b : ℕ) → a < b → ltZ (pos a -ℤ pos b) (pos 0) ≡ true
+negative a zero h = absurd (omega arith)
+negative a (suc b) h = by (ltb a (suc b)) refl
+  where
+    by : (t : Bool) → ltb a (suc b) ≡ t → ltZ (cond t (negsuc (suc b - suc a)) (pos (a - suc b))) (pos 0) ≡ true
+    by true e = refl
+    by false e = absurd (let k : suc b ≤ a = ltb-false a (suc b) e in omega arith)

@@ -1,4 +1,6 @@
 pub mod Finite
+pub mod FirstPlot
+pub mod LineRuns
 pub mod Coordinates
 pub mod Plots
 pub mod Places

@@ -3,7 +3,7 @@ use mathlib.Core.Path.{_≡_, refl, sym, ap, subst, _∙_}
 use mathlib.Core.List.{List, [], _∷_, _++_}
 use Prim.Native.Nat.{ℕ, _+_, _*_, _<_, _≤_, _%_}
 use native.Mathlib.Numerals.{add-one}
-use lib.IntN.{ℤ}
+use lib.IntN.{ℤ, pos, natAbs}
 use mir.Syntax.{w64}
 use mir.Val.{SFits, toZ, ofZ}
 use mir.Facts.{toZ-ofZ}
@@ -40,6 +40,12 @@ turn {s} f n {g} {g'} {g''} d e = subst (λ (m : ℕ). Plotted s (each m f) g g'
 pub heard : {s : ℕ} (F : ℤ → ℤ → List Plot) {x y x' y' : ℤ} {g g' : List ℕ} → SFits w64 x → SFits w64 y → x ≡ x' → y ≡ y' → Plotted s (F (toZ w64 (ofZ w64 x)) (toZ w64 (ofZ w64 y))) g g' → Plotted s (F x' y') g g'
 heard {s} F {x} {y} {x'} {y'} {g} {g'} a b p q e =
     subst (λ (z : ℤ). Plotted s (F z y') g g') (toZ-ofZ a ∙ p) (subst (λ (z : ℤ). Plotted s (F (toZ w64 (ofZ w64 x)) z) g g') (toZ-ofZ b ∙ q) e)
+
+-- what a call says of signed coordinates as numbers, of the coordinates
+pub numbered : {s : ℕ} (F : ℤ → ℤ → List Plot) {x y : ℤ} {g g' : List ℕ} → SFits w64 x → SFits w64 y → x ≡ pos (natAbs x) → y ≡ pos (natAbs y) → Plotted s (F (pos (natAbs (toZ w64 (ofZ w64 x)))) (pos (natAbs (toZ w64 (ofZ w64 y))))) g g' → Plotted s (F x y) g g'
+numbered {s} F {x} {y} {g} {g'} a b p q e =
+    subst (λ (z : ℤ). Plotted s (F z y) g g') (ap (λ z. pos (natAbs z)) (toZ-ofZ a) ∙ sym p)
+    (subst (λ (z : ℤ). Plotted s (F (pos (natAbs (toZ w64 (ofZ w64 x)))) z) g g') (ap (λ z. pos (natAbs z)) (toZ-ofZ b) ∙ sym q) e)
 
 -- the same plots on the same side
 pub exactly : {s s' : ℕ} {ps qs : List Plot} {g g' : List ℕ} → s ≡ s' → ps ≡ qs → Plotted s ps g g' → Plotted s' qs g g'

@@ -1,21 +1,23 @@
 -- A walk along the lines of a version, with plots at each: rows from the top, columns from the right.
 use mathlib.Core.Path.{_≡_, refl, sym, ap, subst, _∙_}
-use mathlib.Core.Bool.{Bool, true, false, cond}
+use mathlib.Core.Bool.{true, false}
 use mathlib.Core.List.{List}
 use Prim.Native.Nat.{ℕ, zero, suc, _+_, _-_, _<_, _≤_}
 use native.Mathlib.Numerals.{add-one}
 use native.Mathlib.Omega.{arith}
-use lib.Dec.{ltb}
-use lib.IntN.{ℤ, pos, negsuc, _+ℤ_, _-ℤ_}
+use lib.IntN.{ℤ, pos, natAbs, _+ℤ_, _-ℤ_}
+use mir.Syntax.{w64}
+use mir.Val.{SFits, toZ, ofZ}
+use mir.Facts.{toZ-ofZ}
 use lib.ListN.{length}
 use lib.Signed.{ltZ, leZ, mag}
-use borrow.Author.Tests.{ltb-true, leb-true, leb-false}
+use borrow.Author.Tests.{leb-true, leb-false}
 use Rattle.symbol.specs.Version.{sideOf}
 use Rattle.symbol.specs.declared.Spacing.{Spacing}
 use Rattle.symbol.specs.Layout.{Plot, each, mOf, stepOf, lineOf, rowOf, columnOf}
-use Rattle.symbol.specs.Inner.{Plotted, Spaced, Roomy, OnLine}
+use Rattle.symbol.specs.Inner.{Plotted, Spaced, Roomy, OnLine, InSquare}
 use Rattle.symbol.proofs.Plots.{start, turn}
-use Rattle.symbol.proofs.Coordinates.{less, not-less, above-difference, take-off}
+use Rattle.symbol.proofs.Coordinates.{less, not-less, above-difference, take-off, difference}
 use Rattle.symbol.proofs.Lines.{tabled, line-in, line-out}
 
 -- lines 0 to n − 1 are plotted, and line n has the coordinate z
@@ -79,17 +81,24 @@ module _ {p : Spacing} (q : Spaced p) {n : ℕ} {z : ℤ} where
   pub row-near : OnLine p rowOf n z → mag z < 200
   row-near o = subst (λ (y : ℤ). mag y < 200) (sym (o .here)) (omega (arith, line-in (p .version) (q .low) (q .high) n (o .inside), q .high))
 
+  pub row-place : OnLine p rowOf n z → (z ≡ pos (lineOf (p .version) n)) × (lineOf (p .version) n < p .side)
+  row-place o = (o .here, omega (arith, line-in (p .version) (q .low) (q .high) n (o .inside), q .side-is))
+
+  pub column-place : OnLine p columnOf n z → (z ≡ pos (sideOf (p .version) - 1 - lineOf (p .version) n)) × (sideOf (p .version) - 1 - lineOf (p .version) n < p .side)
+  column-place o =
+      let l : lineOf (p .version) n ≤ sideOf (p .version) - 1 = omega (arith, line-in (p .version) (q .low) (q .high) n (o .inside)) in
+      (o .here ∙ difference (sideOf (p .version) - 1) (lineOf (p .version) n) l, omega (arith, q .side-is))
+
   pub column-near : OnLine p columnOf n z → mag z < 200
-  column-near o =
-      subst (λ (y : ℤ). mag y < 200) (sym (o .here)) (near (sideOf (p .version) - 1) (lineOf (p .version) n) (omega (arith, q .high)) (omega (arith, line-in (p .version) (q .low) (q .high) n (o .inside))))
-    where
-      near : (a b : ℕ) → a < 200 → b ≤ a → mag (pos a -ℤ pos b) < 200
-      near a zero h k = omega arith
-      near a (suc b) h k = by (ltb a (suc b)) refl
-        where
-          by : (t : Bool) → ltb a (suc b) ≡ t → mag (cond t (negsuc (suc b - suc a)) (pos (a - suc b))) < 200
-          by true e = absurd (omega (arith, ltb-true a (suc b) e))
-          by false e = omega arith
+  column-near o = subst (λ (y : ℤ). mag y < 200) (sym (column-place o .0)) (omega (arith, q .high))
+
+-- a row and a column of a version lie in its square
+pub on-square : {p : Spacing} (q : Spaced p) {n j : ℕ} {x y : ℤ} → SFits w64 x → SFits w64 y → OnLine p columnOf j x → OnLine p rowOf n y → InSquare (p .side) (toZ w64 (ofZ w64 x)) (toZ w64 (ofZ w64 y))
+on-square {p} q {n} {j} {x} {y} f h a b =
+    record { x-is = whole (toZ-ofZ f) (column-place q a) .0; x-in = whole (toZ-ofZ f) (column-place q a) .1; y-is = whole (toZ-ofZ h) (row-place q b) .0; y-in = whole (toZ-ofZ h) (row-place q b) .1 }
+  where
+    whole : {k : ℕ} {z z' : ℤ} → z' ≡ z → (z ≡ pos k) × (k < p .side) → (z' ≡ pos (natAbs z')) × (natAbs z' < p .side)
+    whole {k} {z} {z'} d e = subst (λ (u : ℤ). (u ≡ pos (natAbs u)) × (natAbs u < p .side)) (sym (d ∙ e .0)) (refl, e .1)
 
 -- the first column, and the next row and column
 pub column-start : (v : ℕ) → pos (sideOf v - 1) ≡ columnOf v 0

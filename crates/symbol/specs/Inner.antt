@@ -1,8 +1,10 @@
 -- Records that only the contracts of inner functions cite. Nobody has to believe them: they say where a loop or a call stands.
 use mathlib.Core.Path.{_≡_}
+use mathlib.Core.Bool.{cond}
 use mathlib.Core.List.{List}
 use Prim.Native.Nat.{ℕ, _+_, _*_, _<_, _≤_}
-use lib.IntN.{ℤ}
+use lib.Dec.{eqb}
+use lib.IntN.{ℤ, pos, natAbs}
 use lib.ListN.{length, getD}
 use Rattle.symbol.specs.Version.{sideOf}
 use Rattle.symbol.specs.Layout.{Plot, plotAll, kOf, rOf, mOf}
@@ -56,3 +58,14 @@ pub record Roomy (p : Spacing) (g : List ℕ) : Type 0 where
 pub record OnLine (p : Spacing) (at : ℕ → ℕ → ℤ) (n : ℕ) (z : ℤ) : Type 0 where
   pub inside : n < mOf (p .version) + 2
   pub here : z ≡ at (p .version) n
+
+-- a column and a row of a square
+pub record InSquare (s : ℕ) (x y : ℤ) : Type 0 where
+  pub x-is : x ≡ pos (natAbs x)
+  pub x-in : natAbs x < s
+  pub y-is : y ≡ pos (natAbs y)
+  pub y-in : natAbs y < s
+
+-- what a place that holds a has after kind k was drawn there: data alone changes
+unfoldable pub drawn : ℕ → ℕ → ℕ
+drawn a k = cond (eqb a 0) k a

@@ -10,7 +10,7 @@ ghost use lib.Signed.{mag};
 ghost use Rattle.symbol.specs.Version.{sideOf, sideRefusal, sideVersion, versionOf};
 ghost use Rattle.symbol.specs.Version as version;
 ghost use Rattle.symbol.specs.Layout.{finders, edge, half, within, finderRow, cornerKind, plot, each, when, stepOf, mOf, rowOf, columnOf, threeAt, assistant, rowEnds, columnEnds, lineModule, lineLeft, lineDown, crossing, crossings, alignment, layoutRefusal, layoutWritten, refusalOf};
-ghost use Rattle.symbol.specs.Inner.{Stored, Ends, UpTo, Beyond, Plotted, Spaced, Roomy, OnLine};
+ghost use Rattle.symbol.specs.Inner.{Stored, Ends, UpTo, Beyond, Plotted, Spaced, Roomy, OnLine, InSquare, drawn};
 
 pub struct Version {
     pub number: usize,
@@ -469,6 +469,18 @@ fn signed(n: usize) -> i64
     n as i64
 }
 
+// Gives a place of the square its kind while it is data.
+fn plot_at(grid: &mut [u8], side: usize, column: usize, row: usize, kind: u8)
+    requires { ⌜ (side ≤ 189) × (side * side ≤ length (now grid)) × (column < side) × (row < side) ⌝ }
+    ensures { λ _. ⌜ Plotted side (plot (pos column) (pos row) kind ∷ []) (now (grid .entry)) (now (grid .exit)) ⌝ }
+{
+    let i = row * side + column;
+    if grid[i] != 0 {
+        return;
+    }
+    grid[i] = kind;
+}
+
 // Gives a place its kind while it is data; outside the square nothing is plotted.
 fn plot(grid: &mut [u8], side: usize, x: i64, y: i64, kind: u8)
     requires { ⌜ (side ≤ 189) × (side * side ≤ length (now grid)) ⌝ }
@@ -488,11 +500,7 @@ fn plot(grid: &mut [u8], side: usize, x: i64, y: i64, kind: u8)
     if side <= row {
         return;
     }
-    let i = row * side + column;
-    if grid[i] != 0 {
-        return;
-    }
-    grid[i] = kind;
+    plot_at(grid, side, column, row, kind);
 }
 
 // Three modules side by side, the middle one of a kind.
@@ -533,20 +541,61 @@ fn line_module(grid: &mut [u8], side: usize, x: i64, y: i64)
     plot(grid, side, back(x, 1), forth(y, 1), 2);
 }
 
-// A line of width + 1 modules to the left.
-fn line_left(grid: &mut [u8], side: usize, x: i64, y: i64, width: usize)
-    requires { ⌜ (side ≤ 189) × (side * side ≤ length (now grid)) × (mag x < 200) × (mag y < 200) × (width < 200) ⌝ }
-    ensures { λ _. ⌜ Plotted side (lineLeft x y width) (now (grid .entry)) (now (grid .exit)) ⌝ }
+// What a place holds after a kind was drawn there: what is no longer data stays.
+fn drawn(old: u8, kind: u8) -> u8
+    ensures { λ r. ⌜ r ≡ drawn old kind ⌝ }
 {
-    let mut i: usize = 0;
-    while i < width + 1 {
-        line_module(grid, side, back(x, i), y);
+    if old == 0 {
+        return kind;
+    }
+    old
+}
+
+// Draws a kind over the places from to below to. Nothing branches on what a place holds, so the compiler takes many places at once.
+fn draw(grid: &mut [u8], from: usize, to: usize, kind: u8)
+    requires { ⌜ (from ≤ to) × (to ≤ length (now grid)) ⌝ }
+    ensures { λ _. ⌜ Stored (λ i. drawn (getD (now (grid .entry)) i 0) kind) from to (now (grid .entry)) (now (grid .exit)) ⌝ }
+{
+    let mut i = from;
+    while i < to {
+        grid[i] = drawn(grid[i], kind);
         i += 1;
     }
 }
 
-// The rest of a line down of height modules.
-fn line_down(grid: &mut [u8], side: usize, x: i64, y: i64, height: usize)
+// The lesser of two numbers.
+fn least(a: usize, b: usize) -> usize
+    ensures { λ r. ⌜ (r ≤ a) × (r ≤ b) × ((j : ℕ) → j ≤ a → j ≤ b → j ≤ r) ⌝ }
+{
+    if a < b {
+        return a;
+    }
+    b
+}
+
+// A line of width + 1 modules to the left: a run of dark modules, and one of light modules below it, as far as the square goes.
+fn left_runs(grid: &mut [u8], side: usize, column: usize, row: usize, width: usize)
+    requires { ⌜ (side ≤ 189) × (side * side ≤ length (now grid)) × (column < side) × (row < side) × (width < 200) ⌝ }
+    ensures { λ _. ⌜ Plotted side (lineLeft (pos column) (pos row) width) (now (grid .entry)) (now (grid .exit)) ⌝ }
+{
+    let at = row * side + column;
+    draw(grid, at - least(width, column), at + 1, 3);
+    if side <= row + 1 {
+        return;
+    }
+    draw(grid, at + side - least(width + 1, column), at + side, 2);
+}
+
+// The same of signed coordinates.
+fn line_left(grid: &mut [u8], side: usize, x: i64, y: i64, width: usize)
+    requires { ⌜ (side ≤ 189) × (side * side ≤ length (now grid)) × InSquare side x y × (width < 200) ⌝ }
+    ensures { λ _. ⌜ Plotted side (lineLeft x y width) (now (grid .entry)) (now (grid .exit)) ⌝ }
+{
+    left_runs(grid, side, x as usize, y as usize, width);
+}
+
+// The rest of a line down of height modules, at an edge of the square.
+fn edge_down(grid: &mut [u8], side: usize, x: i64, y: i64, height: usize)
     requires { ⌜ (side ≤ 189) × (side * side ≤ length (now grid)) × (mag x < 200) × (mag y < 200) × (1 ≤ height) × (height < 200) ⌝ }
     ensures { λ _. ⌜ Plotted side (lineDown x y height) (now (grid .entry)) (now (grid .exit)) ⌝ }
 {
@@ -555,6 +604,45 @@ fn line_down(grid: &mut [u8], side: usize, x: i64, y: i64, height: usize)
         line_module(grid, side, x, forth(y, i + 1));
         i += 1;
     }
+}
+
+// A module of a line whose two modules lie in the square.
+fn module_at(grid: &mut [u8], side: usize, column: usize, row: usize)
+    requires { ⌜ (side ≤ 189) × (side * side ≤ length (now grid)) × (1 ≤ column) × (column < side) × (row + 1 < side) ⌝ }
+    ensures { λ _. ⌜ Plotted side (lineModule (pos column) (pos row)) (now (grid .entry)) (now (grid .exit)) ⌝ }
+{
+    plot_at(grid, side, column, row, 3);
+    plot_at(grid, side, column - 1, row + 1, 2);
+}
+
+// The same where all of it lies in the square: no module is tested for that, which makes it fast.
+fn run_down(grid: &mut [u8], side: usize, column: usize, row: usize, height: usize)
+    requires { ⌜ (side ≤ 189) × (side * side ≤ length (now grid)) × (1 ≤ column) × (column < side) × (1 ≤ height) × (row + height < side) ⌝ }
+    ensures { λ _. ⌜ Plotted side (lineDown (pos column) (pos row) height) (now (grid .entry)) (now (grid .exit)) ⌝ }
+{
+    let mut i: usize = 0;
+    while i < height - 1 {
+        module_at(grid, side, column, row + (i + 1));
+        i += 1;
+    }
+}
+
+// The rest of a line down of height modules.
+fn line_down(grid: &mut [u8], side: usize, x: i64, y: i64, height: usize)
+    requires { ⌜ (side ≤ 189) × (side * side ≤ length (now grid)) × InSquare side x y × (1 ≤ height) × (height < 200) ⌝ }
+    ensures { λ _. ⌜ Plotted side (lineDown x y height) (now (grid .entry)) (now (grid .exit)) ⌝ }
+{
+    let column = x as usize;
+    let row = y as usize;
+    if column == 0 {
+        edge_down(grid, side, x, y, height);
+        return;
+    }
+    if side <= row + height {
+        edge_down(grid, side, x, y, height);
+        return;
+    }
+    run_down(grid, side, column, row, height);
 }
 
 // A version's side, and the k, r and m by which its alignment patterns are spaced.

@@ -1,76 +1,31 @@
-use lib.ListN.{getD}
-use Rattle.information.proofs.Copies.{number-small, number-more}
-use Rattle.information.specs.Information.{infoPosition, numberOf, copyOf}
-use Prim.Native.Nat.{ℕ, _-_, _≤_}
-use mathlib.Core.Path.{_≡_, refl, ap, _∙_}
 use borrow.Author.Needs.{needs}
-use native.Mathlib.Omega.{arith}
+use Rattle.information.specs.Information.{numberOf, copyOf}
 use Rattle.information.proofs.read_copy.Statement.{statement}
 use Rattle.information.proofs.read_copy.Tie as tie
 
-abbrev Inv-loop : tie.InvT-loop
-Inv-loop square side second w₀ n₀ w n = (n ≤ 34) × (w ≡ numberOf (λ k. getD square (infoPosition side second k) 0) n)
-
-abbrev μ-loop : tie.MeasureT-loop
-μ-loop square side second w₀ n₀ w n = 34 - n
-
-loop-holds : tie.Need-loop-holds Inv-loop μ-loop
+read-arm-requires : tie.Need-read-arm-requires
 unfolding numberOf
-loop-holds c = (omega arith, refl)
+read-arm-requires c κs = search needs
 
-info-position-requires : tie.Need-info-position-requires Inv-loop μ-loop
-info-position-requires c κs = (c .before .before .before .pre .0, c .before .before .before .pre .1, c .loop-test .taken)
+read-arm-requires-2 : tie.Need-read-arm-requires-2
+read-arm-requires-2 c κs = search needs
 
-mul-w : tie.Need-mul-w Inv-loop μ-loop
-mul-w c =
-    let start = c .before .before .before .before in
-    let loop = c .before .before .loop in
-    omega (arith, number-small (λ k. getD (start .args .square .now) (infoPosition (start .args .side) (start .args .second) k) 0) (λ k. start .pre .3 (infoPosition (start .args .side) (start .args .second) k)) (loop .n) (loop .inv .0), loop .inv .1)
+read-arm-requires-3 : tie.Need-read-arm-requires-3
+read-arm-requires-3 c κs = search needs
 
-shared-slice-read-wide8 : tie.Need-shared-slice-read-wide8 Inv-loop μ-loop
-shared-slice-read-wide8 c = omega (arith, c .before .info-position .ensures .1, c .before .before .before .before .before .pre .2)
+read-arm-requires-4 : tie.Need-read-arm-requires-4
+read-arm-requires-4 c κs = search needs
 
-wide8-requires : tie.Need-wide8-requires Inv-loop μ-loop
-wide8-requires c κs = search needs
-
-add-w : tie.Need-add-w Inv-loop μ-loop
-add-w c =
-    let start = c .before .before .before .before .before .before in
-    let loop = c .before .before .before .before .loop in
-    omega (arith, number-small (λ k. getD (start .args .square .now) (infoPosition (start .args .side) (start .args .second) k) 0) (λ k. start .pre .3 (infoPosition (start .args .side) (start .args .second) k)) (loop .n) (loop .inv .0), loop .inv .1, c .wide8 .ensures, start .pre .3 (c .before .before .info-position .result))
-
-add-n : tie.Need-add-n Inv-loop μ-loop
-add-n c = omega arith
-
-loop-less : tie.Need-loop-less Inv-loop μ-loop
-loop-less c = omega arith
-
-loop-again : tie.Need-loop-again Inv-loop μ-loop
-loop-again c =
-    let start = c .before .before .before .before .before .before in
-    let loop = c .before .before .before .before .loop in
-    (omega arith, number-more (λ k. getD (start .args .square .now) (infoPosition (start .args .side) (start .args .second) k) 0) (loop .n) (loop .inv .1) (c .wide8 .ensures ∙ ap (λ (k : ℕ). getD (start .args .square .now) k 0) (c .before .before .info-position .ensures .0)))
-
-returns : tie.Need-returns Inv-loop μ-loop
+returns : tie.Need-returns
 unfolding copyOf
-returns c =
-    let start = c .before .before .before in
-    let loop = c .before .loop in
-    loop .inv .1 ∙ ap (numberOf (λ k. getD (start .args .square .now) (infoPosition (start .args .side) (start .args .second) k) 0)) (let e : loop .n ≡ 34 = omega arith in e)
+returns c = search needs
 
 pub read-copy-spec : {M : Type 1} → statement M
 read-copy-spec =
     tie.close
     (tie.spec
-    Inv-loop
-    μ-loop
-    loop-holds
-    info-position-requires
-    mul-w
-    shared-slice-read-wide8
-    wide8-requires
-    add-w
-    add-n
-    loop-less
-    loop-again
+    read-arm-requires
+    read-arm-requires-2
+    read-arm-requires-3
+    read-arm-requires-4
     returns)

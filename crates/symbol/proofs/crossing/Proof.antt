@@ -1,8 +1,8 @@
 use Rattle.symbol.specs.Layout.{lineLeft, lineDown, rowOf, columnOf}
 use Rattle.symbol.proofs.Plots.{none, next, exactly, heard, crossing-odd, crossing-first, crossing-on}
-use Rattle.symbol.proofs.Walk.{row-near, column-near}
+use Rattle.symbol.proofs.Walk.{on-square}
 use Rattle.symbol.proofs.Lines.{tabled}
-use Rattle.symbol.proofs.Coordinates.{near, room-of}
+use Rattle.symbol.proofs.Coordinates.{room-of}
 use mathlib.Core.Path.{refl, ap}
 use Prim.Native.Nat.{_-_}
 use native.Mathlib.Omega.{arith}
@@ -35,7 +35,7 @@ line-left-requires : tie.Need-line-left-requires
 line-left-requires c κs =
     let start = c .before .before .before .before .before in
     let fits = c .before .before .before .before .before .fits in
-    (omega (arith, start .pre .0 .spaced .side-is, start .pre .0 .spaced .high), room-of (start .pre .0 .spaced .side-is) (start .pre .0 .room), near 200 (fits .x) (column-near (start .pre .0 .spaced) (start .pre .2)), near 200 (fits .y) (row-near (start .pre .0 .spaced) (start .pre .1)), omega (arith, c .step .ensures .1 .1))
+    (omega (arith, start .pre .0 .spaced .side-is, start .pre .0 .spaced .high), room-of (start .pre .0 .spaced .side-is) (start .pre .0 .room), on-square (start .pre .0 .spaced) (fits .x) (fits .y) (start .pre .2) (start .pre .1), omega (arith, c .step .ensures .1 .1))
 
 step-requires-2 : tie.Need-step-requires-2
 step-requires-2 c κs = search needs
@@ -45,7 +45,7 @@ line-down-requires c κs =
     let start = c .before .before .before .before .before .before .before .before .before .before in
     let fits = c .before .before .before .before .before .before .before .before .before .before .fits in
     let line-left = c .before .before .before .before .line-left in
-    (omega (arith, start .pre .0 .spaced .side-is, start .pre .0 .spaced .high), omega (arith, line-left .kept .0, room-of (start .pre .0 .spaced .side-is) (start .pre .0 .room)), near 200 (fits .x) (column-near (start .pre .0 .spaced) (start .pre .2)), near 200 (fits .y) (row-near (start .pre .0 .spaced) (start .pre .1)), c .step2 .ensures .1 .0, omega (arith, c .step2 .ensures .1 .1))
+    (omega (arith, start .pre .0 .spaced .side-is, start .pre .0 .spaced .high), omega (arith, line-left .kept .0, room-of (start .pre .0 .spaced .side-is) (start .pre .0 .room)), on-square (start .pre .0 .spaced) (fits .x) (fits .y) (start .pre .2) (start .pre .1), c .step2 .ensures .1 .0, omega (arith, c .step2 .ensures .1 .1))
 
 same-length : tie.Need-same-length
 same-length c = search needs

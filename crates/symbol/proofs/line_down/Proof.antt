@@ -1,85 +1,73 @@
-use Rattle.symbol.specs.Layout.{lineModule, lineDown, each}
-use Rattle.symbol.specs.Inner.{Plotted}
-use lib.Signed.{mag}
-use borrow.Author.Needs.{needs}
+use mathlib.Core.Path.{refl}
+use lib.IntN.{natAbs}
 use native.Mathlib.Omega.{arith}
-use mir.Facts.{toZ-ofZ}
-use mir.Val.{toZ, ofZ}
-use mir.Syntax.{w64}
-use lib.ListN.{length}
-use lib.IntN.{ℤ, pos, _+ℤ_}
-use Prim.Native.Nat.{ℕ, _+_, _-_, _≤_, _<_}
-use mathlib.Core.Path.{_≡_, refl, sym, subst, _∙_}
-use Rattle.symbol.proofs.Coordinates.{read, ok, near, mag-forth}
-use Rattle.symbol.proofs.Plots.{start, turn, heard}
+use borrow.Author.Needs.{needs}
+use Rattle.symbol.specs.Layout.{lineDown}
+use Rattle.symbol.proofs.Plots.{numbered, heard}
+use Rattle.symbol.proofs.Coordinates.{read}
+use Rattle.symbol.proofs.LineRuns.{number-is, number-near}
 use Rattle.symbol.proofs.line_down.Statement.{statement}
 use Rattle.symbol.proofs.line_down.Tie as tie
 
-abbrev Inv-loop : tie.InvT-loop
-Inv-loop grid₀ side x y height i₀ grid i = Plotted side (each i (λ n. lineModule (toZ w64 x) (toZ w64 y +ℤ pos (n + 1)))) grid₀ grid × (i ≤ height - 1) × (length grid ≡ length grid₀)
+cast-column : tie.Need-cast-column
+cast-column c = let start = c .before in number-is (start .args .side) (start .fits .x) (start .pre .2 .x-is) (start .pre .2 .x-in) (start .pre .0)
 
-abbrev μ-loop : tie.MeasureT-loop
-μ-loop grid₀ side x y height i₀ grid i = height - 1 - i
+cast-row : tie.Need-cast-row
+cast-row c = let start = c .before in number-is (start .args .side) (start .fits .y) (start .pre .2 .y-is) (start .pre .2 .y-in) (start .pre .0)
 
-loop-holds : tie.Need-loop-holds Inv-loop μ-loop
-loop-holds c = (start _, omega arith, refl)
+edge-down-requires : tie.Need-edge-down-requires
+edge-down-requires c κs =
+    let start = c .before .before .before in
+    (start .pre .0, start .pre .1, number-near (start .args .side) (start .fits .x) (start .pre .2 .x-is) (start .pre .2 .x-in) (start .pre .0), number-near (start .args .side) (start .fits .y) (start .pre .2 .y-is) (start .pre .2 .y-in) (start .pre .0), start .pre .3, start .pre .4)
 
-sub-loop : tie.Need-sub-loop Inv-loop μ-loop
-sub-loop c = omega arith
+same-length : tie.Need-same-length
+same-length c = search needs
 
-add-forth : tie.Need-add-forth Inv-loop μ-loop
-add-forth c = omega arith
+returns : tie.Need-returns
+returns c =
+    let start = c .before .before .before .before .before .before in
+    heard (λ x y. lineDown x y (start .args .height)) (start .fits .x) (start .fits .y) refl refl (c .before .before .edge-down .ensures)
 
-forth-requires : tie.Need-forth-requires Inv-loop μ-loop
-forth-requires c κs = let o = c .before .before .before .before in (near 1000 (o .fits .y) (omega arith), omega arith)
+add-if2 : tie.Need-add-if2
+add-if2 c = let start = c .before .before in omega (arith, read natAbs (start .fits .y), start .pre .2 .y-in)
 
-line-module-requires : tie.Need-line-module-requires Inv-loop μ-loop
-line-module-requires c κs =
-    let before = c .before .before .before .before .before in
-    let loop = c .before .before .before .loop in
-    let o = before in
-    let e : mag (c .forth .result) < 1000 = subst (λ (z : ℤ). mag z < 1000) (sym (c .forth .ensures ∙ read (λ z. z +ℤ pos (loop .i + 1)) (o .fits .y))) (omega (arith, mag-forth (o .args .y) ((loop .i + 1)))) in
-    (search needs, omega arith, near 1000 (o .fits .x) (omega arith), near 1000 (ok (c .forth .result) (c .forth .ok)) e)
+edge-down-requires-2 : tie.Need-edge-down-requires-2
+edge-down-requires-2 c κs =
+    let start = c .before .before .before .before in
+    (start .pre .0, start .pre .1, number-near (start .args .side) (start .fits .x) (start .pre .2 .x-is) (start .pre .2 .x-in) (start .pre .0), number-near (start .args .side) (start .fits .y) (start .pre .2 .y-is) (start .pre .2 .y-in) (start .pre .0), start .pre .3, start .pre .4)
 
-add-i : tie.Need-add-i Inv-loop μ-loop
-add-i c = omega arith
+same-length-2 : tie.Need-same-length-2
+same-length-2 c = search needs
 
-loop-less : tie.Need-loop-less Inv-loop μ-loop
-loop-less c = omega arith
+returns-2 : tie.Need-returns-2
+returns-2 c =
+    let start = c .before .before .before .before .before .before .before in
+    heard (λ x y. lineDown x y (start .args .height)) (start .fits .x) (start .fits .y) refl refl (c .before .before .edge-down2 .ensures)
 
-loop-again : tie.Need-loop-again Inv-loop μ-loop
-loop-again c =
-    let before = c .before .before .before .before .before .before .before .before in
-    let loop = c .before .before .before .before .before .before .loop in
-    let forth = c .before .before .before .forth in
-    let line-module = c .before .before .line-module in
-    let o = before in
-    let l = loop in
-    (turn (λ n. lineModule (toZ w64 (ofZ w64 (o .args .x))) ((toZ w64 (ofZ w64 (o .args .y))) +ℤ pos (n + 1))) (l .i) (l .inv .0) (heard lineModule (o .fits .x) (ok (forth .result) (forth .ok)) (sym (toZ-ofZ (o .fits .x))) (forth .ensures) (line-module .ensures)), omega arith, line-module .kept .0 ∙ l .inv .2)
+run-down-requires : tie.Need-run-down-requires
+run-down-requires c κs = search needs
 
-same-length : tie.Need-same-length Inv-loop μ-loop
-same-length c = c .before .loop .inv .2
+same-length-3 : tie.Need-same-length-3
+same-length-3 c = search needs
 
-returns : tie.Need-returns Inv-loop μ-loop
-unfolding lineDown
-returns c = let o = c .before .before .before in
-    let l = c .before .loop in
-    let e : l .i ≡ o .args .height - 1 = omega arith in
-    heard (λ a b. lineDown a b (o .args .height)) (o .fits .x) (o .fits .y) refl refl (subst (λ (k : ℕ). Plotted (o .args .side) (each k (λ n. lineModule (toZ w64 (ofZ w64 (o .args .x))) ((toZ w64 (ofZ w64 (o .args .y))) +ℤ pos (n + 1)))) (o .args .grid .now) (l .grid)) e (l .inv .0))
+returns-3 : tie.Need-returns-3
+returns-3 c =
+    let start = c .before .before .before .before .before .before .before in
+    numbered (λ x y. lineDown x y (start .args .height)) (start .fits .x) (start .fits .y) (start .pre .2 .x-is) (start .pre .2 .y-is) (c .before .before .run-down .ensures)
 
 pub line-down-spec : {M : Type 1} → statement M
 line-down-spec =
     tie.close
     (tie.spec
-    Inv-loop
-    μ-loop
-    loop-holds
-    sub-loop
-    add-forth
-    forth-requires
-    line-module-requires
-    add-i
-    loop-less
-    loop-again
+    cast-column
+    cast-row
+    edge-down-requires
     same-length
-    returns)
+    returns
+    add-if2
+    edge-down-requires-2
+    same-length-2
+    returns-2
+    run-down-requires
+    same-length-3
+    returns-3)

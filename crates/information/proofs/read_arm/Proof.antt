@@ -1,0 +1,74 @@
+use lib.ListN.{getD}
+use Rattle.information.proofs.Copies.{number-small, number-more}
+use Rattle.information.specs.Information.{infoPosition, numberOf}
+use Prim.Native.Nat.{ℕ, _-_, _≤_}
+use mathlib.Core.Path.{_≡_, refl, ap, _∙_}
+use borrow.Author.Needs.{needs}
+use native.Mathlib.Omega.{arith}
+use Rattle.information.proofs.read_arm.Statement.{statement}
+use Rattle.information.proofs.read_arm.Tie as tie
+
+abbrev Inv-loop : tie.InvT-loop
+Inv-loop square side second word from to w₀ n₀ w n = (n ≤ to) × (w ≡ numberOf (λ k. getD square (infoPosition side second k) 0) n)
+
+abbrev μ-loop : tie.MeasureT-loop
+μ-loop square side second word from to w₀ n₀ w n = to - n
+
+loop-holds : tie.Need-loop-holds Inv-loop μ-loop
+loop-holds c = (c .before .pre .4, c .before .pre .6)
+
+info-position-requires : tie.Need-info-position-requires Inv-loop μ-loop
+info-position-requires c κs = (c .before .before .before .pre .0, c .before .before .before .pre .1, omega (arith, c .loop-test .taken, c .before .before .before .pre .5))
+
+mul-w : tie.Need-mul-w Inv-loop μ-loop
+mul-w c =
+    let start = c .before .before .before .before in
+    let loop = c .before .before .loop in
+    omega (arith, number-small (λ k. getD (start .args .square .now) (infoPosition (start .args .side) (start .args .second) k) 0) (λ k. start .pre .3 (infoPosition (start .args .side) (start .args .second) k)) (loop .n) (omega (arith, loop .inv .0, start .pre .5)), loop .inv .1)
+
+shared-slice-read-wide8 : tie.Need-shared-slice-read-wide8 Inv-loop μ-loop
+shared-slice-read-wide8 c = omega (arith, c .before .info-position .ensures .1, c .before .before .before .before .before .pre .2)
+
+wide8-requires : tie.Need-wide8-requires Inv-loop μ-loop
+wide8-requires c κs = search needs
+
+add-w : tie.Need-add-w Inv-loop μ-loop
+add-w c =
+    let start = c .before .before .before .before .before .before in
+    let loop = c .before .before .before .before .loop in
+    omega (arith, number-small (λ k. getD (start .args .square .now) (infoPosition (start .args .side) (start .args .second) k) 0) (λ k. start .pre .3 (infoPosition (start .args .side) (start .args .second) k)) (loop .n) (omega (arith, loop .inv .0, start .pre .5)), loop .inv .1, c .wide8 .ensures, start .pre .3 (c .before .before .info-position .result))
+
+add-n : tie.Need-add-n Inv-loop μ-loop
+add-n c = omega arith
+
+loop-less : tie.Need-loop-less Inv-loop μ-loop
+loop-less c = omega arith
+
+loop-again : tie.Need-loop-again Inv-loop μ-loop
+loop-again c =
+    let start = c .before .before .before .before .before .before in
+    let loop = c .before .before .before .before .loop in
+    (omega arith, number-more (λ k. getD (start .args .square .now) (infoPosition (start .args .side) (start .args .second) k) 0) (loop .n) (loop .inv .1) (c .wide8 .ensures ∙ ap (λ (k : ℕ). getD (start .args .square .now) k 0) (c .before .before .info-position .ensures .0)))
+
+returns : tie.Need-returns Inv-loop μ-loop
+returns c =
+    let start = c .before .before .before in
+    let loop = c .before .loop in
+    loop .inv .1 ∙ ap (numberOf (λ k. getD (start .args .square .now) (infoPosition (start .args .side) (start .args .second) k) 0)) (let e : loop .n ≡ start .args .to = omega arith in e)
+
+pub read-arm-spec : {M : Type 1} → statement M
+read-arm-spec =
+    tie.close
+    (tie.spec
+    Inv-loop
+    μ-loop
+    loop-holds
+    info-position-requires
+    mul-w
+    shared-slice-read-wide8
+    wide8-requires
+    add-w
+    add-n
+    loop-less
+    loop-again
+    returns)

@@ -1,0 +1,37 @@
+use Prim.Native.Nat.{_+_}
+use mathlib.Core.Path.{refl, sym, ap}
+use mathlib.Core.List.{[], _∷_}
+use lib.IntN.{ℤ, pos}
+use borrow.Author.Needs.{needs}
+use Rattle.symbol.specs.Layout.{plot, lineModule}
+use Rattle.symbol.proofs.Plots.{next, exactly}
+use Rattle.symbol.proofs.Coordinates.{difference}
+use Rattle.symbol.proofs.module_at.Statement.{statement}
+use Rattle.symbol.proofs.module_at.Tie as tie
+
+plot-at-requires : tie.Need-plot-at-requires
+plot-at-requires c κs = search needs
+
+sub-plot-at : tie.Need-sub-plot-at
+sub-plot-at c = search needs
+
+add-plot-at : tie.Need-add-plot-at
+add-plot-at c = search needs
+
+plot-at-requires-2 : tie.Need-plot-at-requires-2
+plot-at-requires-2 c κs = search needs
+
+same-length : tie.Need-same-length
+same-length c = search needs
+
+returns : tie.Need-returns
+unfolding lineModule
+returns c =
+    let start = c .before .before .before .before .before .before .before .before .before in
+    let dark = c .before .before .before .before .before .before .plot-at .ensures in
+    next dark (exactly refl (ap (λ (x : ℤ). plot x (pos (start .args .row + 1)) 2 ∷ []) (sym (difference (start .args .column) 1 (start .pre .2)))) (c .before .before .plot-at2 .ensures))
+
+pub module-at-spec : {M : Type 1} → statement M
+module-at-spec =
+    tie.close
+    (tie.spec plot-at-requires sub-plot-at add-plot-at plot-at-requires-2 same-length returns)
