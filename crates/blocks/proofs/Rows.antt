@@ -107,6 +107,13 @@ modules-more ks n i count x l h e q =
     joined (zero ∷ us) vs = let h = joined us vs in omega arith
     joined (suc k ∷ us) vs = joined us vs
 
+-- no more than there are kinds
+pub modules-few : (ks : List ℕ) → dataModules ks ≤ length ks
+unfolding dataModules
+modules-few [] = omega arith
+modules-few (zero ∷ ks) = let h = modules-few ks in omega arith
+modules-few (suc k ∷ ks) = let h = modules-few ks in omega arith
+
 -- what the rule says of the blocks
 
 -- each block has data and parity, and at most 255 codewords
