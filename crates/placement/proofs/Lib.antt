@@ -1,0 +1,3 @@
+pub mod Eights
+pub mod Walk
+pub mod Rows
