@@ -22,10 +22,10 @@ nibble-is a b c d ha hb hc hd =
     sum = omega arith
 
 module _ (b : ℕ → ℕ) where
-  low-four : ((k : ℕ) → b k < 256) → eightOf b % 4294967296 ≡ fourOf (b 0) (b 1) (b 2) (b 3)
+  pub low-four : ((k : ℕ) → b k < 256) → eightOf b % 4294967296 ≡ fourOf (b 0) (b 1) (b 2) (b 3)
   low-four h = digits-mod (fourOf (b 4) (b 5) (b 6) (b 7)) (four-lt (b 0) (b 1) (b 2) (b 3) (h 0) (h 1) (h 2) (h 3))
 
-  high-four : ((k : ℕ) → b k < 256) → eightOf b / 4294967296 ≡ fourOf (b 4) (b 5) (b 6) (b 7)
+  pub high-four : ((k : ℕ) → b k < 256) → eightOf b / 4294967296 ≡ fourOf (b 4) (b 5) (b 6) (b 7)
   high-four h = digits-div (fourOf (b 4) (b 5) (b 6) (b 7)) (four-lt (b 0) (b 1) (b 2) (b 3) (h 0) (h 1) (h 2) (h 3))
 
   pub gather-is : ((k : ℕ) → b k < 2) → (x : ℕ) → x ≡ eightOf b → x % 4294967296 * 134480385 / 16777216 % 16 * 16 + x / 4294967296 * 134480385 / 16777216 % 16 ≡ byteOf b

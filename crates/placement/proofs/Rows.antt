@@ -67,23 +67,23 @@ data-append m i (suc u ∷ us) vs (x ∷ xs) ys e =
     let f : suc i + length us ≡ i + suc (length us) = omega arith in
     data-append m (suc i) us vs xs ys (omega arith) ∙ ap (λ (j : ℕ). dataBits m (suc i) us xs ++ dataBits m j vs ys) f
 
--- by another mask that is the same there
+-- masks that are the same from two places on
+pub agree-first : (m n : ℕ → ℕ) (i j l : ℕ) → ((k : ℕ) → k < suc l → m (i + k) ≡ n (j + k)) → m i ≡ n j
+agree-first m n i j l h =
+    let a : i ≡ i + 0 = omega arith in
+    let b : j + 0 ≡ j = omega arith in ap m a ∙ h 0 (omega arith) ∙ ap n b
+
+pub agree-later : (m n : ℕ → ℕ) (i j l : ℕ) → ((k : ℕ) → k < suc l → m (i + k) ≡ n (j + k)) → (k : ℕ) → k < l → m (suc i + k) ≡ n (suc j + k)
+agree-later m n i j l h k q =
+    let a : suc i + k ≡ i + suc k = omega arith in
+    let b : j + suc k ≡ suc j + k = omega arith in ap m a ∙ h (suc k) (omega arith) ∙ ap n b
+
 data-masks : (m n : ℕ → ℕ) (i j : ℕ) (us xs : List ℕ) → ((k : ℕ) → k < length us → m (i + k) ≡ n (j + k)) → dataBits m i us xs ≡ dataBits n j us xs
 unfolding dataBits
 data-masks m n i j [] xs h = refl
 data-masks m n i j (u ∷ us) [] h = refl
-data-masks m n i j (zero ∷ us) (x ∷ xs) h =
-    let a : i ≡ i + 0 = omega arith in
-    let b : j + 0 ≡ j = omega arith in
-    ap₂ (λ (y : ℕ) (l : List ℕ). bitXor x y ∷ l) (ap m a ∙ h 0 (omega arith) ∙ ap n b) (data-masks m n (suc i) (suc j) us xs (later h))
-  where
-    later : ((k : ℕ) → k < suc (length us) → m (i + k) ≡ n (j + k)) → (k : ℕ) → k < length us → m (suc i + k) ≡ n (suc j + k)
-    later h k l =
-        let a : suc i + k ≡ i + suc k = omega arith in
-        let b : j + suc k ≡ suc j + k = omega arith in ap m a ∙ h (suc k) (omega arith) ∙ ap n b
-data-masks m n i j (suc u ∷ us) (x ∷ xs) h = data-masks m n (suc i) (suc j) us xs (λ k l.
-    let a : suc i + k ≡ i + suc k = omega arith in
-    let b : j + suc k ≡ suc j + k = omega arith in ap m a ∙ h (suc k) (omega arith) ∙ ap n b)
+data-masks m n i j (zero ∷ us) (x ∷ xs) h = ap₂ (λ (y : ℕ) (l : List ℕ). bitXor x y ∷ l) (agree-first m n i j (length us) h) (data-masks m n (suc i) (suc j) us xs (agree-later m n i j (length us) h))
+data-masks m n i j (suc u ∷ us) (x ∷ xs) h = data-masks m n (suc i) (suc j) us xs (agree-later m n i j (length us) h)
 
 row-split : (m : ℕ → ℕ) (ks sq row : List ℕ) (at side : ℕ) → length sq ≤ length ks → at + side ≤ length sq → ((c : ℕ) → c < side → getD row c 0 ≡ m (at + c))
     → bitsFrom m ks sq at ≡ rowBits (part at (at + side) ks) (part at (at + side) sq) row 0 ++ bitsFrom m ks sq (at + side)

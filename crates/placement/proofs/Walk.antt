@@ -18,7 +18,7 @@ use Rattle.bits.proofs.Words.{length-low, low-back}
 use Rattle.bits.proofs.Bytes.{low-value}
 use Rattle.codewords.specs.Codewords.{codewordsOf, dataBits}
 use Rattle.codewords.specs.Inner.{bitsFrom}
-use Rattle.placement.specs.Walk.{byteOf, eightOf, behind, Gathered, Pending, Words, Walk, Stored, Pushed, Aligned, Skipped, rowBits, Goes}
+use Rattle.placement.specs.Walk.{byteOf, eightOf, run, behind, Gathered, Pending, Words, Walk, Stored, Pushed, Aligned, Skipped, rowBits, Goes}
 use Rattle.placement.specs.declared.Run.{Run}
 use Rattle.placement.proofs.Eights.{eight-zero, xor-eight}
 
@@ -52,11 +52,7 @@ low-apart n v h =
     ∙ ap₂ _++_ (sym (low-mod 8 8 (v / 2 ^ n) (omega arith))) (low-mod n n v (omega arith) ∙ sym (low-mod n 8 v h))
 
 -- n bits, and the number that they say
-pub run : ℕ → (ℕ → ℕ) → List ℕ
-run zero b = []
-run (suc n) b = b 0 ∷ run n (λ k. b (suc k))
-
-length-run : (n : ℕ) (b : ℕ → ℕ) → length (run n b) ≡ n
+pub length-run : (n : ℕ) (b : ℕ → ℕ) → length (run n b) ≡ n
 unfolding run
 length-run zero b = refl
 length-run (suc n) b = ap suc (length-run n (λ k. b (suc k)))
@@ -67,10 +63,13 @@ run-small zero b h i = omega arith
 run-small (suc n) b h zero = h 0
 run-small (suc n) b h (suc i) = run-small n (λ k. b (suc k)) (λ k. h (suc k)) i
 
-run-ext : (n : ℕ) (a b : ℕ → ℕ) → ((k : ℕ) → a k ≡ b k) → run n a ≡ run n b
+pub run-front : (n : ℕ) (a b : ℕ → ℕ) → ((k : ℕ) → k < n → a k ≡ b k) → run n a ≡ run n b
 unfolding run
-run-ext zero a b e = refl
-run-ext (suc n) a b e = ap₂ _∷_ (e 0) (run-ext n (λ k. a (suc k)) (λ k. b (suc k)) (λ k. e (suc k)))
+run-front zero a b e = refl
+run-front (suc n) a b e = ap₂ _∷_ (e 0 (omega arith)) (run-front n (λ k. a (suc k)) (λ k. b (suc k)) (λ k h. e (suc k) (omega arith)))
+
+pub run-ext : (n : ℕ) (a b : ℕ → ℕ) → ((k : ℕ) → a k ≡ b k) → run n a ≡ run n b
+run-ext n a b e = run-front n a b (λ k h. e k)
 
 pub run-low : (n x : ℕ) (b : ℕ → ℕ) → ((k : ℕ) → b k < 2) → value 0 (run n b) ≡ x → run n b ≡ lowBits n x
 run-low n x b h e = sym (low-value (run n b) (run-small n b h)) ∙ ap₂ lowBits (length-run n b) e
@@ -224,6 +223,10 @@ skipped-more {ks} {first} {c} q h z = record {
   none = λ k a b. elim (decLt k c) [ yes l ↦ q .none k a l | no l ↦ (let e : k ≡ c = omega arith in λ y. z (sym (ap (λ (i : ℕ). getD ks i 0) e) ∙ y)) ];
 }
 
+-- so too from the column before
+pub skipped-from : {ks : List ℕ} {c r : ℕ} → Skipped ks (c + 1) r → getD ks c 0 ≢ 0 → (k : ℕ) → c ≤ k → k < r → getD ks k 0 ≢ 0
+skipped-from {ks} {c} q z k lo hi = elim (decLt c k) [ yes l ↦ q .none k (omega arith) hi | no l ↦ (let e : k ≡ c = omega arith in λ y. z (sym (ap (λ (i : ℕ). getD ks i 0) e) ∙ y)) ]
+
 module _ {ks sq row : List ℕ} (a : Aligned ks sq row) where
   pub bits-small : (c k : ℕ) → bitXor (getD sq (c + k) 0) (getD row (c + k) 0) < 2
   bits-small c k = xor-lt 1 (getD sq (c + k) 0) (getD row (c + k) 0) (a .modules (c + k)) (a .masks (c + k))
@@ -263,13 +266,10 @@ module _ {ks sq row : List ℕ} (a : Aligned ks sq row) where
     };
   }
     where
-      none : (k : ℕ) → r .column ≤ k → k < s .column → getD ks k 0 ≢ 0
-      none k lo hi = elim (decLt (r .column) k) [ yes l ↦ q .none k (omega arith) hi | no l ↦ (let e : k ≡ r .column = omega arith in λ y. z (sym (ap (λ (i : ℕ). getD ks i 0) e) ∙ y)) ]
-
       passed : rowBits ks sq row (r .column) ≡ rowBits ks sq row (s .column)
       passed =
           let e : r .column + (s .column - r .column) ≡ s .column = omega (arith, q .least) in
-          from-misses (λ k. getD row k 0) ks sq (omega (arith, a .size)) (s .column - r .column) (r .column) (omega (arith, a .size, q .most, q .least)) (λ k lo hi. none k lo (omega arith)) ∙ ap (rowBits ks sq row) e
+          from-misses (λ k. getD row k 0) ks sq (omega (arith, a .size)) (s .column - r .column) (r .column) (omega (arith, a .size, q .most, q .least)) (λ k lo hi. skipped-from q z k lo (omega arith)) ∙ ap (rowBits ks sq row) e
 
 pub goes-none : {ks sq row out : List ℕ} {r : Run} → Goes ks sq row out out r r
 goes-none = record { go = λ total all rest k. k }

@@ -1,7 +1,7 @@
 -- What the functions of this crate say of each other. Nobody has to believe it.
 use mathlib.Core.Path.{_≡_}
 use mathlib.Core.Logic.{_≢_}
-use mathlib.Core.List.{List, _++_}
+use mathlib.Core.List.{List, [], _∷_, _++_}
 use Prim.Native.Nat.{ℕ, zero, suc, _+_, _-_, _*_, _^_, _<_, _≤_}
 use lib.ListN.{length, getD, take, set}
 use lib.Bits.{bitXor}
@@ -22,6 +22,11 @@ eightOf b = fourOf (b 4) (b 5) (b 6) (b 7) * 4294967296 + fourOf (b 0) (b 1) (b 
 -- the number that eight bits say
 abbrev pub byteOf : (ℕ → ℕ) → ℕ
 byteOf b = (b 0 * 8 + b 1 * 4 + b 2 * 2 + b 3) * 16 + (b 4 * 8 + b 5 * 4 + b 6 * 2 + b 7)
+
+-- the first n of them as a list
+unfoldable pub run : ℕ → (ℕ → ℕ) → List ℕ
+run zero b = []
+run (suc n) b = b 0 ∷ run n (λ k. b (suc k))
 
 -- what a list holds from a place on
 abbrev pub behind : List ℕ → ℕ → ℕ → ℕ

@@ -78,11 +78,12 @@ fn read_stream(
     mask: usize,
     total: usize,
 )
-    requires { ⌜ Legible (now kinds) (now square) × (0 < side) × (total ≤ 3886) × (total ≤ length (now stream)) × (8 * total ≤ length (dataBits (maskBit side mask) 0 (now kinds) (now square))) ⌝ }
+    requires { ⌜ Legible (now kinds) (now square) × (0 < side) × (side ≤ 189) × (length (now square) ≡ side * side) ⌝ }
+    requires { ⌜ (total ≤ 3886) × (total ≤ length (now stream)) × (8 * total ≤ length (dataBits (maskBit side mask) 0 (now kinds) (now square))) ⌝ }
     ensures { λ _. ⌜ now (stream .exit) ≡ streamIn total (maskBit side mask) (now (kinds .entry)) (now (square .entry)) ++ drop total (now (stream .entry)) ⌝ }
 {
     let mut found = [0u8; 3886];
-    codewords::read_codewords(&mut found, total, kinds, square, side, mask);
+    placement::read_codewords(&mut found, total, kinds, square, side, mask);
     codewords::to_stream(stream, &found, total);
 }
 
