@@ -13,9 +13,8 @@ use Rattle.bits.specs.Bits.{lowBits, firstWords}
 use Rattle.bits.proofs.Words.{length-low}
 use Rattle.bits.proofs.Bytes.{take-small}
 use Rattle.codewords.specs.Codewords.{maskAt, maskBit, codewordsOf, dataBits}
-use Rattle.codewords.specs.Inner.{bitsFrom, Legible}
 use Rattle.masks.specs.Columns.{Row}
-use Rattle.placement.specs.Walk.{Pending, Words, Walk, Aligned, rowBits, Goes}
+use Rattle.placement.specs.Walk.{bitsFrom, Legible, Pending, Words, Walk, Aligned, rowBits, Goes}
 use Rattle.placement.specs.declared.Run.{Run}
 
 -- Parts of a list.

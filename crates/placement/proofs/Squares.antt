@@ -7,17 +7,12 @@ use lib.ListN.{length, getD, take, drop, length-append, length-drop, drop-of-len
 use lib.Seq.{length-take-le, take-at, drop-at, take-all, drop-drop, drop-nil, getD-take, getD-drop}
 use lib.Bits.{bitXor}
 use Rattle.blocks.specs.Blocks.{dataModules}
+use Rattle.blocks.proofs.Rows.{modules-append}
 use Rattle.codewords.specs.Codewords.{placed}
 use Rattle.masks.specs.Columns.{Row}
 use Rattle.placement.specs.Puts.{patternOf, getD₀, Drawn, Placing, Blank}
 use Rattle.codewords.proofs.Placement.{length-placed}
 use Rattle.placement.proofs.Rows.{part, part-front, part-length, row-next, agree-first, agree-later}
-
-modules-append : (us vs : List ℕ) → dataModules (us ++ vs) ≡ dataModules us + dataModules vs
-unfolding dataModules
-modules-append [] vs = omega arith
-modules-append (zero ∷ us) vs = let h = modules-append us vs in omega arith
-modules-append (suc k ∷ us) vs = modules-append us vs
 
 next : (m : ℕ → ℕ) (i : ℕ) (us vs ds : List ℕ) → placed m (suc i) (us ++ vs) ds ≡ placed m (suc i) us ds ++ placed m (suc i + length us) vs (drop (dataModules us) ds)
     → placed m (suc i) (us ++ vs) ds ≡ placed m (suc i) us ds ++ placed m (i + suc (length us)) vs (drop (dataModules us) ds)

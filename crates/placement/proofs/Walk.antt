@@ -17,8 +17,7 @@ use Rattle.bits.specs.Bits.{lowBits, value, firstWords}
 use Rattle.bits.proofs.Words.{length-low, low-back}
 use Rattle.bits.proofs.Bytes.{low-value}
 use Rattle.codewords.specs.Codewords.{codewordsOf, dataBits}
-use Rattle.codewords.specs.Inner.{bitsFrom}
-use Rattle.placement.specs.Walk.{byteOf, eightOf, run, behind, Gathered, Pending, Words, Walk, Stored, Pushed, Aligned, Skipped, rowBits, Goes}
+use Rattle.placement.specs.Walk.{bitsFrom, byteOf, eightOf, run, behind, Gathered, Pending, Words, Walk, Stored, Pushed, Aligned, Skipped, rowBits, Goes}
 use Rattle.placement.specs.declared.Run.{Run}
 use Rattle.placement.proofs.Eights.{eight-zero, xor-eight}
 

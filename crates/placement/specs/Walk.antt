@@ -3,11 +3,10 @@ use mathlib.Core.Path.{_≡_}
 use mathlib.Core.Logic.{_≢_}
 use mathlib.Core.List.{List, [], _∷_, _++_}
 use Prim.Native.Nat.{ℕ, zero, suc, _+_, _-_, _*_, _^_, _<_, _≤_}
-use lib.ListN.{length, getD, take, set}
+use lib.ListN.{length, getD, take, drop, set}
 use lib.Bits.{bitXor}
 use Rattle.bits.specs.Bits.{lowBits}
-use Rattle.codewords.specs.Codewords.{codewordsOf}
-use Rattle.codewords.specs.Inner.{bitsFrom}
+use Rattle.codewords.specs.Codewords.{codewordsOf, dataBits}
 use Rattle.placement.specs.declared.Run.{Run}
 
 -- Eight numbers as one. They are functions of 0 to 7, so that what a place holds and what is made of it are said alike.
@@ -38,6 +37,16 @@ pub record Gathered (x r : ℕ) : Type 0 where
   pub is : (b : ℕ → ℕ) → ((k : ℕ) → b k < 2) → x ≡ eightOf b → r ≡ byteOf b
 
 -- Reading.
+
+-- a square of bits and at least as many kinds
+pub record Legible (ks sq : List ℕ) : Type 0 where
+  pub kinds : length sq ≤ length ks
+  pub few : length sq ≤ 65535
+  pub bits : (i : ℕ) → getD sq i 0 < 2
+
+-- the data bits from a place on
+abbrev pub bitsFrom : (ℕ → ℕ) → List ℕ → List ℕ → ℕ → List ℕ
+bitsFrom m ks sq i = dataBits m i (drop i ks) (drop i sq)
 
 -- fewer than eight bits are pending, with at most eight others above them
 pub record Pending (r : Run) : Type 0 where

@@ -6,11 +6,10 @@ ghost use Prim.Native.Nat.{ℕ, _+_, _*_, _/_, _^_, _≤_, _<_};
 ghost use lib.ListN.{length, getD, take, drop};
 ghost use Rattle.bits.specs.Bits.{bitsOf, lowBits, value};
 ghost use Rattle.codewords.specs.Codewords.{maskBit, codewordsOf, dataBits, placed};
-ghost use Rattle.codewords.specs.Inner.{Legible};
 ghost use lib.Seq.{sets};
 ghost use Rattle.blocks.specs.Blocks.{dataModules};
 ghost use Rattle.placement.specs.Puts.{bytesOf, patternOf, getD₀, Drawn, PutBit, PutEight, Blank, Puts, PutsAll};
-ghost use Rattle.placement.specs.Walk.{fourOf, eightOf, behind, Gathered, Pending, Stored, Pushed, Aligned, Skipped, Goes};
+ghost use Rattle.placement.specs.Walk.{Legible, fourOf, eightOf, behind, Gathered, Pending, Stored, Pushed, Aligned, Skipped, Goes};
 
 // Where a row is read: the column, the codewords so far, and the first bits of the next, which are the lowest of `value`.
 pub struct Run {

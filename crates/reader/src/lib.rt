@@ -9,7 +9,7 @@ ghost use Rattle.symbol.specs.Layout.{layoutOf};
 ghost use Rattle.blocks.specs.Blocks.{totalOf, dataModules, rowLength, shapes, totalData, cut, dataParts};
 ghost use Rattle.segments.specs.FromData.{fromData};
 ghost use Rattle.codewords.specs.Codewords.{maskBit, streamIn, dataBits};
-ghost use Rattle.codewords.specs.Inner.{Legible};
+ghost use Rattle.placement.specs.Walk.{Legible};
 ghost use Rattle.squares.specs.Read.{firstRefusal, unless, areModules, bodyOf, readingOf, readOf, readKnownOf};
 ghost use Rattle.reader.specs.Inner.{Greater, Greatest, receiptIn, Small, Refuses, Answers, Tells, Fitting, Nearest, Drawn, readingIn, bodyOr1};
 ghost use Rattle.squares.specs.Receipt.{receiptOf, refusalReceipt};

@@ -78,9 +78,11 @@ loop-again c =
     let m = maskBit (start .args .side) (start .args .mask) in
     let h : loop .i * start .args .side + start .args .side ≤ length (start .args .kinds .now) = omega (arith, row-inside (c .before .before .before .before .before .before .before .before .before .before .before .loop .i) (c .before .before .before .before .before .before .before .before .before .before .before .before .before .before .before .before .before .before .args .side) (c .before .before .before .before .before .before .before .before .before .before .loop-test .taken), c .before .before .before .before .before .before .before .before .before .before .before .before .before .before .before .before .before .before .pre .4, c .before .before .before .before .before .before .before .before .before .before .before .before .before .before .before .before .before .before .pre .1) in
     let mask-row = c .before .before .before .before .before .before .before .mask-row in
-    let put-row = c .before .before .put-row .ensures in
-    (mask-row .ensures .0, omega (arith, c .before .before .before .before .before .before .before .before .before .before .loop-test .taken),
-      placing-row m (start .args .kinds .now) (mask-row .last .0) (loop .i) (start .args .side) (loop .inv .2) h (λ k l. mask-row .ensures .1 k (omega arith) ∙ row-mask (start .args .mask) (loop .i) (start .args .side) k l) (put-row .0) (put-row .1) refl)
+    let put-row = c .before .before .put-row .ensures in (
+      mask-row .ensures .0,
+      omega (arith, c .before .before .before .before .before .before .before .before .before .before .loop-test .taken),
+      placing-row m (start .args .kinds .now) (mask-row .last .0) (loop .i) (start .args .side) (loop .inv .2) h (λ k l. mask-row .ensures .1 k (omega arith) ∙ row-mask (start .args .mask) (loop .i) (start .args .side) k l) (put-row .0) (put-row .1) refl,
+    )
 
 same-length : tie.Need-same-length Inv-loop μ-loop
 same-length c = c .before .loop .inv .2 .size ∙ sym (c .before .before .before .before .before .before .before .before .pre .1)

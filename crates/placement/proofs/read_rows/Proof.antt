@@ -1,9 +1,8 @@
 use Rattle.placement.proofs.Rows.{row-inside, row-next, row-mask, part-length, aligned, rows-pending, walk-again, rows-begun, rows-turn, rows-done}
 use Rattle.masks.proofs.Rows.{row-new}
 use Rattle.masks.specs.Columns.{Row}
-use Rattle.placement.specs.Walk.{Pending, Walk}
+use Rattle.placement.specs.Walk.{bitsFrom, Pending, Walk}
 use Rattle.codewords.specs.Codewords.{maskBit, dataBits}
-use Rattle.codewords.specs.Inner.{bitsFrom}
 use lib.ListN.{length}
 use mathlib.Core.List.{List}
 use mathlib.Core.Path.{_≡_, refl, sym, ap, subst, _∙_}
@@ -28,10 +27,13 @@ loop-holds c =
     let start = c .before .before .before .before .before .before in
     let m = maskBit (start .args .side) (start .args .mask) in
     let all = dataBits m 0 (start .args .kinds .now) (start .args .square .now) in
-    let z : 0 ≡ 0 * start .args .side = sym (zero-mul (start .args .side)) in
-    (row-new, rows-pending refl refl, omega arith,
+    let z : 0 ≡ 0 * start .args .side = sym (zero-mul (start .args .side)) in (
+      row-new,
+      rows-pending refl refl,
+      omega arith,
       subst (λ (k : ℕ). Walk (length (start .args .out .now)) all (start .args .out .now) (bitsFrom m (start .args .kinds .now) (start .args .square .now) k) (record { column = 0; n = 0; value = 0; bits = 0 })) z
-      (rows-begun all (start .args .out .now) refl refl refl (start .pre .4)))
+          (rows-begun all (start .args .out .now) refl refl refl (start .pre .4)),
+    )
 
 slice-aggregate-mask-row : tie.Need-slice-aggregate-mask-row Inv-loop μ-loop
 slice-aggregate-mask-row c = sym (c .before .before .loop .inv .0 .size)
