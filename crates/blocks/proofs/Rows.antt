@@ -96,16 +96,23 @@ unfolding dataModules
 module-none zero n = absurd (n refl)
 module-none (suc k) n = refl
 
+pub modules-append : (us vs : List ℕ) → dataModules (us ++ vs) ≡ dataModules us + dataModules vs
+unfolding dataModules
+modules-append [] vs = omega arith
+modules-append (zero ∷ us) vs = let h = modules-append us vs in omega arith
+modules-append (suc k ∷ us) vs = modules-append us vs
+
 -- data modules of the first n kinds, counted one by one
 pub modules-more : (ks : List ℕ) (n i count x : ℕ) → n ≤ length ks → i < n → x ≡ dataModules (getD ks i 0 ∷ []) → count ≡ dataModules (take i ks) → count + x ≡ dataModules (take (i + 1) ks)
-unfolding dataModules
 modules-more ks n i count x l h e q =
-    ap₂ _+_ q e ∙ sym (ap (λ (k : ℕ). dataModules (take k ks)) (add-one i) ∙ ap dataModules (take-suc ks i 0 (omega arith)) ∙ joined (take i ks) (getD ks i 0 ∷ []))
-  where
-    joined : (us vs : List ℕ) → dataModules (us ++ vs) ≡ dataModules us + dataModules vs
-    joined [] vs = omega arith
-    joined (zero ∷ us) vs = let h = joined us vs in omega arith
-    joined (suc k ∷ us) vs = joined us vs
+    ap₂ _+_ q e ∙ sym (ap (λ (k : ℕ). dataModules (take k ks)) (add-one i) ∙ ap dataModules (take-suc ks i 0 (omega arith)) ∙ modules-append (take i ks) (getD ks i 0 ∷ []))
+
+-- no more than there are kinds
+pub modules-few : (ks : List ℕ) → dataModules ks ≤ length ks
+unfolding dataModules
+modules-few [] = omega arith
+modules-few (zero ∷ ks) = let h = modules-few ks in omega arith
+modules-few (suc k ∷ ks) = let h = modules-few ks in omega arith
 
 -- what the rule says of the blocks
 

@@ -7,7 +7,6 @@ use native.Mathlib.Numerals.{one-add}
 use native.Mathlib.Omega.{arith}
 use lib.ListN.{length, take, drop, getD}
 use lib.Pow.{mod-pow-add}
-use lib.Seq.{getD-take, length-take-le}
 use Rattle.bits.specs.Bits.{lowBits, bitsOf, value, firstWords}
 use Rattle.codewords.specs.Codewords.{codewordsOf}
 
@@ -53,11 +52,3 @@ pub codewords-back : (cs rest : List ℕ) → Bytes cs → codewordsOf (length c
 unfolding bitsOf firstWords lowBits
 codewords-back [] rest h = refl
 codewords-back (c ∷ cs) rest h = ap₂ _∷_ (let e = value-num 8 0 c in omega (arith, h .0)) (codewords-back cs rest (h .1))
-
--- a bit of the first n codewords
-pub bit-front : (n t : ℕ) (s : List ℕ) → t < 8 * n → getD (bitsOf (take n s)) t 0 ≡ getD (bitsOf s) t 0
-bit-front n t s h =
-    bit-at (take n s) t ∙ ap (λ (c : ℕ). c / 2 ^ (7 - t % 8) % 2) (getD-take n s (t / 8) 0 (omega arith)) ∙ sym (bit-at s t)
-
-pub length-front : (n : ℕ) (s : List ℕ) → n ≤ length s → length (bitsOf (take n s)) ≡ 8 * n
-length-front n s h = length-bits (take n s) ∙ ap (λ (k : ℕ). 8 * k) (length-take-le n s h)

@@ -17,7 +17,7 @@ use Rattle.blocks.specs.Blocks.{totalOf, rowOf, rowLength, dataModules, Shape, 
 use Rattle.blocks.proofs.Rows.{Sound, total-shapes}
 use Rattle.blocks.proofs.Theorems.{shapes-sound}
 use Rattle.codewords.specs.Codewords.{maskBit, dataBits, codewordsOf, streamOf, streamIn}
-use Rattle.codewords.specs.Inner.{Legible}
+use Rattle.placement.specs.Walk.{Legible}
 use Rattle.codewords.proofs.Placement.{data-front, length-data}
 use Rattle.blockwise.specs.declared.Blocks.{Blocks}
 use Rattle.blockwise.specs.declared.Blocks.the-variants.{Corrected, Refused}

@@ -9,7 +9,7 @@ ghost use Rattle.symbol.specs.Layout.{layoutOf};
 ghost use Rattle.blocks.specs.Blocks.{totalOf, dataModules, rowLength, shapes, totalData, cut, dataParts};
 ghost use Rattle.segments.specs.FromData.{fromData};
 ghost use Rattle.codewords.specs.Codewords.{maskBit, streamIn, dataBits};
-ghost use Rattle.codewords.specs.Inner.{Legible};
+ghost use Rattle.placement.specs.Walk.{Legible};
 ghost use Rattle.squares.specs.Read.{firstRefusal, unless, areModules, bodyOf, readingOf, readOf, readKnownOf};
 ghost use Rattle.reader.specs.Inner.{Greater, Greatest, receiptIn, Small, Refuses, Answers, Tells, Fitting, Nearest, Drawn, readingIn, bodyOr1};
 ghost use Rattle.squares.specs.Receipt.{receiptOf, refusalReceipt};
@@ -78,11 +78,12 @@ fn read_stream(
     mask: usize,
     total: usize,
 )
-    requires { ⌜ Legible (now kinds) (now square) × (0 < side) × (total ≤ 3886) × (total ≤ length (now stream)) × (8 * total ≤ length (dataBits (maskBit side mask) 0 (now kinds) (now square))) ⌝ }
+    requires { ⌜ Legible (now kinds) (now square) × (0 < side) × (side ≤ 189) × (length (now square) ≡ side * side) ⌝ }
+    requires { ⌜ (total ≤ 3886) × (total ≤ length (now stream)) × (8 * total ≤ length (dataBits (maskBit side mask) 0 (now kinds) (now square))) ⌝ }
     ensures { λ _. ⌜ now (stream .exit) ≡ streamIn total (maskBit side mask) (now (kinds .entry)) (now (square .entry)) ++ drop total (now (stream .entry)) ⌝ }
 {
     let mut found = [0u8; 3886];
-    codewords::read_codewords(&mut found, total, kinds, square, side, mask);
+    placement::read_codewords(&mut found, total, kinds, square, side, mask);
     codewords::to_stream(stream, &found, total);
 }
 

@@ -99,7 +99,7 @@ fn place_stream(square: &mut [u8], kinds: &[u8], m: Mark, stream: &[u8])
     let side = Version { number: m.version }.side();
     let mut found = [0u8; 3886];
     codewords::from_stream(&mut found, stream, total);
-    codewords::place_codewords(square, kinds, &found, total, side, m.mask);
+    placement::place_codewords(square, kinds, &found, total, side, m.mask);
 }
 
 // The mark, in all modules of a square.

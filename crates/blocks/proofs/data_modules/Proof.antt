@@ -1,7 +1,8 @@
-use Rattle.blocks.proofs.Rows.{modules-more}
 use Rattle.blocks.specs.Blocks.{dataModules}
+use Rattle.blocks.proofs.Rows.{modules-few}
 use lib.ListN.{take}
-use Prim.Native.Nat.{ℕ, _-_, _≤_}
+use lib.Seq.{length-take-le}
+use Prim.Native.Nat.{ℕ, _+_, _-_, _≤_}
 use mathlib.Core.Path.{_≡_, refl, ap, _∙_}
 use native.Mathlib.Omega.{arith}
 use borrow.Author.Needs.{needs}
@@ -9,41 +10,40 @@ use Rattle.blocks.proofs.data_modules.Statement.{statement}
 use Rattle.blocks.proofs.data_modules.Tie as tie
 
 abbrev Inv-loop : tie.InvT-loop
-Inv-loop kinds n count₀ i₀ count i = (i ≤ n) × (count ≤ i) × (count ≡ dataModules (take i kinds))
+Inv-loop kinds n count₀ i₀ count i = (i ≤ n) × (count ≡ dataModules (take i kinds))
 
 abbrev μ-loop : tie.MeasureT-loop
 μ-loop kinds n count₀ i₀ count i = n - i
 
 loop-holds : tie.Need-loop-holds Inv-loop μ-loop
 unfolding dataModules
-loop-holds c = (omega arith, omega arith, refl)
+loop-holds c = (omega arith, refl)
 
-shared-slice-read-data-module : tie.Need-shared-slice-read-data-module Inv-loop μ-loop
-shared-slice-read-data-module c = omega arith
+run-end-requires : tie.Need-run-end-requires Inv-loop μ-loop
+run-end-requires c κs = search needs
 
-data-module-requires : tie.Need-data-module-requires Inv-loop μ-loop
-data-module-requires c κs = search needs
+run-modules-requires : tie.Need-run-modules-requires Inv-loop μ-loop
+run-modules-requires c κs = search needs
+
+cast-count : tie.Need-cast-count Inv-loop μ-loop
+cast-count c = search needs
 
 add-count : tie.Need-add-count Inv-loop μ-loop
-add-count c = omega (arith, c .data-module .ensures .1)
-
-add-i : tie.Need-add-i Inv-loop μ-loop
-add-i c = omega arith
+add-count c =
+    let kinds = c .before .before .before .before .before .args .kinds .now in
+    let end = c .before .run-end .result in omega (arith, c .run-modules .ensures, modules-few (take end kinds), length-take-le end kinds (omega arith))
 
 loop-less : tie.Need-loop-less Inv-loop μ-loop
 loop-less c = omega arith
 
 loop-again : tie.Need-loop-again Inv-loop μ-loop
-loop-again c =
-    let start = c .before .before .before .before .before in
-    let loop = c .before .before .before .loop in
-    (omega arith, omega (arith, c .data-module .ensures .1), modules-more (start .args .kinds .now) (start .args .n) (loop .i) (loop .count) (c .data-module .result) (start .pre) (c .before .before .loop-test .taken) (c .data-module .ensures .0) (loop .inv .2))
+loop-again c = (omega arith, omega (arith, c .run-modules .ensures))
 
 returns : tie.Need-returns Inv-loop μ-loop
 returns c =
     let start = c .before .before .before in
     let loop = c .before .loop in
-    let e : loop .i ≡ start .args .n = omega (arith, c .loop-test .left, loop .inv .0) in loop .inv .2 ∙ ap (λ (k : ℕ). dataModules (take k (start .args .kinds .now))) e
+    let e : loop .i ≡ start .args .n = omega (arith, c .loop-test .left, loop .inv .0) in loop .inv .1 ∙ ap (λ (k : ℕ). dataModules (take k (start .args .kinds .now))) e
 
 pub data-modules-spec : {M : Type 1} → statement M
 data-modules-spec =
@@ -52,10 +52,10 @@ data-modules-spec =
     Inv-loop
     μ-loop
     loop-holds
-    shared-slice-read-data-module
-    data-module-requires
+    run-end-requires
+    run-modules-requires
+    cast-count
     add-count
-    add-i
     loop-less
     loop-again
     returns)

@@ -1,5 +1,6 @@
 -- `tell_blocks` meets its contract. Assumes nothing.
-use mathlib.Core.Path.{_∙_}
+use mathlib.Core.Path.{_∙_, sym, ap}
+use Prim.Native.Nat.{ℕ, _*_}
 use native.Mathlib.Omega.{arith}
 use Rattle.squares.proofs.Starts.{row-total, row-own, row-data}
 use Rattle.reader.proofs.Body.{legible, enough-bits, stream-is, count-small, blocks-refused, blocks-told}
@@ -21,7 +22,9 @@ read-stream-requires c κs =
     let before = c .before .before .before .before .before .before .before in
     let a = before in
     let total = c .before .total-codewords in
-    (legible (a .args .m) _ _ (a .pre .0) (a .pre .1), omega (arith, c .before .before .side .ensures), total .ensures .1, total .ensures .1, enough-bits (a .args .m) _ _ (a .pre .0) (a .pre .1) _ (total .result) (total .ensures .0) (a .pre .2))
+    let side = c .before .before .side in
+    let size = a .pre .0 .size ∙ sym (ap (λ (n : ℕ). n * n) (side .ensures)) in
+    ((legible (a .args .m) _ _ (a .pre .0) (a .pre .1), omega (arith, side .ensures), omega (arith, side .ensures, a .pre .0 .high), size), (total .ensures .1, total .ensures .1, enough-bits (a .args .m) _ _ (a .pre .0) (a .pre .1) _ (total .result) (total .ensures .0) (a .pre .2)))
 
 han-xin-requires : tie.Need-han-xin-requires
 han-xin-requires c κs = search needs

@@ -1,8 +1,7 @@
 -- `place_stream` meets its contract: the codewords of the stream in a buffer, then in the square. Assumes nothing.
-use mathlib.Core.Path.{ap}
+use mathlib.Core.Path.{sym, ap, _∙_}
 use Prim.Native.Nat.{ℕ, _*_}
 use native.Mathlib.Omega.{arith}
-use Rattle.writer.proofs.Starts.{square-small}
 use Rattle.writer.proofs.Fronts.{stream-placed}
 use borrow.Author.Needs.{needs}
 use Rattle.writer.proofs.place_stream.Statement.{statement}
@@ -31,7 +30,7 @@ place-codewords-requires c κs =
     let o = start .pre in
     let e = side .ensures in
     let t = total-codewords .ensures in
-    (omega (arith, o .1, o .0 .long), omega (arith, o .1, square-small _ _ (o .0 .ranged .high) e, ap (λ (n : ℕ). n * n) e), omega (arith, e), omega (arith, t .1, c .before .before .before .from-stream .kept), omega (arith, t .1))
+    ((omega (arith, o .1, o .0 .long), omega (arith, e), omega (arith, e, o .0 .ranged .high), o .1 ∙ sym (ap (λ (n : ℕ). n * n) e)), (omega (arith, t .1, c .before .before .before .from-stream .kept), omega (arith, t .1)))
 
 same-length : tie.Need-same-length
 same-length c = search needs

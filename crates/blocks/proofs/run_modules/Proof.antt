@@ -1,0 +1,62 @@
+use Rattle.blocks.proofs.Rows.{modules-more}
+use Rattle.blocks.specs.Blocks.{dataModules}
+use lib.ListN.{take}
+use Prim.Native.Nat.{ℕ, _+_, _-_, _≤_}
+use mathlib.Core.Path.{_≡_, ap, _∙_}
+use native.Mathlib.Omega.{arith}
+use borrow.Author.Needs.{needs}
+use Rattle.blocks.proofs.run_modules.Statement.{statement}
+use Rattle.blocks.proofs.run_modules.Tie as tie
+
+abbrev Inv-loop : tie.InvT-loop
+Inv-loop kinds from to count₀ i₀ count i = (i ≤ to) × (from + count ≤ i) × (dataModules (take from kinds) + count ≡ dataModules (take i kinds))
+
+abbrev μ-loop : tie.MeasureT-loop
+μ-loop kinds from to count₀ i₀ count i = to - i
+
+loop-holds : tie.Need-loop-holds Inv-loop μ-loop
+loop-holds c = (omega arith, omega arith, omega arith)
+
+shared-slice-read-data-module : tie.Need-shared-slice-read-data-module Inv-loop μ-loop
+shared-slice-read-data-module c = omega arith
+
+data-module-requires : tie.Need-data-module-requires Inv-loop μ-loop
+data-module-requires c κs = search needs
+
+add-count : tie.Need-add-count Inv-loop μ-loop
+add-count c = omega (arith, c .data-module .ensures .1)
+
+add-i : tie.Need-add-i Inv-loop μ-loop
+add-i c = omega arith
+
+loop-less : tie.Need-loop-less Inv-loop μ-loop
+loop-less c = omega arith
+
+loop-again : tie.Need-loop-again Inv-loop μ-loop
+loop-again c =
+    let start = c .before .before .before .before .before in
+    let loop = c .before .before .before .loop in
+    let more : dataModules (take (start .args .from) (start .args .kinds .now)) + loop .count + c .data-module .result ≡ dataModules (take (loop .i + 1) (start .args .kinds .now)) =
+    modules-more (start .args .kinds .now) (start .args .to) (loop .i) _ (c .data-module .result) (start .pre .2) (c .before .before .loop-test .taken) (c .data-module .ensures .0) (loop .inv .2) in
+    (omega arith, omega (arith, c .data-module .ensures .1), omega (arith, more))
+
+returns : tie.Need-returns Inv-loop μ-loop
+returns c =
+    let start = c .before .before .before in
+    let loop = c .before .loop in
+    let e : loop .i ≡ start .args .to = omega (arith, c .loop-test .left, loop .inv .0) in loop .inv .2 ∙ ap (λ (k : ℕ). dataModules (take k (start .args .kinds .now))) e
+
+pub run-modules-spec : {M : Type 1} → statement M
+run-modules-spec =
+    tie.close
+    (tie.spec
+    Inv-loop
+    μ-loop
+    loop-holds
+    shared-slice-read-data-module
+    data-module-requires
+    add-count
+    add-i
+    loop-less
+    loop-again
+    returns)

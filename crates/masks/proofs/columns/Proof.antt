@@ -1,0 +1,78 @@
+use Rattle.masks.proofs.Rows.{columns-start, columns-none, columns-next}
+use Rattle.masks.specs.Columns.{Columns}
+use mathlib.Core.Path.{_≡_, sym, subst, _∙_}
+use Prim.Native.Nat.{ℕ, _+_, _-_, _≤_}
+use lib.ListN.{set, length-set}
+use native.Mathlib.Omega.{arith}
+use borrow.Author.Needs.{needs}
+use Rattle.masks.proofs.columns.Statement.{statement}
+use Rattle.masks.proofs.columns.Tie as tie
+
+abbrev Inv-loop : tie.InvT-loop
+Inv-loop table₀ n mask c₀ table c = Columns mask c table × (c ≤ n)
+
+abbrev μ-loop : tie.MeasureT-loop
+μ-loop table₀ n mask c₀ table c = n - c
+
+returns : tie.Need-returns Inv-loop μ-loop
+returns c = columns-none (c .if1 .taken) (c .before .before .pre .1)
+
+loop-holds : tie.Need-loop-holds Inv-loop μ-loop
+loop-holds c = (columns-start (c .before .before .pre .1), omega arith)
+
+slice-write-table : tie.Need-slice-write-table Inv-loop μ-loop
+slice-write-table c = omega (arith, c .before .loop .inv .0 .size, c .before .before .before .before .pre .0)
+
+factor-requires : tie.Need-factor-requires Inv-loop μ-loop
+factor-requires c κs = (omega arith, omega (arith, c .before .before .before .before .pre .0))
+
+slice-write-table-2 : tie.Need-slice-write-table-2 Inv-loop μ-loop
+slice-write-table-2 c = let loop = c .before .before .loop in omega (arith, loop .inv .0 .size, c .before .before .before .before .before .pre .0, length-set (loop .table) (loop .c) (loop .c + 1))
+
+rest-of-requires : tie.Need-rest-of-requires Inv-loop μ-loop
+rest-of-requires c κs = omega arith
+
+slice-write-table-3 : tie.Need-slice-write-table-3 Inv-loop μ-loop
+slice-write-table-3 c =
+    let loop = c .before .before .before .loop in
+    let first = set (loop .table) (loop .c) (loop .c + 1) in omega (arith, loop .inv .0 .size, c .before .before .before .before .before .before .pre .0, length-set (loop .table) (loop .c) (loop .c + 1), length-set first (192 + loop .c) (c .before .factor .result))
+
+loop-again : tie.Need-loop-again Inv-loop μ-loop
+loop-again c =
+    let loop = c .before .before .before .loop in (columns-next _ _ (loop .inv .0) (omega (arith, c .before .before .before .before .before .before .pre .0)) (c .before .factor .ensures) (c .rest-of .ensures), omega arith)
+
+same-length : tie.Need-same-length Inv-loop μ-loop
+same-length c = c .before .loop .inv .0 .size ∙ sym (c .before .before .before .before .pre .1)
+
+returns-2 : tie.Need-returns-2 Inv-loop μ-loop
+returns-2 c =
+    let loop = c .before .loop in
+    let e : loop .c ≡ c .before .before .before .before .args .n = omega (arith, loop .inv .1, c .loop-test .left) in subst (λ (k : ℕ). Columns (c .before .before .before .before .args .mask) k (loop .table)) e (loop .inv .0)
+
+pub columns-spec : {M : Type 1} → statement M
+columns-spec =
+    tie.close
+    (tie.spec
+    Inv-loop
+    μ-loop
+    returns
+    loop-holds
+    (λ c. omega arith)
+    (λ c. omega arith)
+    (λ c. omega arith)
+    slice-write-table
+    (λ c. omega arith)
+    factor-requires
+    (λ c. omega arith)
+    (λ c. omega arith)
+    slice-write-table-2
+    (λ c. omega arith)
+    rest-of-requires
+    (λ c. omega arith)
+    (λ c. omega arith)
+    slice-write-table-3
+    (λ c. omega arith)
+    (λ c. omega arith)
+    loop-again
+    same-length
+    returns-2)

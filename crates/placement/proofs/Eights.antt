@@ -1,0 +1,68 @@
+-- Eight bytes as one number.
+use mathlib.Core.Path.{_≡_, refl, ap, ap₂, _∙_, sym}
+use mathlib.Core.List.{List}
+use Prim.Native.Nat.{ℕ, zero, suc, _+_, _*_, _/_, _%_, _^_, _<_}
+use native.Mathlib.Nat.{add-comm}
+use native.Mathlib.Omega.{arith}
+use lib.Arith.{digits-mod, digits-div}
+use lib.Bits.{bitXor, xor-block}
+use lib.ListN.{getD}
+use Rattle.placement.specs.Walk.{fourOf, eightOf, byteOf, behind}
+
+four-lt : (a b c d : ℕ) → a < 256 → b < 256 → c < 256 → d < 256 → fourOf a b c d < 4294967296
+four-lt a b c d p q r s = omega arith
+
+-- four bits brought together by a product
+nibble-is : (a b c d : ℕ) → a < 2 → b < 2 → c < 2 → d < 2 → fourOf a b c d * 134480385 / 16777216 % 16 ≡ a * 8 + b * 4 + c * 2 + d
+nibble-is a b c d ha hb hc hd =
+    let q : fourOf a b c d * 134480385 / 16777216 ≡ (b * 128 + c * 32832 + d * 8405024) * 16 + (a * 8 + b * 4 + c * 2 + d) = omega (arith, sum) in
+    rw q (digits-mod (b * 128 + c * 32832 + d * 8405024) (omega arith))
+  where
+    sum : fourOf a b c d * 134480385 ≡ ((b * 128 + c * 32832 + d * 8405024) * 16 + (a * 8 + b * 4 + c * 2 + d)) * 16777216 + (a * 262657 + b * 131328 + c * 65536)
+    sum = omega arith
+
+module _ (b : ℕ → ℕ) where
+  pub low-four : ((k : ℕ) → b k < 256) → eightOf b % 4294967296 ≡ fourOf (b 0) (b 1) (b 2) (b 3)
+  low-four h = digits-mod (fourOf (b 4) (b 5) (b 6) (b 7)) (four-lt (b 0) (b 1) (b 2) (b 3) (h 0) (h 1) (h 2) (h 3))
+
+  pub high-four : ((k : ℕ) → b k < 256) → eightOf b / 4294967296 ≡ fourOf (b 4) (b 5) (b 6) (b 7)
+  high-four h = digits-div (fourOf (b 4) (b 5) (b 6) (b 7)) (four-lt (b 0) (b 1) (b 2) (b 3) (h 0) (h 1) (h 2) (h 3))
+
+  pub gather-is : ((k : ℕ) → b k < 2) → (x : ℕ) → x ≡ eightOf b → x % 4294967296 * 134480385 / 16777216 % 16 * 16 + x / 4294967296 * 134480385 / 16777216 % 16 ≡ byteOf b
+  gather-is h x e =
+      let g : (k : ℕ) → b k < 256 = λ k. omega (arith, h k) in
+      ap₂ (λ (l u : ℕ). l * 134480385 / 16777216 % 16 * 16 + u * 134480385 / 16777216 % 16) (ap (λ (y : ℕ). y % 4294967296) e ∙ low-four g) (ap (λ (y : ℕ). y / 4294967296) e ∙ high-four g)
+      ∙ ap₂ (λ (l u : ℕ). l * 16 + u) (nibble-is (b 0) (b 1) (b 2) (b 3) (h 0) (h 1) (h 2) (h 3)) (nibble-is (b 4) (b 5) (b 6) (b 7) (h 4) (h 5) (h 6) (h 7))
+
+  -- all are zero where their number is
+  pub eight-zero : eightOf b ≡ 0 → (k : ℕ) → k < 8 → b k ≡ 0
+  eight-zero e zero h = omega arith
+  eight-zero e (suc zero) h = omega arith
+  eight-zero e (suc (suc zero)) h = omega arith
+  eight-zero e (suc (suc (suc zero))) h = omega arith
+  eight-zero e (suc (suc (suc (suc zero)))) h = omega arith
+  eight-zero e (suc (suc (suc (suc (suc zero))))) h = omega arith
+  eight-zero e (suc (suc (suc (suc (suc (suc zero)))))) h = omega arith
+  eight-zero e (suc (suc (suc (suc (suc (suc (suc zero))))))) h = omega arith
+  eight-zero e (suc (suc (suc (suc (suc (suc (suc (suc k)))))))) h = absurd (omega arith)
+
+pub eight-is : (s : List ℕ) (at l h : ℕ) → l ≡ fourOf (getD s at 0) (getD s (at + 1) 0) (getD s (at + 2) 0) (getD s (at + 3) 0)
+    → h ≡ fourOf (getD s (at + 4) 0) (getD s (at + 5) 0) (getD s (at + 6) 0) (getD s (at + 7) 0) → l + h * 4294967296 ≡ eightOf (behind s at)
+eight-is s at l h e f =
+    let z : at ≡ at + 0 = omega arith in
+    let g : l ≡ fourOf (getD s (at + 0) 0) (getD s (at + 1) 0) (getD s (at + 2) 0) (getD s (at + 3) 0) = e ∙ ap (λ (i : ℕ). fourOf (getD s i 0) (getD s (at + 1) 0) (getD s (at + 2) 0) (getD s (at + 3) 0)) z in
+    add-comm l (h * 4294967296) ∙ ap₂ (λ (x y : ℕ). x * 4294967296 + y) f g
+
+-- the sum without carries, byte by byte
+module _ (a b : ℕ → ℕ) (ha : (k : ℕ) → a k < 256) (hb : (k : ℕ) → b k < 256) where
+  xor-four : (i j k l : ℕ) → bitXor (fourOf (a i) (a j) (a k) (a l)) (fourOf (b i) (b j) (b k) (b l)) ≡ fourOf (bitXor (a i) (b i)) (bitXor (a j) (b j)) (bitXor (a k) (b k)) (bitXor (a l) (b l))
+  xor-four i j k l =
+      xor-block 8 ((a l * 256 + a k) * 256 + a j) ((b l * 256 + b k) * 256 + b j) (a i) (b i) (ha i) (hb i)
+      ∙ ap (λ (x : ℕ). x * 256 + bitXor (a i) (b i)) (xor-block 8 (a l * 256 + a k) (b l * 256 + b k) (a j) (b j) (ha j) (hb j)
+      ∙ ap (λ (x : ℕ). x * 256 + bitXor (a j) (b j)) (xor-block 8 (a l) (b l) (a k) (b k) (ha k) (hb k)))
+
+  pub xor-eight : bitXor (eightOf a) (eightOf b) ≡ eightOf (λ k. bitXor (a k) (b k))
+  xor-eight =
+      xor-block 32 (fourOf (a 4) (a 5) (a 6) (a 7)) (fourOf (b 4) (b 5) (b 6) (b 7)) (fourOf (a 0) (a 1) (a 2) (a 3)) (fourOf (b 0) (b 1) (b 2) (b 3))
+      (four-lt (a 0) (a 1) (a 2) (a 3) (ha 0) (ha 1) (ha 2) (ha 3)) (four-lt (b 0) (b 1) (b 2) (b 3) (hb 0) (hb 1) (hb 2) (hb 3))
+      ∙ ap₂ (λ (x y : ℕ). x * 4294967296 + y) (xor-four 4 5 6 7) (xor-four 0 1 2 3)

@@ -1,0 +1,5 @@
+pub mod Eights
+pub mod Walk
+pub mod Rows
+pub mod Puts
+pub mod Squares

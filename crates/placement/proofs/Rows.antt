@@ -1,0 +1,148 @@
+-- A square as its rows.
+use mathlib.Core.Path.{_≡_, refl, ap, ap₂, _∙_, sym, subst}
+use mathlib.Core.List.{List, [], _∷_, _++_, append-assoc, append-nil}
+use Prim.Native.Nat.{ℕ, zero, suc, _+_, _-_, _*_, _/_, _%_, _^_, _<_, _≤_}
+use native.Mathlib.Nat.{add-mul, one-mul, mul-le-mul-left}
+use native.Mathlib.Omega.{arith}
+use lib.Arith.{digits-div, digits-mod}
+use lib.ListN.{length, getD, take, drop, length-append, length-drop, take-append-drop, drop-of-length-le}
+use lib.Pow.{pow-pos}
+use lib.Seq.{length-take-le, take-all, drop-drop, getD-drop}
+use lib.Bits.{bitXor}
+use Rattle.bits.specs.Bits.{lowBits, firstWords}
+use Rattle.bits.proofs.Words.{length-low}
+use Rattle.bits.proofs.Bytes.{take-small}
+use Rattle.codewords.specs.Codewords.{maskAt, maskBit, codewordsOf, dataBits}
+use Rattle.masks.specs.Columns.{Row}
+use Rattle.placement.specs.Walk.{bitsFrom, Legible, Pending, Words, Walk, Aligned, rowBits, Goes}
+use Rattle.placement.specs.declared.Run.{Run}
+
+-- Parts of a list.
+
+-- from one place on and before another
+abbrev pub part : ℕ → ℕ → List ℕ → List ℕ
+part at end l = take (end - at) (drop at l)
+
+pub part-front : (at end : ℕ) (l : List ℕ) → at ≤ end → drop at l ≡ part at end l ++ drop end l
+part-front at end l h =
+    let e : at + (end - at) ≡ end = omega arith in
+    sym (take-append-drop (end - at) (drop at l)) ∙ ap (λ (r : List ℕ). part at end l ++ r) (drop-drop (end - at) at l ∙ ap (λ (n : ℕ). drop n l) e)
+
+pub part-length : (at side : ℕ) (l : List ℕ) → at + side ≤ length l → length (part at (at + side) l) ≡ side
+part-length at side l h = length-take-le (at + side - at) (drop at l) (omega (arith, length-drop at l)) ∙ omega arith
+
+part-small : (at end : ℕ) (l : List ℕ) → ((k : ℕ) → getD l k 0 < 2) → (k : ℕ) → getD (part at end l) k 0 < 2
+part-small at end l h = take-small (end - at) (drop at l) (λ k. subst (λ (x : ℕ). x < 2) (sym (getD-drop at l k 0)) (h (at + k)))
+
+-- Rows of a square of side s.
+
+pub row-inside : (i s : ℕ) → i < s → i * s + s ≤ s * s
+row-inside i s h = let k : i + 1 ≤ s = omega arith in omega (arith, mul-le-mul-left s k)
+
+pub row-next : (i s : ℕ) → i * s + s ≡ (i + 1) * s
+row-next i s = omega (arith, add-mul i 1 s, one-mul s)
+
+pub row-mask : (mask i s c : ℕ) → c < s → maskAt mask (i + 1) (c + 1) ≡ maskBit s mask (i * s + c)
+unfolding maskBit
+row-mask mask i s c h = sym (ap₂ (λ (x y : ℕ). maskAt mask (x + 1) (y + 1)) (digits-div i h) (digits-mod i h))
+
+pub aligned : {mask : ℕ} {ks sq row : List ℕ} (at side : ℕ) → Legible ks sq → Row mask row → side ≤ 189 → at + side ≤ length sq → Aligned (part at (at + side) ks) (part at (at + side) sq) row
+aligned {mask} {ks} {sq} {row} at side g r s h =
+    let k : length (part at (at + side) ks) ≡ side = part-length at side ks (omega (arith, g .kinds)) in
+    let l : length (part at (at + side) sq) ≡ side = part-length at side sq h in
+    record { side = omega arith; size = l ∙ sym k; room = r .size; modules = part-small at (at + side) sq (g .bits); masks = r .small }
+
+-- The data bits of a square are those of its rows.
+
+data-append : (m : ℕ → ℕ) (i : ℕ) (us vs xs ys : List ℕ) → length us ≡ length xs → dataBits m i (us ++ vs) (xs ++ ys) ≡ dataBits m i us xs ++ dataBits m (i + length us) vs ys
+unfolding dataBits
+data-append m i [] vs [] ys e = let f : i ≡ i + 0 = omega arith in ap (λ (j : ℕ). dataBits m j vs ys) f
+data-append m i [] vs (x ∷ xs) ys e = absurd (omega arith)
+data-append m i (u ∷ us) vs [] ys e = absurd (omega arith)
+data-append m i (zero ∷ us) vs (x ∷ xs) ys e =
+    let f : suc i + length us ≡ i + suc (length us) = omega arith in
+    ap (λ (l : List ℕ). bitXor x (m i) ∷ l) (data-append m (suc i) us vs xs ys (omega arith) ∙ ap (λ (j : ℕ). dataBits m (suc i) us xs ++ dataBits m j vs ys) f)
+data-append m i (suc u ∷ us) vs (x ∷ xs) ys e =
+    let f : suc i + length us ≡ i + suc (length us) = omega arith in
+    data-append m (suc i) us vs xs ys (omega arith) ∙ ap (λ (j : ℕ). dataBits m (suc i) us xs ++ dataBits m j vs ys) f
+
+-- masks that are the same from two places on
+pub agree-first : (m n : ℕ → ℕ) (i j l : ℕ) → ((k : ℕ) → k < suc l → m (i + k) ≡ n (j + k)) → m i ≡ n j
+agree-first m n i j l h =
+    let a : i ≡ i + 0 = omega arith in
+    let b : j + 0 ≡ j = omega arith in ap m a ∙ h 0 (omega arith) ∙ ap n b
+
+pub agree-later : (m n : ℕ → ℕ) (i j l : ℕ) → ((k : ℕ) → k < suc l → m (i + k) ≡ n (j + k)) → (k : ℕ) → k < l → m (suc i + k) ≡ n (suc j + k)
+agree-later m n i j l h k q =
+    let a : suc i + k ≡ i + suc k = omega arith in
+    let b : j + suc k ≡ suc j + k = omega arith in ap m a ∙ h (suc k) (omega arith) ∙ ap n b
+
+data-masks : (m n : ℕ → ℕ) (i j : ℕ) (us xs : List ℕ) → ((k : ℕ) → k < length us → m (i + k) ≡ n (j + k)) → dataBits m i us xs ≡ dataBits n j us xs
+unfolding dataBits
+data-masks m n i j [] xs h = refl
+data-masks m n i j (u ∷ us) [] h = refl
+data-masks m n i j (zero ∷ us) (x ∷ xs) h = ap₂ (λ (y : ℕ) (l : List ℕ). bitXor x y ∷ l) (agree-first m n i j (length us) h) (data-masks m n (suc i) (suc j) us xs (agree-later m n i j (length us) h))
+data-masks m n i j (suc u ∷ us) (x ∷ xs) h = data-masks m n (suc i) (suc j) us xs (agree-later m n i j (length us) h)
+
+row-split : (m : ℕ → ℕ) (ks sq row : List ℕ) (at side : ℕ) → length sq ≤ length ks → at + side ≤ length sq → ((c : ℕ) → c < side → getD row c 0 ≡ m (at + c))
+    → bitsFrom m ks sq at ≡ rowBits (part at (at + side) ks) (part at (at + side) sq) row 0 ++ bitsFrom m ks sq (at + side)
+row-split m ks sq row at side g h e =
+    let us = part at (at + side) ks in
+    let xs = part at (at + side) sq in
+    let k : length (part at (at + side) ks) ≡ side = part-length at side ks (omega arith) in
+    let l : length (part at (at + side) sq) ≡ side = part-length at side sq h in
+    ap₂ (dataBits m at) (part-front at (at + side) ks (omega arith)) (part-front at (at + side) sq (omega arith))
+    ∙ data-append m at us (drop (at + side) ks) xs (drop (at + side) sq) (k ∙ sym l)
+    ∙ ap₂ (λ (b : List ℕ) (n : ℕ). b ++ dataBits m (at + n) (drop (at + side) ks) (drop (at + side) sq))
+    (data-masks m (λ c. getD row c 0) at 0 us xs (λ c q. sym (e c (omega arith)) ∙ (let z : c ≡ 0 + c = omega arith in ap (λ (i : ℕ). getD row i 0) z))) k
+
+bits-none : (m : ℕ → ℕ) (ks sq : List ℕ) (i : ℕ) → length sq ≤ i → bitsFrom m ks sq i ≡ []
+unfolding dataBits
+bits-none m ks sq i h = ap (dataBits m i (drop i ks)) (drop-of-length-le sq {i = i} h) ∙ empty (drop i ks)
+  where
+    empty : (us : List ℕ) → dataBits m i us [] ≡ []
+    empty [] = refl
+    empty (k ∷ us) = refl
+
+-- The walk over all rows.
+
+pub rows-pending : {r : Run} → r .value ≡ 0 → r .bits ≡ 0 → Pending r
+rows-pending {r} v b = record { few = omega arith; small = omega (arith, pow-pos (8 + r .bits)) }
+
+-- the column does not matter
+pub walk-again : {total : ℕ} {all out rest : List ℕ} {r s : Run} → s .n ≡ r .n → s .value ≡ r .value → s .bits ≡ r .bits → Walk total all out rest r → Walk total all out rest s
+walk-again {total} {all} {out} {rest} {r} {s} n v b k = record {
+  words = subst (λ (i : ℕ). Words total all out (lowBits (s .bits) (s .value) ++ rest) i) (sym n)
+      (subst (λ (l : List ℕ). Words total all out l (r .n)) (sym (ap₂ (λ (i j : ℕ). lowBits i j ++ rest) b v)) (k .words));
+}
+
+pub rows-begun : (all out : List ℕ) {r : Run} → r .n ≡ 0 → r .value ≡ 0 → r .bits ≡ 0 → 8 * length out ≤ length all → Walk (length out) all out all r
+unfolding lowBits
+rows-begun all out {r} n v b h =
+    let e : length out - 0 ≡ length out = omega arith in
+    walk-again {r = record { column = 0; n = 0; value = 0; bits = 0 }} n v b
+    (record { words = record { size = refl; few = omega arith; enough = omega arith; is = ap (λ (k : ℕ). codewordsOf k all) e } })
+
+pub rows-turn : {total : ℕ} {all out out′ row : List ℕ} {r s : Run} (m : ℕ → ℕ) (ks sq : List ℕ) (i side : ℕ) → length sq ≤ length ks → i * side + side ≤ length sq
+    → ((c : ℕ) → c < side → getD row c 0 ≡ m (i * side + c)) → r .column ≡ 0 → s .column ≡ length (part (i * side) (i * side + side) ks)
+    → Goes (part (i * side) (i * side + side) ks) (part (i * side) (i * side + side) sq) row out out′ r s
+    → Walk total all out (bitsFrom m ks sq (i * side)) r → Walk total all out′ (bitsFrom m ks sq ((i + 1) * side)) s
+rows-turn {total} {all} {out} {out′} {row} {r} {s} m ks sq i side g h e a b go w =
+    let at = i * side in
+    let us = part (i * side) (i * side + side) ks in
+    let xs = part (i * side) (i * side + side) sq in
+    let rest = bitsFrom m ks sq (i * side + side) in
+    let front = row-split m ks sq row at side g h e ∙ ap (λ (c : ℕ). rowBits us xs row c ++ rest) (sym a) in
+    let l : length (part (i * side) (i * side + side) sq) ≤ s .column = omega (arith, part-length at side sq h, part-length at side ks (omega arith)) in
+    subst (λ (u : List ℕ). Walk total all out′ u s) (ap (λ (u : List ℕ). u ++ rest) (bits-none (λ k. getD row k 0) us xs (s .column) l) ∙ ap (bitsFrom m ks sq) (row-next i side))
+    (go .go total all rest (subst (λ (u : List ℕ). Walk total all out u r) front w))
+
+pub rows-done : {total : ℕ} {all out : List ℕ} {r : Run} (m : ℕ → ℕ) (ks sq : List ℕ) (i : ℕ) → length sq ≤ i → Pending r → Walk total all out (bitsFrom m ks sq i) r → out ≡ codewordsOf total all
+unfolding firstWords
+rows-done {total} {all} {out} {r} m ks sq i h p k =
+    let w = k .words in
+    let z : length (lowBits (r .bits) (r .value) ++ bitsFrom m ks sq i) ≡ r .bits =
+    length-append (lowBits (r .bits) (r .value)) (bitsFrom m ks sq i) ∙ ap₂ _+_ (length-low (r .bits) (r .value)) (ap length (bits-none m ks sq i h)) ∙ omega arith in
+    let n : r .n ≡ total = omega (arith, w .few, w .enough, z, p .few) in
+    let e : total - r .n ≡ 0 = omega arith in
+    sym (take-all (r .n) out (omega (arith, w .size))) ∙ sym (append-nil (take (r .n) out)) ∙ sym (ap (λ (j : ℕ). take (r .n) out ++ codewordsOf j (lowBits (r .bits) (r .value) ++ bitsFrom m ks sq i)) e) ∙ w .is

@@ -1,0 +1,277 @@
+-- Bits behind bits, and the walk over a row.
+use mathlib.Core.Path.{_≡_, refl, ap, ap₂, _∙_, sym, subst}
+use mathlib.Core.Logic.{_≢_}
+use mathlib.Core.List.{List, [], _∷_, _++_, append-assoc, append-nil}
+use Prim.Native.Nat.{ℕ, zero, suc, _+_, _-_, _*_, _/_, _%_, _^_, _<_, _≤_}
+use native.Mathlib.Nat.{mod-lt, mod-eq-of-lt, pow-le-pow-right}
+use native.Mathlib.Omega.{arith}
+use native.Mathlib.Numerals.{add-one}
+use native.Mathlib.Decide.{decLt}
+use lib.Dec.{lit<}
+use lib.ListN.{length, getD, take, drop, set, length-set, length-append}
+use lib.Arith.{digits-lt}
+use lib.Pow.{pow-pos, pow-add, shl-lt, shr-shr, split, high, low, field, mod-mod-pow}
+use lib.Seq.{take-at, drop-at, drop-cons, take-suc-set}
+use lib.Bits.{bitXor, xor-lt}
+use Rattle.bits.specs.Bits.{lowBits, value, firstWords}
+use Rattle.bits.proofs.Words.{length-low, low-back}
+use Rattle.bits.proofs.Bytes.{low-value}
+use Rattle.codewords.specs.Codewords.{codewordsOf, dataBits}
+use Rattle.placement.specs.Walk.{bitsFrom, byteOf, eightOf, run, behind, Gathered, Pending, Words, Walk, Stored, Pushed, Aligned, Skipped, rowBits, Goes}
+use Rattle.placement.specs.declared.Run.{Run}
+use Rattle.placement.proofs.Eights.{eight-zero, xor-eight}
+
+-- Bits of a number.
+
+-- those above do not matter
+pub low-mod : (n k v : ℕ) → n ≤ k → lowBits n (v % 2 ^ k) ≡ lowBits n v
+unfolding lowBits
+low-mod zero k v h = refl
+low-mod (suc n) k v h = ap₂ _∷_ (top (k - suc n) (omega arith)) (low-mod n k v (omega arith))
+  where
+    top : (j : ℕ) → k ≡ j + 1 + n → v % 2 ^ k / 2 ^ n % 2 ≡ v / 2 ^ n % 2
+    top j e = ap (λ (i : ℕ). v % 2 ^ i / 2 ^ n % 2) e ∙ ap (λ (y : ℕ). y % 2) (field v (j + 1) n) ∙ mod-mod-pow (v / 2 ^ n) j 1
+
+-- bits behind bits are the bits of one number
+low-join : (a b p q : ℕ) → q < 2 ^ b → lowBits a p ++ lowBits b q ≡ lowBits (a + b) (p * 2 ^ b + q)
+unfolding lowBits
+low-join zero b p q h =
+    let e : b ≡ 0 + b = omega arith in
+    ap (lowBits b) (sym (low p b h)) ∙ low-mod b b (p * 2 ^ b + q) (omega arith) ∙ ap (λ (n : ℕ). lowBits n (p * 2 ^ b + q)) e
+low-join (suc a) b p q h =
+    let e : suc (a + b) ≡ suc a + b = omega arith in
+    let f : b + a ≡ a + b = omega arith in
+    let top : p / 2 ^ a ≡ (p * 2 ^ b + q) / 2 ^ (a + b) = ap (λ (y : ℕ). y / 2 ^ a) (sym (high p b h)) ∙ shr-shr (p * 2 ^ b + q) b a ∙ ap (λ (n : ℕ). (p * 2 ^ b + q) / 2 ^ n) f in
+    ap₂ (λ (y : ℕ) (l : List ℕ). (y % 2) ∷ l) top (low-join a b p q h) ∙ ap (λ (n : ℕ). lowBits n (p * 2 ^ b + q)) e
+
+-- eight in front of the others
+low-apart : (n v : ℕ) → n ≤ 8 → lowBits (8 + n) v ≡ lowBits 8 (v / 2 ^ n % 256) ++ lowBits n (v % 256)
+low-apart n v h =
+    ap (lowBits (8 + n)) (sym (split v n)) ∙ sym (low-join 8 n (v / 2 ^ n) (v % 2 ^ n) (mod-lt v (pow-pos n)))
+    ∙ ap₂ _++_ (sym (low-mod 8 8 (v / 2 ^ n) (omega arith))) (low-mod n n v (omega arith) ∙ sym (low-mod n 8 v h))
+
+-- n bits, and the number that they say
+pub length-run : (n : ℕ) (b : ℕ → ℕ) → length (run n b) ≡ n
+unfolding run
+length-run zero b = refl
+length-run (suc n) b = ap suc (length-run n (λ k. b (suc k)))
+
+run-small : (n : ℕ) (b : ℕ → ℕ) → ((k : ℕ) → b k < 2) → (i : ℕ) → getD (run n b) i 0 < 2
+unfolding run
+run-small zero b h i = omega arith
+run-small (suc n) b h zero = h 0
+run-small (suc n) b h (suc i) = run-small n (λ k. b (suc k)) (λ k. h (suc k)) i
+
+pub run-front : (n : ℕ) (a b : ℕ → ℕ) → ((k : ℕ) → k < n → a k ≡ b k) → run n a ≡ run n b
+unfolding run
+run-front zero a b e = refl
+run-front (suc n) a b e = ap₂ _∷_ (e 0 (omega arith)) (run-front n (λ k. a (suc k)) (λ k. b (suc k)) (λ k h. e (suc k) (omega arith)))
+
+pub run-ext : (n : ℕ) (a b : ℕ → ℕ) → ((k : ℕ) → a k ≡ b k) → run n a ≡ run n b
+run-ext n a b e = run-front n a b (λ k h. e k)
+
+pub run-low : (n x : ℕ) (b : ℕ → ℕ) → ((k : ℕ) → b k < 2) → value 0 (run n b) ≡ x → run n b ≡ lowBits n x
+run-low n x b h e = sym (low-value (run n b) (run-small n b h)) ∙ ap₂ lowBits (length-run n b) e
+
+pub run-eight : (b : ℕ → ℕ) → value 0 (run 8 b) ≡ byteOf b
+unfolding run value
+run-eight b = omega arith
+
+pub run-one : (b : ℕ → ℕ) → value 0 (run 1 b) ≡ b 0
+unfolding run value
+run-one b = omega arith
+
+-- Codewords.
+
+module _ {total : ℕ} {all out : List ℕ} {n : ℕ} where
+  same-words : {left left′ : List ℕ} → left ≡ left′ → Words total all out left n → Words total all out left′ n
+  same-words e w = subst (λ (l : List ℕ). Words total all out l n) e w
+
+  -- a codeword is stored where there is room, and nothing changes where there is none
+  words-next : {out′ : List ℕ} {n′ : ℕ} (y : ℕ) (tail : List ℕ) → y < 256 → Stored n y out out′ n′ → Words total all out (lowBits 8 y ++ tail) n → Words total all out′ tail n′
+  unfolding firstWords
+  words-next {out′} {n′} y tail small s w = elim (decLt n total) [
+    | yes h ↦ (let l : n < length out = omega (arith, w .size) in
+        let k = s .room l in
+        subst (λ (o : List ℕ). Words total all o tail n′) (sym (k .1)) (subst (λ (i : ℕ). Words total all (set out n y) tail i) (sym (k .0)) (more h l)))
+    | no h ↦ (let k = s .full (omega (arith, w .size)) in
+        let z : total - n ≡ 0 = omega arith in
+        let is : take n out ++ codewordsOf (total - n) tail ≡ codewordsOf total all = ap (λ (i : ℕ). take n out ++ codewordsOf i tail) z ∙ sym (ap (λ (i : ℕ). take n out ++ codewordsOf i (lowBits 8 y ++ tail)) z) ∙ w .is in
+        subst (λ (o : List ℕ). Words total all o tail n′) (sym (k .1)) (subst (λ (i : ℕ). Words total all out tail i) (sym (k .0)) (record { size = w .size; few = w .few; enough = omega arith; is = is })))
+  ]
+    where
+      back : drop 8 (lowBits 8 y ++ tail) ≡ tail
+      back = drop-at (lowBits 8 y) tail 8 (length-low 8 y)
+
+      more : n < total → n < length out → Words total all (set out n y) tail (n + 1)
+      more h l =
+          let k : total - n ≡ suc (total - (n + 1)) = omega arith in
+          let first : value 0 (take 8 (lowBits 8 y ++ tail)) ≡ y = ap (value 0) (take-at (lowBits 8 y) tail 8 (length-low 8 y)) ∙ low-back 8 y small in
+          let front : take (n + 1) (set out n y) ≡ take n out ++ (y ∷ []) = ap (λ (i : ℕ). take i (set out n y)) (add-one n) ∙ take-suc-set out n y l in
+          record {
+            size = length-set out n y ∙ w .size;
+            few = omega arith;
+            enough = omega (arith, w .enough, length-append (lowBits 8 y) tail, length-low 8 y);
+            is = ap (λ (u : List ℕ). u ++ codewordsOf (total - (n + 1)) tail) front ∙ append-assoc (take n out) (y ∷ []) (codewordsOf (total - (n + 1)) tail)
+                ∙ sym (ap (λ (i : ℕ). take n out ++ codewordsOf i (lowBits 8 y ++ tail)) k ∙ ap₂ (λ (x : ℕ) (u : List ℕ). take n out ++ (x ∷ codewordsOf (total - (n + 1)) u)) first back) ∙ w .is;
+          }
+
+-- Bits pushed behind pending ones.
+
+module _ {r : Run} (p : Pending r) (w x : ℕ) (short : w ≤ 8) (hx : x < 2 ^ w) where
+  pub shifted-lt : r .value * 2 ^ w < 2 ^ (8 + r .bits + w)
+  shifted-lt = shl-lt (8 + r .bits) w (p .small)
+
+  pub shifted : r .value * 2 ^ w % 18446744073709551616 ≡ r .value * 2 ^ w
+  shifted = mod-eq-of-lt (omega (arith, shifted-lt, pow-le-pow-right {n = 2} (lit< tt) {i = 8 + r .bits + w} {j = 23} (omega (arith, p .few))))
+
+  pub sum-lt : r .value * 2 ^ w + x < 2 ^ (8 + (r .bits + w))
+  sum-lt =
+      let e : 8 + r .bits + w ≡ 8 + (r .bits + w) = omega arith in
+      subst (λ (n : ℕ). r .value * 2 ^ w + x < 2 ^ n) e (subst (λ (n : ℕ). r .value * 2 ^ w + x < n) (sym (pow-add 2 (8 + r .bits) w)) (digits-lt (p .small) hx))
+
+  pub sum-small : r .value * 2 ^ w + x < 8388608
+  sum-small = omega (arith, sum-lt, pow-le-pow-right {n = 2} (lit< tt) {i = 8 + (r .bits + w)} {j = 23} (omega (arith, p .few)))
+
+  together : (rest : List ℕ) → lowBits (r .bits) (r .value) ++ (lowBits w x ++ rest) ≡ lowBits (r .bits + w) (r .value * 2 ^ w + x) ++ rest
+  together rest = sym (append-assoc (lowBits (r .bits) (r .value)) (lowBits w x) rest) ∙ ap (λ (l : List ℕ). l ++ rest) (low-join (r .bits) w (r .value) x hx)
+
+  -- still fewer than eight
+  pub few-pushed : {s : Run} {out : List ℕ} → s .value ≡ r .value * 2 ^ w + x → s .bits ≡ r .bits + w → s .n ≡ r .n → r .bits + w < 8 → Pending s × Pushed w x out out r s
+  few-pushed {s} {out} v b n h = (
+    record { few = omega arith; small = subst (λ (k : ℕ). s .value < 2 ^ (8 + k)) (sym b) (subst (λ (y : ℕ). y < 2 ^ (8 + (r .bits + w))) (sym v) sum-lt) },
+    record {
+      go = λ total all rest k. record {
+        words = subst (λ (i : ℕ). Words total all out (lowBits (s .bits) (s .value) ++ rest) i) (sym n) (same-words (together rest ∙ sym (ap₂ (λ (i j : ℕ). lowBits i j ++ rest) b v)) (k .words));
+      };
+    },
+  )
+
+  -- a codeword, and what is left
+  pub full-pushed : {s : Run} {out out′ : List ℕ} (left : ℕ) → r .bits + w ≡ 8 + left → s .value ≡ (r .value * 2 ^ w + x) % 256 → s .bits ≡ left
+      → Stored (r .n) ((r .value * 2 ^ w + x) / 2 ^ left % 256) out out′ (s .n) → Pending s × Pushed w x out out′ r s
+  full-pushed {s} {out} {out′} left l v b st = (
+    record { few = omega (arith, p .few); small = omega (arith, byte, pow-le-pow-right {n = 2} (lit< tt) {i = 8} {j = 8 + s .bits} (omega arith)) },
+    record {
+      go = λ total all rest k.
+          let e : lowBits (r .bits) (r .value) ++ (lowBits w x ++ rest) ≡ lowBits 8 y ++ (lowBits left z ++ rest) =
+          together rest ∙ ap (λ (n : ℕ). lowBits n u ++ rest) l ∙ ap (λ (q : List ℕ). q ++ rest) (low-apart left u (omega (arith, p .few))) ∙ append-assoc (lowBits 8 y) (lowBits left z) rest in
+          let f : lowBits left z ++ rest ≡ lowBits (s .bits) (s .value) ++ rest = sym (ap₂ (λ (i j : ℕ). lowBits i j ++ rest) b v) in
+          record { words = same-words f (words-next y (lowBits left z ++ rest) (mod-lt (u / 2 ^ left) (lit< tt)) st (same-words e (k .words))) };
+    },
+  )
+    where
+      u : ℕ
+      u = r .value * 2 ^ w + x
+
+      y : ℕ
+      y = u / 2 ^ left % 256
+
+      z : ℕ
+      z = u % 256
+
+      byte : s .value < 256
+      byte = subst (λ (q : ℕ). q < 256) (sym v) (mod-lt u (lit< tt))
+
+-- The data bits from a place on.
+
+module _ (m : ℕ → ℕ) (ks sq : List ℕ) (same : length sq ≤ length ks) where
+  opened : (i : ℕ) → i < length sq → bitsFrom m ks sq i ≡ dataBits m i (getD ks i 0 ∷ drop (suc i) ks) (getD sq i 0 ∷ drop (suc i) sq)
+  opened i h = ap₂ (dataBits m i) (drop-cons ks i 0 (omega arith)) (drop-cons sq i 0 h)
+
+  hit : (i k : ℕ) (us vs : List ℕ) → k ≡ 0 → dataBits m i (k ∷ us) (getD sq i 0 ∷ vs) ≡ bitXor (getD sq i 0) (m i) ∷ dataBits m (suc i) us vs
+  unfolding dataBits
+  hit i zero us vs e = refl
+  hit i (suc k) us vs e = absurd (omega arith)
+
+  miss : (i k : ℕ) (us vs : List ℕ) → k ≢ 0 → dataBits m i (k ∷ us) (getD sq i 0 ∷ vs) ≡ dataBits m (suc i) us vs
+  unfolding dataBits
+  miss i zero us vs e = absurd (e refl)
+  miss i (suc k) us vs e = refl
+
+  -- n data modules in front
+  pub from-hits : (n i : ℕ) → i + n ≤ length sq → ((k : ℕ) → k < n → getD ks (i + k) 0 ≡ 0) → bitsFrom m ks sq i ≡ run n (λ k. bitXor (getD sq (i + k) 0) (m (i + k))) ++ bitsFrom m ks sq (i + n)
+  unfolding run
+  from-hits zero i h z = let e : i ≡ i + 0 = omega arith in ap (bitsFrom m ks sq) e
+  from-hits (suc n) i h z =
+      let e : i ≡ i + 0 = omega arith in
+      let f : suc i + n ≡ i + suc n = omega arith in
+      let g : (k : ℕ) → suc i + k ≡ i + suc k = λ k. omega arith in
+      opened i (omega arith) ∙ hit i (getD ks i 0) (drop (suc i) ks) (drop (suc i) sq) (ap (λ (j : ℕ). getD ks j 0) e ∙ z 0 (omega arith))
+      ∙ ap₂ (λ (b : ℕ) (l : List ℕ). b ∷ l) (ap (λ (j : ℕ). bitXor (getD sq j 0) (m j)) e)
+      (from-hits n (suc i) (omega arith) (λ k l. ap (λ (j : ℕ). getD ks j 0) (g k) ∙ z (suc k) (omega arith))
+      ∙ ap₂ _++_ (run-ext n (λ k. bitXor (getD sq (suc i + k) 0) (m (suc i + k))) (λ k. bitXor (getD sq (i + suc k) 0) (m (i + suc k))) (λ k. ap (λ (j : ℕ). bitXor (getD sq j 0) (m j)) (g k))) (ap (bitsFrom m ks sq) f))
+
+  -- n modules that are not
+  pub from-misses : (n i : ℕ) → i + n ≤ length sq → ((k : ℕ) → i ≤ k → k < i + n → getD ks k 0 ≢ 0) → bitsFrom m ks sq i ≡ bitsFrom m ks sq (i + n)
+  from-misses zero i h z = let e : i ≡ i + 0 = omega arith in ap (bitsFrom m ks sq) e
+  from-misses (suc n) i h z =
+      let f : suc i + n ≡ i + suc n = omega arith in
+      opened i (omega arith) ∙ miss i (getD ks i 0) (drop (suc i) ks) (drop (suc i) sq) (z i (omega arith) (omega arith))
+      ∙ from-misses n (suc i) (omega arith) (λ k a b. z k (omega arith) (omega arith)) ∙ ap (bitsFrom m ks sq) f
+
+-- From column to column.
+
+pub skipped-start : {ks : List ℕ} {first : ℕ} → first ≤ length ks → Skipped ks first first
+skipped-start h = record { least = omega arith; most = h; none = λ k a b. absurd (omega arith) }
+
+pub skipped-more : {ks : List ℕ} {first c : ℕ} → Skipped ks first c → c < length ks → getD ks c 0 ≢ 0 → Skipped ks first (c + 1)
+skipped-more {ks} {first} {c} q h z = record {
+  least = omega (arith, q .least);
+  most = omega arith;
+  none = λ k a b. elim (decLt k c) [ yes l ↦ q .none k a l | no l ↦ (let e : k ≡ c = omega arith in λ y. z (sym (ap (λ (i : ℕ). getD ks i 0) e) ∙ y)) ];
+}
+
+-- so too from the column before
+pub skipped-from : {ks : List ℕ} {c r : ℕ} → Skipped ks (c + 1) r → getD ks c 0 ≢ 0 → (k : ℕ) → c ≤ k → k < r → getD ks k 0 ≢ 0
+skipped-from {ks} {c} q z k lo hi = elim (decLt c k) [ yes l ↦ q .none k (omega arith) hi | no l ↦ (let e : k ≡ c = omega arith in λ y. z (sym (ap (λ (i : ℕ). getD ks i 0) e) ∙ y)) ]
+
+module _ {ks sq row : List ℕ} (a : Aligned ks sq row) where
+  pub bits-small : (c k : ℕ) → bitXor (getD sq (c + k) 0) (getD row (c + k) 0) < 2
+  bits-small c k = xor-lt 1 (getD sq (c + k) 0) (getD row (c + k) 0) (a .modules (c + k)) (a .masks (c + k))
+
+  -- n data modules pushed
+  pub goes-push : {out out′ : List ℕ} {r s : Run} (n x : ℕ) → r .column + n ≤ length ks → ((k : ℕ) → k < n → getD ks (r .column + k) 0 ≡ 0)
+      → value 0 (run n (λ k. bitXor (getD sq (r .column + k) 0) (getD row (r .column + k) 0))) ≡ x → s .column ≡ r .column + n → Pushed n x out out′ r s → Goes ks sq row out out′ r s
+  goes-push {out} {out′} {r} {s} n x h z e f q = record {
+    go = λ total all rest k.
+        let b : rowBits ks sq row (r .column) ≡ lowBits n x ++ rowBits ks sq row (s .column) =
+        from-hits (λ k. getD row k 0) ks sq (omega (arith, a .size)) n (r .column) (omega (arith, a .size)) z
+        ∙ ap₂ _++_ (run-low n x (λ k. bitXor (getD sq (r .column + k) 0) (getD row (r .column + k) 0)) (bits-small (r .column)) e) (ap (rowBits ks sq row) (sym f)) in
+        q .go total all (rowBits ks sq row (s .column) ++ rest)
+        (subst (λ (l : List ℕ). Walk total all out l r) (ap (λ (l : List ℕ). l ++ rest) b ∙ append-assoc (lowBits n x) (rowBits ks sq row (s .column)) rest) k);
+  }
+
+  pub goes-one : {out out′ : List ℕ} {r s : Run} {x : ℕ} → r .column < length ks → getD ks (r .column) 0 ≡ 0 → x ≡ bitXor (getD sq (r .column) 0) (getD row (r .column) 0) → s .column ≡ r .column + 1
+      → Pushed 1 x out out′ r s → Goes ks sq row out out′ r s
+  goes-one {out} {out′} {r} {s} {x} h z e f q =
+      let o : r .column + 0 ≡ r .column = omega arith in
+      goes-push 1 x (omega arith) (λ k l. let y : r .column + k ≡ r .column = omega arith in ap (λ (i : ℕ). getD ks i 0) y ∙ z)
+      (run-one (λ k. bitXor (getD sq (r .column + k) 0) (getD row (r .column + k) 0)) ∙ ap (λ (i : ℕ). bitXor (getD sq i 0) (getD row i 0)) o ∙ sym e) f q
+
+  pub goes-eight : {out out′ : List ℕ} {r s : Run} {kinds u v x : ℕ} → r .column + 8 ≤ length ks → kinds ≡ eightOf (behind ks (r .column)) → kinds ≡ 0 → u ≡ eightOf (behind sq (r .column)) → v ≡ eightOf (behind row (r .column))
+      → Gathered (bitXor u v) x → s .column ≡ r .column + 8 → Pushed 8 x out out′ r s → Goes ks sq row out out′ r s
+  goes-eight {out} {out′} {r} {s} {kinds} {u} {v} {x} h e z eu ev g f q =
+      let both = xor-eight (behind sq (r .column)) (behind row (r .column)) (λ k. omega (arith, a .modules (r .column + k))) (λ k. omega (arith, a .masks (r .column + k))) in
+      goes-push 8 x h (eight-zero (behind ks (r .column)) (sym e ∙ z))
+      (run-eight (λ k. bitXor (getD sq (r .column + k) 0) (getD row (r .column + k) 0)) ∙ sym (g .is (λ k. bitXor (getD sq (r .column + k) 0) (getD row (r .column + k) 0)) (bits-small (r .column)) (ap₂ bitXor eu ev ∙ both))) f q
+
+  pub goes-skip : {out : List ℕ} {r s : Run} → r .column < length ks → getD ks (r .column) 0 ≢ 0 → Skipped ks (r .column + 1) (s .column)
+      → s .n ≡ r .n → s .value ≡ r .value → s .bits ≡ r .bits → Goes ks sq row out out r s
+  goes-skip {out} {r} {s} h z q n v b = record {
+    go = λ total all rest k. record {
+      words = subst (λ (i : ℕ). Words total all out (lowBits (s .bits) (s .value) ++ (rowBits ks sq row (s .column) ++ rest)) i) (sym n)
+          (same-words (ap₂ (λ (l t : List ℕ). l ++ (t ++ rest)) (sym (ap₂ lowBits b v)) passed) (k .words));
+    };
+  }
+    where
+      passed : rowBits ks sq row (r .column) ≡ rowBits ks sq row (s .column)
+      passed =
+          let e : r .column + (s .column - r .column) ≡ s .column = omega (arith, q .least) in
+          from-misses (λ k. getD row k 0) ks sq (omega (arith, a .size)) (s .column - r .column) (r .column) (omega (arith, a .size, q .most, q .least)) (λ k lo hi. skipped-from q z k lo (omega arith)) ∙ ap (rowBits ks sq row) e
+
+pub goes-none : {ks sq row out : List ℕ} {r : Run} → Goes ks sq row out out r r
+goes-none = record { go = λ total all rest k. k }
+
+pub goes-on : {ks sq row a b c : List ℕ} {r s t : Run} → Goes ks sq row a b r s → Goes ks sq row b c s t → Goes ks sq row a c r t
+goes-on f g = record { go = λ total all rest k. g .go total all rest (f .go total all rest k) }

@@ -1,0 +1,36 @@
+use Rattle.codewords.specs.Codewords.{maskBit, codewordsOf, dataBits}
+use lib.ListN.{length, take, drop}
+use lib.Seq.{length-take-le}
+use mathlib.Core.List.{List, _++_}
+use mathlib.Core.Path.{_≡_, sym, ap, _∙_}
+use Prim.Native.Nat.{ℕ, _*_, _≤_}
+use native.Mathlib.Omega.{arith}
+use borrow.Author.Needs.{needs}
+use Rattle.placement.proofs.read_codewords.Statement.{statement}
+use Rattle.placement.proofs.read_codewords.Tie as tie
+
+slice-aggregate-read-rows : tie.Need-slice-aggregate-read-rows
+slice-aggregate-read-rows c = let start = c .before .before .before .before in sym (length-take-le (start .args .total) (start .args .out .now) (start .pre .1 .0))
+
+read-rows-requires : tie.Need-read-rows-requires
+read-rows-requires c κs =
+    let start = c .before .before .before .before in
+    let l = length-take-le (start .args .total) (start .args .out .now) (start .pre .1 .0) in
+    (start .pre .0 .0, start .pre .0 .1, start .pre .0 .2, start .pre .0 .3, omega (arith, l, start .pre .1 .1))
+
+returns : tie.Need-returns
+returns c =
+    let start = c .before .before .before .before .before .before .before in
+    let all = dataBits (maskBit (start .args .side) (start .args .mask)) 0 (start .args .kinds .now) (start .args .square .now) in
+    let l = length-take-le (start .args .total) (start .args .out .now) (start .pre .1 .0) in
+    ap (λ (o : List ℕ). o ++ drop (start .args .total) (start .args .out .now)) (c .before .before .read-rows .ensures ∙ ap (λ (n : ℕ). codewordsOf n all) l)
+
+pub read-codewords-spec : {M : Type 1} → statement M
+read-codewords-spec =
+    tie.close
+    (tie.spec
+    (λ c. search needs)
+    slice-aggregate-read-rows
+    read-rows-requires
+    (λ c. search needs)
+    returns)

@@ -1,0 +1,95 @@
+-- What the functions of this crate say of each other. Nobody has to believe it.
+use mathlib.Core.Path.{_≡_}
+use mathlib.Core.Logic.{_≢_}
+use mathlib.Core.List.{List, [], _∷_, _++_}
+use Prim.Native.Nat.{ℕ, zero, suc, _+_, _-_, _*_, _^_, _<_, _≤_}
+use lib.ListN.{length, getD, take, drop, set}
+use lib.Bits.{bitXor}
+use Rattle.bits.specs.Bits.{lowBits}
+use Rattle.codewords.specs.Codewords.{codewordsOf, dataBits}
+use Rattle.placement.specs.declared.Run.{Run}
+
+-- Eight numbers as one. They are functions of 0 to 7, so that what a place holds and what is made of it are said alike.
+
+-- four bytes as one number, and eight
+abbrev pub fourOf : ℕ → ℕ → ℕ → ℕ → ℕ
+fourOf a b c d = ((d * 256 + c) * 256 + b) * 256 + a
+
+abbrev pub eightOf : (ℕ → ℕ) → ℕ
+eightOf b = fourOf (b 4) (b 5) (b 6) (b 7) * 4294967296 + fourOf (b 0) (b 1) (b 2) (b 3)
+
+-- the number that eight bits say
+abbrev pub byteOf : (ℕ → ℕ) → ℕ
+byteOf b = (b 0 * 8 + b 1 * 4 + b 2 * 2 + b 3) * 16 + (b 4 * 8 + b 5 * 4 + b 6 * 2 + b 7)
+
+-- the first n of them as a list
+unfoldable pub run : ℕ → (ℕ → ℕ) → List ℕ
+run zero b = []
+run (suc n) b = b 0 ∷ run n (λ k. b (suc k))
+
+-- what a list holds from a place on
+abbrev pub behind : List ℕ → ℕ → ℕ → ℕ
+behind s at k = getD s (at + k) 0
+
+-- bytes that are bits, gathered
+pub record Gathered (x r : ℕ) : Type 0 where
+  pub small : r < 256
+  pub is : (b : ℕ → ℕ) → ((k : ℕ) → b k < 2) → x ≡ eightOf b → r ≡ byteOf b
+
+-- Reading.
+
+-- a square of bits and at least as many kinds
+pub record Legible (ks sq : List ℕ) : Type 0 where
+  pub kinds : length sq ≤ length ks
+  pub few : length sq ≤ 65535
+  pub bits : (i : ℕ) → getD sq i 0 < 2
+
+-- the data bits from a place on
+abbrev pub bitsFrom : (ℕ → ℕ) → List ℕ → List ℕ → ℕ → List ℕ
+bitsFrom m ks sq i = dataBits m i (drop i ks) (drop i sq)
+
+-- fewer than eight bits are pending, with at most eight others above them
+pub record Pending (r : Run) : Type 0 where
+  pub few : r .bits < 8
+  pub small : r .value < 2 ^ (8 + r .bits)
+
+-- n codewords of `total` are read, and `left` are the bits from the next on
+pub record Words (total : ℕ) (all out left : List ℕ) (n : ℕ) : Type 0 where
+  pub size : length out ≡ total
+  pub few : n ≤ total
+  pub enough : 8 * (total - n) ≤ length left
+  pub is : take n out ++ codewordsOf (total - n) left ≡ codewordsOf total all
+
+-- the same where some of these bits are pending, and `rest` are the others
+pub record Walk (total : ℕ) (all out rest : List ℕ) (r : Run) : Type 0 where
+  pub words : Words total all out (lowBits (r .bits) (r .value) ++ rest) (r .n)
+
+pub record Stored (n x : ℕ) (out out′ : List ℕ) (r : ℕ) : Type 0 where
+  pub room : n < length out → (r ≡ n + 1) × (out′ ≡ set out n x)
+  pub full : length out ≤ n → (r ≡ n) × (out′ ≡ out)
+
+-- the w bits of x are no longer in front, whatever the others are
+pub record Pushed (w x : ℕ) (out out′ : List ℕ) (r s : Run) : Type 0 where
+  pub go : (total : ℕ) (all rest : List ℕ) → Walk total all out (lowBits w x ++ rest) r → Walk total all out′ rest s
+
+-- a row of a square, its kinds, and its mask in a buffer
+pub record Aligned (ks sq row : List ℕ) : Type 0 where
+  pub side : length ks ≤ 192
+  pub size : length sq ≡ length ks
+  pub room : length row ≡ 192
+  pub modules : (k : ℕ) → getD sq k 0 < 2
+  pub masks : (k : ℕ) → getD row k 0 < 2
+
+-- no data module from one column on and before another
+pub record Skipped (ks : List ℕ) (first r : ℕ) : Type 0 where
+  pub least : first ≤ r
+  pub most : r ≤ length ks
+  pub none : (k : ℕ) → first ≤ k → k < r → getD ks k 0 ≢ 0
+
+-- the data bits of a row from a column on
+abbrev pub rowBits : List ℕ → List ℕ → List ℕ → ℕ → List ℕ
+rowBits ks sq row c = bitsFrom (λ k. getD row k 0) ks sq c
+
+-- from one column of a row to another, whatever is behind the row
+pub record Goes (ks sq row out out′ : List ℕ) (r s : Run) : Type 0 where
+  pub go : (total : ℕ) (all rest : List ℕ) → Walk total all out (rowBits ks sq row (r .column) ++ rest) r → Walk total all out′ (rowBits ks sq row (s .column) ++ rest) s
