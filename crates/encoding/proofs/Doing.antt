@@ -1,15 +1,15 @@
 -- Words that are left to write, and bits that are written one part after the other.
 use mathlib.Core.Path.{_≡_, refl, _∙_, sym, subst}
 use mathlib.Core.Bool.{Bool, true, false, not}
-use mathlib.Core.List.{List, [], _∷_, _++_}
+use mathlib.Core.List.{List, [], _∷_, _++_, append-assoc, append-nil}
 use Prim.Native.Nat.{ℕ, suc, _+_, _-_, _*_, _<_, _≤_}
 use native.Mathlib.Nat.{mul-suc, mul-zero, add-zero}
 use native.Mathlib.Numerals.{add-one}
 use native.Mathlib.Omega.{arith}
-use lib.ListN.{length, getD, drop, length-append, drop-of-length-le}
-use lib.Seq.{sets, drop-cons, drop-drop}
+use lib.ListN.{length, getD, take, drop, length-append, drop-of-length-le}
+use lib.Seq.{drop-cons, drop-drop}
 use Rattle.bits.specs.Bits.{bitsOf, lowBits, wordBits}
-use Rattle.bits.proofs.Words.{sets-append, length-low, length-words}
+use Rattle.bits.proofs.Words.{length-low, length-words}
 use Rattle.script.specs.Writer.{numericWords}
 use Rattle.script.specs.declared.Glyph.{Glyph}
 use Rattle.script.specs.declared.Glyph.the-variants.{Same, Other, Lacking}
@@ -22,13 +22,13 @@ pub written-both : {s t u xs ys : List ℕ} {i a r : ℕ} → Written s i xs a t
 written-both {s} {t} {u} {xs} {ys} {i} {a} {r} p q =
     record {
       behind = q .behind ∙ rw (p .behind, length-append xs ys) (omega arith);
-      bits = q .bits ∙ rw (p .bits, p .behind) (sym (sets-append (bitsOf s) i xs ys));
+      bits = q .bits ∙ rw (p .bits) (append-assoc (take i (bitsOf s)) xs ys);
     }
 
 -- to write the words us into the bytes t from the position a on is what is left of writing ws into s from i on
 pub record Doing (w : ℕ) (s : List ℕ) (i : ℕ) (ws t : List ℕ) (a : ℕ) (us : List ℕ) : Type 0 where
   pub place : a + w * length us ≡ i + w * length ws
-  pub bits : sets (bitsOf t) a (wordBits w us) ≡ sets (bitsOf s) i (wordBits w ws)
+  pub bits : take a (bitsOf t) ++ wordBits w us ≡ take i (bitsOf s) ++ wordBits w ws
 
 pub begun : (w : ℕ) (s : List ℕ) (i : ℕ) (ws : List ℕ) → Doing w s i ws s i ws
 begun w s i ws = record { place = refl; bits = refl }
@@ -44,14 +44,14 @@ module _ {w : ℕ} {s : List ℕ} {i : ℕ} {ws t : List ℕ} {a : ℕ} where
       let b : r ≡ a + w = q .behind ∙ rw length-low in
       record {
         place = rw b (omega arith);
-        bits = rw (q .bits, b) (sym (sets-append (bitsOf t) a (lowBits w u) (wordBits w us) ∙ rw length-low) ∙ d .bits);
+        bits = rw (q .bits) (append-assoc (take a (bitsOf t)) (lowBits w u) (wordBits w us) ∙ d .bits);
       }
 
   pub all-done : Doing w s i ws t a [] → Written s i (wordBits w ws) a t
   unfolding wordBits
   all-done d =
       let k : a ≡ i + w * length ws = rw (mul-zero, add-zero) at (d .place) in
-      record { behind = rw length-words k; bits = d .bits }
+      record { behind = rw length-words k; bits = rw append-nil at (d .bits) }
 
 pub doing-as : {w : ℕ} {s : List ℕ} {i : ℕ} {ws t : List ℕ} {a : ℕ} {us vs : List ℕ} → us ≡ vs → Doing w s i ws t a us → Doing w s i ws t a vs
 doing-as e d = rw e at d

@@ -3,6 +3,7 @@ use script::Command;
 use script::Glyph;
 ghost use mathlib.Core.Path.{_≡_};
 ghost use mathlib.Core.Bool.{true};
+ghost use mathlib.Core.List.{_++_};
 ghost use Prim.Native.Nat.{_+_, _-_, _*_, _<_, _≤_};
 ghost use lib.ListN.{length, getD, take, drop, replicate};
 ghost use Rattle.bits.specs.Bits.{bitsOf, lowBits, wordBits};
@@ -154,15 +155,25 @@ fn write_eci(buf: &mut [u8], from: usize, v: usize) -> usize
     put(buf, next, 21, v)
 }
 
-// Sets all bytes to 0.
-fn clear(buf: &mut [u8])
-    ensures { λ _. ⌜ now (buf .exit) ≡ replicate (length (now (buf .entry))) 0 ⌝ }
+// Sets the bytes from a place on to 0.
+fn clear(buf: &mut [u8], from: usize)
+    requires { ⌜ from ≤ length (now buf) ⌝ }
+    ensures { λ _. ⌜ now (buf .exit) ≡ take from (now (buf .entry)) ++ replicate (length (now (buf .entry)) - from) 0 ⌝ }
 {
-    let mut i: usize = 0;
+    let mut i = from;
     while i < buf.len() {
         buf[i] = 0;
         i += 1;
     }
+}
+
+// Sets the bits from a position on to 0.
+fn pad(buf: &mut [u8], at: usize)
+    requires { ⌜ (length (now buf) ≤ 4096) × (at ≤ 8 * length (now buf)) ⌝ }
+    ensures { λ _. ⌜ bitsOf (now (buf .exit)) ≡ take at (bitsOf (now (buf .entry))) ++ replicate (8 * length (now (buf .entry)) - at) 0 ⌝ }
+{
+    bits::write_bits(buf, at, (8 - at % 8) % 8, 0);
+    clear(buf, (at + 7) / 8);
 }
 
 // The data bytes of a script and its payload that the check has accepted: their bits, and zeros behind.
@@ -170,7 +181,6 @@ pub fn encode(script: &[u8], payload: &[u8], codewords: &mut [u8])
     requires { ⌜ Fits (now script) (now payload) (length (now codewords)) ⌝ }
     ensures { λ _. ⌜ now (codewords .exit) ≡ encoded (length (now (codewords .entry))) (commandsOf (now (script .entry)) (now (payload .entry))) ⌝ }
 {
-    clear(codewords);
     let mut i: usize = 0;
     let mut j: usize = 0;
     let mut at: usize = 0;
@@ -192,4 +202,5 @@ pub fn encode(script: &[u8], payload: &[u8], codewords: &mut [u8])
             }
         }
     }
+    pad(codewords, at);
 }
