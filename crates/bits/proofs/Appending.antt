@@ -2,15 +2,16 @@
 use mathlib.Core.Path.{_≡_, refl, ap, _∙_, sym}
 use mathlib.Core.List.{List, [], _∷_, _++_, append-nil}
 use Prim.Native.Nat.{ℕ, zero, suc, _+_, _-_, _*_, _/_, _%_, _^_, _<_, _≤_}
-use native.Mathlib.Nat.{mod-lt, one-mul, suc-mul, mul-le-mul-right, lt-of-lt-of-le}
+use native.Mathlib.Nat.{mod-lt, suc-mul, mul-le-mul-right, mul-assoc, add-mul}
 use native.Mathlib.Omega.{arith}
 use lib.ListN.{length, getD, take, drop, length-append}
-use lib.Pow.{shr-shr, shl-shr, shl-exact, shl-lt, shr-lt, high, split, pow-pos, pow-add, pow-mono}
+use lib.Pow.{shr-shr, shl-shr, shl-exact, shl-lt, shr-lt, high, split, pow-pos, pow-add}
 use lib.Seq.{sets, sets-eq, take-at, take-append-le, length-take-le}
 use Rattle.bits.specs.Bits.{lowBits, bitsOf}
 use Rattle.bits.specs.Four.{fourOf}
 use Rattle.bits.proofs.Words.{length-low}
 use Rattle.bits.proofs.Bytes.{low-add}
+use Rattle.bits.proofs.Window.{one-shifted}
 
 -- a number's low bits in two parts
 pub low-split : (m k x : ℕ) → lowBits (m + k) x ≡ lowBits m (x / 2 ^ k) ++ lowBits k x
@@ -79,8 +80,9 @@ inside (a ∷ s) (suc f) r n v h l k =
 -- what `write_bits` computes
 abbrev pub Joins : ℕ → ℕ → ℕ → ℕ → Type 0
 Joins old r n v =
-    let y : ℕ = (old / 2 ^ (8 - r) * 2 ^ n) % 2 ^ 64 + v % ((1 * 2 ^ n) % 2 ^ 64) in
-    ((y * 2 ^ (32 - r - n)) % 2 ^ 64 ≡ joined old r n v) × (joined old r n v < 4294967296) × (y < 4294967296)
+    let x : ℕ = (old - old % ((1 * 2 ^ (8 - r)) % 2 ^ 64)) * 16777216 in
+    let y : ℕ = (v % ((1 * 2 ^ n) % 2 ^ 64) * 2 ^ (32 - r - n)) % 2 ^ 64 in
+    (x + y ≡ joined old r n v) × (joined old r n v < 4294967296)
 
 pub joined-is : (old r n v : ℕ) → old < 256 → r < 8 → n ≤ 24 → Joins old r n v
 unfolding joined
@@ -90,12 +92,12 @@ joined-is old r n v h l k =
     let y : ℕ = a * 2 ^ n + v % 2 ^ n in
     let o : r + (8 - r) ≡ 8 = omega arith in
     let e : r + n + p ≡ 32 = omega arith in
-    let q : (1 * 2 ^ n) % 2 ^ 64 ≡ 2 ^ n = shl-exact {a = 1} 1 n 64 (omega arith) (omega arith) ∙ one-mul (2 ^ n) in
+    let f : 8 - r + 24 ≡ n + p = omega arith in
     let s : a < 2 ^ r = shr-lt {n = old} r (8 - r) (rw o h) in
     let t : y < 2 ^ (r + n) = under a r (v % 2 ^ n) n s (mod-lt v (pow-pos n)) in
-    let u : y * 2 ^ p < 2 ^ 32 = rw e at (shl-lt (r + n) p t) in
-    let m : y < 2 ^ 32 = lt-of-lt-of-le t (pow-mono {i = r + n} {j = 32} (omega arith)) in
-    rw (q, shl-exact r n 64 s (omega arith)) (shl-exact (r + n) p 64 t (omega arith), u, m)
+    let m : old - old % 2 ^ (8 - r) ≡ a * 2 ^ (8 - r) = omega (arith, split old (8 - r)) in
+    let x : a * 2 ^ (8 - r) * 2 ^ 24 ≡ a * 2 ^ n * 2 ^ p = mul-assoc a (2 ^ (8 - r)) (2 ^ 24) ∙ rw (← pow-add 2 (8 - r) 24, f, pow-add 2 n p) (sym (mul-assoc a (2 ^ n) (2 ^ p))) in
+    (rw (one-shifted n k, one-shifted (8 - r) (omega arith), m, x, shl-exact n p 64 (mod-lt v (pow-pos n)) (omega arith)) (sym (add-mul (a * 2 ^ n) (v % 2 ^ n) (2 ^ p))), rw e at (shl-lt (r + n) p t))
   where
     under : (a r m n : ℕ) → a < 2 ^ r → m < 2 ^ n → a * 2 ^ n + m < 2 ^ (r + n)
     under a r m n i j =

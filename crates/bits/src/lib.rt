@@ -107,6 +107,7 @@ pub fn write_bits(buf: &mut [u8], at: usize, n: usize, v: usize)
         return;
     }
     let r = at % 8;
-    let before = wide(buf[i]) >> (8 - r);
-    store_four(buf, i, ((before << n) + v % (1 << n)) << (32 - r - n));
+    let old = wide(buf[i]);
+    let before = old - old % (1 << (8 - r));
+    store_four(buf, i, before * 16777216 + ((v % (1 << n)) << (32 - r - n)));
 }

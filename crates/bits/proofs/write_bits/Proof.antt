@@ -1,6 +1,7 @@
 use mathlib.Core.Path.{_≡_, ap, _∙_}
 use mathlib.Core.List.{List}
-use Prim.Native.Nat.{_+_, _*_, _/_, _%_}
+use Prim.Native.Nat.{_+_, _-_, _*_, _/_, _%_}
+use native.Mathlib.Nat.{mod-le}
 use native.Mathlib.Omega.{arith}
 use lib.ListN.{length, take}
 use lib.Pow.{pow-pos}
@@ -41,14 +42,16 @@ wide-requires c κs = search needs
 sub-before : tie.Need-sub-before
 sub-before c = search needs
 
-shr-before : tie.Need-shr-before
-shr-before c = search needs
+shl-before : tie.Need-shl-before
+shl-before c = search needs
 
-shl-store-four : tie.Need-shl-store-four
-shl-store-four c = search needs
+rem-before : tie.Need-rem-before
+rem-before c =
+    let a = c .before .before .before .before .args in
+    rw (one-shifted (8 - a .at % 8) (omega arith)) (pow-pos (8 - a .at % 8))
 
-shl-store-four-2 : tie.Need-shl-store-four-2
-shl-store-four-2 c = search needs
+sub-before-2 : tie.Need-sub-before-2
+sub-before-2 c = mod-le _ _
 
 -- what is stored
 joins : (c : tie.After-store-four-arg) → Joins (c .before .wide .result) (c .before .before .before .before .before .args .at % 8) (c .before .before .before .before .before .args .n) (c .before .before .before .before .before .args .v)
@@ -56,13 +59,16 @@ joins c =
     let a = c .before .before .before .before .before .args in
     joined-is (c .before .wide .result) (a .at % 8) (a .n) (a .v) (c .before .wide .ensures .1) (omega arith) (omega arith)
 
+mul-store-four : tie.Need-mul-store-four
+mul-store-four c = search needs
+
+shl-store-four : tie.Need-shl-store-four
+shl-store-four c = search needs
+
 rem-store-four : tie.Need-rem-store-four
 rem-store-four c =
     let a = c .before .before .before .before .before .args in
     rw (one-shifted (a .n) (omega arith)) (pow-pos (a .n))
-
-add-store-four : tie.Need-add-store-four
-add-store-four c = let j = joins c in omega arith
 
 sub-store-four : tie.Need-sub-store-four
 sub-store-four c = search needs
@@ -70,8 +76,11 @@ sub-store-four c = search needs
 sub-store-four-2 : tie.Need-sub-store-four-2
 sub-store-four-2 c = search needs
 
-shl-store-four-3 : tie.Need-shl-store-four-3
-shl-store-four-3 c = search needs
+shl-store-four-2 : tie.Need-shl-store-four-2
+shl-store-four-2 c = search needs
+
+add-store-four : tie.Need-add-store-four
+add-store-four c = let j = joins c in rw (j .0) (omega arith)
 
 store-four-requires : tie.Need-store-four-requires
 store-four-requires c κs =
@@ -100,14 +109,16 @@ write-bits-spec =
     slice-read-wide
     wide-requires
     sub-before
-    shr-before
+    shl-before
+    rem-before
+    sub-before-2
+    mul-store-four
     shl-store-four
-    shl-store-four-2
     rem-store-four
-    add-store-four
     sub-store-four
     sub-store-four-2
-    shl-store-four-3
+    shl-store-four-2
+    add-store-four
     store-four-requires
     same-length-2
     returns-2)
