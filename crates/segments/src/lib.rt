@@ -5,9 +5,9 @@
 use bits::Word;
 ghost use mathlib.Core.Path.{_≡_};
 ghost use mathlib.Core.Bool.{true, false};
-ghost use mathlib.Core.List.{[], _∷_};
+ghost use mathlib.Core.List.{[], _∷_, _++_};
 ghost use Prim.Native.Nat.{_+_, _*_, _^_, _<_, _≤_};
-ghost use lib.ListN.{length, drop, set};
+ghost use lib.ListN.{length, take, drop, set};
 ghost use lib.Seq.{sets};
 ghost use Rattle.bits.specs.Bits.{bitsOf};
 ghost use Rattle.segments.specs.Script.{commandOf, runCommand, eci};
@@ -547,16 +547,33 @@ pub enum Answer {
     ScriptFull,
 }
 
-// Segments from data: payload and script in lent buffers, which a refusal leaves as they were.
-pub fn from_data(data: &[u8], payload: &mut [u8], script: &mut [u8]) -> Answer
+// Copies the first n bytes.
+fn copy(to: &mut [u8], from: &[u8], n: usize)
+    requires { ⌜ (n ≤ length (now to)) × (n ≤ length (now from)) ⌝ }
+    ensures { λ _. ⌜ now (to .exit) ≡ take n (now (from .entry)) ++ drop n (now (to .entry)) ⌝ }
+{
+    let mut i: usize = 0;
+    while i < n {
+        to[i] = from[i];
+        i += 1;
+    }
+}
+
+// Segments from data: payload and script in lent buffers, which a refusal leaves as they were. The first pass stores into spare buffers of
+// any length; what fits them is copied, so that data are decoded once, and only for what does not fit is there a second pass.
+pub fn from_data_with(
+    data: &[u8],
+    payload: &mut [u8],
+    script: &mut [u8],
+    spare: &mut [u8],
+    other: &mut [u8],
+) -> Answer
     ensures { λ r. ⌜ told r (now (payload .exit)) (now (script .exit)) ≡ fromData (now («data» .entry)) (now (payload .entry)) (now (script .entry)) ⌝ }
 {
     if 3886 < data.len() {
         return Answer::TooLong;
     }
-    let mut spare = [0u8; 1];
-    let mut other = [0u8; 1];
-    let first = pass(data, &mut spare, &mut other);
+    let first = pass(data, spare, other);
     match first {
         Count::Done(n, m) => {
             if n == 0 {
@@ -568,10 +585,28 @@ pub fn from_data(data: &[u8], payload: &mut [u8], script: &mut [u8]) -> Answer
             if script.len() < m {
                 return Answer::ScriptFull;
             }
-            pass(data, payload, script);
+            if spare.len() < n {
+                pass(data, payload, script);
+                return Answer::Read(n, m);
+            }
+            if other.len() < m {
+                pass(data, payload, script);
+                return Answer::Read(n, m);
+            }
+            copy(payload, spare, n);
+            copy(script, other, m);
             Answer::Read(n, m)
         }
         Count::Cut => Answer::Broken,
         Count::Lacking => Answer::Broken,
     }
+}
+
+// The same with spare buffers of its own.
+pub fn from_data(data: &[u8], payload: &mut [u8], script: &mut [u8]) -> Answer
+    ensures { λ r. ⌜ told r (now (payload .exit)) (now (script .exit)) ≡ fromData (now («data» .entry)) (now (payload .entry)) (now (script .entry)) ⌝ }
+{
+    let mut spare = [0u8; 8192];
+    let mut other = [0u8; 4096];
+    from_data_with(data, payload, script, &mut spare, &mut other)
 }
