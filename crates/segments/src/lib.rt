@@ -109,33 +109,50 @@ fn numeric(s: &[u8], from: usize, out: &mut [u8], to: usize) -> Count
     }
 }
 
+// What is added to a 6-bit value for its byte in the first subset of the text mode. The answers are constants, so that the compiler picks
+// one without a jump, which in text would often be guessed wrong.
+fn first_offset(w: usize) -> usize
+    requires { ⌜ w < 62 ⌝ }
+    ensures { λ r. ⌜ (r < 128) × (w + r ≡ charOf true w) ⌝ }
+{
+    if w < 10 {
+        return 48;
+    }
+    if w < 36 {
+        return 55;
+    }
+    61
+}
+
+// The same in the second subset.
+fn second_offset(w: usize) -> usize
+    requires { ⌜ w < 62 ⌝ }
+    ensures { λ r. ⌜ (r < 128) × (w + r ≡ charOf false w) ⌝ }
+{
+    if w < 28 {
+        return 0;
+    }
+    if w < 44 {
+        return 4;
+    }
+    if w < 51 {
+        return 14;
+    }
+    if w < 57 {
+        return 40;
+    }
+    66
+}
+
 // The byte of a 6-bit value in a subset of the text mode.
 pub fn text_char(first: bool, w: usize) -> usize
     requires { ⌜ w < 62 ⌝ }
     ensures { λ r. ⌜ (r < 256) × (r ≡ charOf first w) ⌝ }
 {
     if first {
-        if w < 10 {
-            return 48 + w;
-        }
-        if w < 36 {
-            return 55 + w;
-        }
-        return 61 + w;
+        return w + first_offset(w);
     }
-    if w < 28 {
-        return w;
-    }
-    if w < 44 {
-        return 4 + w;
-    }
-    if w < 51 {
-        return 14 + w;
-    }
-    if w < 57 {
-        return 40 + w;
-    }
-    66 + w
+    w + second_offset(w)
 }
 
 // Text mode: two subsets of 6-bit values, switched by 62 and ended by 63. Each segment starts in the first.
