@@ -31,10 +31,10 @@ unfolding bitsOf fourOf
 four-bits x =
     sym
     (low-split 8 24 x
-      ∙ ap (λ (l : List ℕ). lowBits 8 (x / 2 ^ 24) ++ l)
-          (low-split 8 16 x
-            ∙ rw (sym (low-mod 8 (x / 2 ^ 16)))
-                (ap (λ (l : List ℕ). lowBits 8 (x / 2 ^ 16 % 2 ^ 8) ++ l) (low-split 8 8 x ∙ rw (sym (low-mod 8 (x / 2 ^ 8)), sym (low-mod 8 x), append-nil)))))
+    ∙ ap (λ (l : List ℕ). lowBits 8 (x / 2 ^ 24) ++ l)
+    (low-split 8 16 x
+    ∙ rw (sym (low-mod 8 (x / 2 ^ 16)))
+    (ap (λ (l : List ℕ). lowBits 8 (x / 2 ^ 16 % 2 ^ 8) ++ l) (low-split 8 8 x ∙ rw (sym (low-mod 8 (x / 2 ^ 8)), sym (low-mod 8 x), append-nil)))))
 
 -- the top bits of a byte, then the n low bits of v, at the top of 32 bits
 pub joined : ℕ → ℕ → ℕ → ℕ → ℕ

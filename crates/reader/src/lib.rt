@@ -201,7 +201,13 @@ fn tell_segments(
 }
 
 // The stream of a square corrected, and its segments.
-fn tell_blocks(kinds: &mut [u8], square: &[u8], m: Mark, payload: &mut [u8], script: &mut [u8]) -> Told
+fn tell_blocks(
+    kinds: &mut [u8],
+    square: &[u8],
+    m: Mark,
+    payload: &mut [u8],
+    script: &mut [u8],
+) -> Told
     requires { ⌜ Fitting m (now square) × Drawn (m .version) (now kinds) × (8 * totalOf (m .version) ≤ dataModules (layoutOf (m .version))) ⌝ }
     ensures { λ r. ⌜ (readingIn m r (now (payload .exit)) (now (script .exit)) ≡ bodyOf (m .version) (m .level) (m .mask) (m .distance) (now (square .entry)) (now (payload .entry)) (now (script .entry))) × Small r ⌝ }
 {
