@@ -12,7 +12,7 @@ ghost use lib.Seq.{sets};
 ghost use Rattle.bits.specs.Bits.{bitsOf};
 ghost use Rattle.segments.specs.Script.{commandOf, runCommand, eci};
 ghost use Rattle.segments.specs.Segments.{digits, charOf, highOf, lowOf, regionSize, firstOf, secondOf, fourBytes, eciOf, eciValue, segmentOf, segmentsOf};
-ghost use Rattle.segments.specs.Passes.{Left, Inside, RegionLeft, EciLeft, Stepped, Passed, numericAt, textAt, bytesRunAt, bytesAt, regionAt, doubleByteAt, fourByteAt, runAt};
+ghost use Rattle.segments.specs.Passes.{countOf, Left, Inside, RegionLeft, EciLeft, Stepped, Passed, numericAt, textAt, bytesRunAt, bytesAt, regionAt, doubleByteAt, fourByteAt, runAt};
 ghost use Rattle.segments.specs.FromData.{fromData, told};
 
 // Two numbers: a position with the payload bytes there or with an ECI's value, or the lengths of payload and script.
@@ -293,34 +293,48 @@ fn same_region(s: &[u8], from: usize, out: &mut [u8], to: usize, one: bool) -> R
     }
 }
 
-// Region one: 12 bits a character; hands over to region two at 4094.
-fn region_one(s: &[u8], from: usize, out: &mut [u8], to: usize) -> Count
+// Region one: 12 bits a character; hands over to region two at 4094. The answer is one number, 0 for cut, 1 for lacking, else 2 more than
+// position and bytes: a switch then needs less of the stack, and less time.
+fn region_one(s: &[u8], from: usize, out: &mut [u8], to: usize) -> usize
     requires { ⌜ (length (now s) ≤ 4096) × (from ≤ 8 * length (now s)) × (to ≤ from) ⌝ }
-    ensures { λ r. ⌜ Left (regionAt (now (s .entry)) from to (now (out .entry)) true) r (now (out .exit)) ⌝ }
-    ensures { λ r. ⌜ Inside (now (s .entry)) from to r ⌝ }
+    ensures { λ r. ⌜ Left (regionAt (now (s .entry)) from to (now (out .entry)) true) (countOf r) (now (out .exit)) ⌝ }
+    ensures { λ r. ⌜ Inside (now (s .entry)) from to (countOf r) ⌝ }
 {
     let ran = same_region(s, from, out, to, true);
     match ran {
-        Region::End(at, n) => Count::Done(at, n),
+        Region::End(at, n) => at * 65536 + n + 2,
         Region::Switch(at, n) => region_two(s, at, out, n),
-        Region::Cut => Count::Cut,
-        Region::Lacking => Count::Lacking,
+        Region::Cut => 0,
+        Region::Lacking => 1,
     }
 }
 
 // Region two: 12 bits a character; hands back to region one at 4094.
-fn region_two(s: &[u8], from: usize, out: &mut [u8], to: usize) -> Count
+fn region_two(s: &[u8], from: usize, out: &mut [u8], to: usize) -> usize
     requires { ⌜ (length (now s) ≤ 4096) × (from ≤ 8 * length (now s)) × (to ≤ from) ⌝ }
-    ensures { λ r. ⌜ Left (regionAt (now (s .entry)) from to (now (out .entry)) false) r (now (out .exit)) ⌝ }
-    ensures { λ r. ⌜ Inside (now (s .entry)) from to r ⌝ }
+    ensures { λ r. ⌜ Left (regionAt (now (s .entry)) from to (now (out .entry)) false) (countOf r) (now (out .exit)) ⌝ }
+    ensures { λ r. ⌜ Inside (now (s .entry)) from to (countOf r) ⌝ }
 {
     let ran = same_region(s, from, out, to, false);
     match ran {
-        Region::End(at, n) => Count::Done(at, n),
+        Region::End(at, n) => at * 65536 + n + 2,
         Region::Switch(at, n) => region_one(s, at, out, n),
-        Region::Cut => Count::Cut,
-        Region::Lacking => Count::Lacking,
+        Region::Cut => 0,
+        Region::Lacking => 1,
     }
+}
+
+// What the answer of a region says.
+fn region_count(r: usize) -> Count
+    ensures { λ c. ⌜ c ≡ countOf r ⌝ }
+{
+    if r == 0 {
+        return Count::Cut;
+    }
+    if r == 1 {
+        return Count::Lacking;
+    }
+    Count::Done((r - 2) / 65536, (r - 2) % 65536)
 }
 
 // The two bytes of a 15-bit value.
@@ -441,8 +455,8 @@ fn run_of_mode(s: &[u8], from: usize, out: &mut [u8], to: usize, mode: usize) ->
         1 => numeric(s, from, out, to),
         2 => text_mode(s, from, out, to),
         3 => bytes_mode(s, from, out, to),
-        4 => region_one(s, from, out, to),
-        5 => region_two(s, from, out, to),
+        4 => region_count(region_one(s, from, out, to)),
+        5 => region_count(region_two(s, from, out, to)),
         6 => double_byte(s, from, out, to),
         7 => four_byte(s, from, out, to),
         _ => Count::Lacking,
