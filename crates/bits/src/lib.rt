@@ -95,8 +95,8 @@ fn store_four(buf: &mut [u8], i: usize, x: usize)
     buf[i + 3] = (x % 256) as u8;
 }
 
-// Writes the n low bits of a number behind the bits before a position; what stood behind them is not kept. Only the first byte is read,
-// and four are stored at once: a word does not wait for the one before it.
+// Writes the n low bits of a number behind the bits before a position; what stood behind them is not kept. One byte is read and four are
+// stored at once: to read all four back, where some were just stored, the processor would wait for the stores.
 pub fn write_bits(buf: &mut [u8], at: usize, n: usize, v: usize)
     requires { ⌜ (length (now buf) ≤ 4096) × (at + n ≤ 8 * length (now buf)) × (n ≤ 24) ⌝ }
     ensures { λ _. ⌜ take (at + n) (bitsOf (now (buf .exit))) ≡ take at (bitsOf (now (buf .entry))) ++ lowBits n v ⌝ }

@@ -1,7 +1,7 @@
 // Segments of the data codewords (000: `parse` and the functions that it calls).
 //
-// Each mode has one function for both passes: what does not fit the lent buffer is counted and not stored, so the first pass, over
-// buffers of one byte, only counts.
+// What does not fit a lent buffer is counted and not stored. So a pass over spare buffers writes nothing that a refusal would have to undo,
+// and the same functions serve the second pass, where the spare buffers were too short.
 use bits::Word;
 ghost use mathlib.Core.Path.{_≡_};
 ghost use mathlib.Core.Bool.{true, false};
