@@ -39,7 +39,7 @@ even c k n h =
     let e : k ≡ k - n - 1 + 1 + n = omega arith in
     ap (λ (z : ℕ). c * 2 ^ z) e ∙ rw (pow-add 2 (k - n - 1 + 1) n, pow-add 2 (k - n - 1) 1) (sym (mul-assoc (c * 2 ^ (k - n - 1)) 2 (2 ^ n) ∙ mul-assoc c (2 ^ (k - n - 1)) (2 * 2 ^ n) ∙ ap (λ (z : ℕ). c * z) (sym (mul-assoc (2 ^ (k - n - 1)) 2 (2 ^ n)))))
 
-low-add : (n k c x : ℕ) → n ≤ k → lowBits n (c * 2 ^ k + x) ≡ lowBits n x
+pub low-add : (n k c x : ℕ) → n ≤ k → lowBits n (c * 2 ^ k + x) ≡ lowBits n x
 unfolding lowBits
 low-add zero k c x h = refl
 low-add (suc n) k c x h = rw (bit, low-add n k c x (omega arith))

@@ -3,4 +3,5 @@ pub mod Writing
 pub mod Words
 pub mod Bytes
 pub mod Window
+pub mod Appending
 pub mod Tests

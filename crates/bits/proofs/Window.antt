@@ -74,7 +74,7 @@ window-read s f k r n p h e =
     rw (z, take-add r (n + p) t, take-add n p (drop r t), ← drop-drop r (8 * f) (bitsOf s)) (rw (lm, lz) at c)
 
 -- what `read_bits` answers
-pub one-shifted : (n : ℕ) → n ≤ 21 → (1 * 2 ^ n) % 2 ^ 64 ≡ 2 ^ n
+pub one-shifted : (n : ℕ) → n ≤ 24 → (1 * 2 ^ n) % 2 ^ 64 ≡ 2 ^ n
 one-shifted n h = shl-exact {a = 1} 1 n 64 (omega arith) (omega arith) ∙ one-mul (2 ^ n)
 
 pub read-window : (s : List ℕ) (at n v : ℕ) → at + n ≤ 8 * length s → n ≤ 21 → v ≡ window s (at / 8) ((at + n + 7) / 8 - at / 8)
@@ -84,7 +84,7 @@ read-window s at n v h l e =
     let z : 8 * (at / 8) + at % 8 ≡ at = omega arith in
     let k : n ≤ length (drop at (bitsOf s)) = rw length-left (omega arith) in
     let w = window-read s (at / 8) ((at + n + 7) / 8 - at / 8) (at % 8) n (8 * ((at + n + 7) / 8) - (at + n)) (omega arith) (omega arith) in
-    rw (le-leb n (length (drop at (bitsOf s))) k, e, one-shifted n l, w, z)
+    rw (le-leb n (length (drop at (bitsOf s))) k, e, one-shifted n (omega arith), w, z)
 
 -- four bytes at once
 pub window-four : (s : List ℕ) (f a b c d : ℕ) → f + 4 ≤ length s → (a < 256) × (b < 256) × (c < 256) × (d < 256) → a ≡ getD s f 0 → b ≡ getD s (f + 1) 0 → c ≡ getD s (f + 2) 0 → d ≡ getD s (f + 3) 0
@@ -103,4 +103,4 @@ read-four s at n v h l e =
     let z : 8 * (at / 8) + at % 8 ≡ at = omega arith in
     let k : n ≤ length (drop at (bitsOf s)) = rw length-left (omega arith) in
     let w = window-read s (at / 8) 4 (at % 8) n (32 - at % 8 - n) h (omega arith) in
-    rw (le-leb n (length (drop at (bitsOf s))) k, e, one-shifted n l, w, z)
+    rw (le-leb n (length (drop at (bitsOf s))) k, e, one-shifted n (omega arith), w, z)

@@ -1,2 +1,3 @@
 -- Bits of bytes, and words of bits.
 pub mod Bits
+pub mod Four

@@ -1,9 +1,11 @@
 // Bits of bytes, high bit first (000: `Bits`): functions on a slice and a position.
 ghost use mathlib.Core.Path.{_≡_};
 ghost use Prim.Native.Nat.{_+_, _*_, _<_, _≤_};
-ghost use lib.ListN.{length, getD, drop, set};
+ghost use mathlib.Core.List.{_++_};
+ghost use lib.ListN.{length, getD, take, drop, set};
 ghost use lib.Seq.{sets};
 ghost use Rattle.bits.specs.Bits.{bitsOf, readOf, lowBits};
+ghost use Rattle.bits.specs.Four.{fourOf};
 
 // What reading some bits gives.
 pub enum Word {
@@ -70,8 +72,8 @@ pub fn write_bit(buf: &mut [u8], at: usize, b: usize)
     }
 }
 
-// Writes the n low bits of a number from a position on.
-pub fn write_bits(buf: &mut [u8], at: usize, n: usize, v: usize)
+// The same near the end of the bytes, bit by bit.
+fn write_last(buf: &mut [u8], at: usize, n: usize, v: usize)
     requires { ⌜ (length (now buf) ≤ 4096) × (at + n ≤ 8 * length (now buf)) × (n ≤ 24) ⌝ }
     ensures { λ _. ⌜ bitsOf (now (buf .exit)) ≡ sets (bitsOf (now (buf .entry))) at (lowBits n v) ⌝ }
 {
@@ -80,4 +82,32 @@ pub fn write_bits(buf: &mut [u8], at: usize, n: usize, v: usize)
         write_bit(buf, at + i, (v >> (n - 1 - i)) % 2);
         i += 1;
     }
+}
+
+// Stores a number as four bytes.
+fn store_four(buf: &mut [u8], i: usize, x: usize)
+    requires { ⌜ (i + 4 ≤ length (now buf)) × (x < 4294967296) ⌝ }
+    ensures { λ _. ⌜ now (buf .exit) ≡ sets (now (buf .entry)) i (fourOf x) ⌝ }
+{
+    buf[i] = (x >> 24) as u8;
+    buf[i + 1] = ((x >> 16) % 256) as u8;
+    buf[i + 2] = ((x >> 8) % 256) as u8;
+    buf[i + 3] = (x % 256) as u8;
+}
+
+// Writes the n low bits of a number behind the bits before a position; what stood behind them is not kept. One byte is read and four are
+// stored at once: to read all four back, where some were just stored, the processor would wait for the stores.
+pub fn write_bits(buf: &mut [u8], at: usize, n: usize, v: usize)
+    requires { ⌜ (length (now buf) ≤ 4096) × (at + n ≤ 8 * length (now buf)) × (n ≤ 24) ⌝ }
+    ensures { λ _. ⌜ take (at + n) (bitsOf (now (buf .exit))) ≡ take at (bitsOf (now (buf .entry))) ++ lowBits n v ⌝ }
+{
+    let i = at / 8;
+    if buf.len() - i < 4 {
+        write_last(buf, at, n, v);
+        return;
+    }
+    let r = at % 8;
+    let old = wide(buf[i]);
+    let before = old - old % (1 << (8 - r));
+    store_four(buf, i, before * 16777216 + ((v % (1 << n)) << (32 - r - n)));
 }

@@ -1,34 +1,32 @@
 -- Words that are left to write, and bits that are written one part after the other.
 use mathlib.Core.Path.{_≡_, refl, _∙_, sym, subst}
 use mathlib.Core.Bool.{Bool, true, false, not}
-use mathlib.Core.List.{List, [], _∷_, _++_}
-use Prim.Native.Nat.{ℕ, suc, _+_, _-_, _*_, _<_, _≤_}
-use native.Mathlib.Nat.{mul-suc, mul-zero, add-zero}
+use mathlib.Core.List.{List, [], _∷_, _++_, append-assoc, append-nil}
+use Prim.Native.Nat.{ℕ, suc, _+_, _-_, _*_, _/_, _%_, _^_, _<_, _≤_}
+use native.Mathlib.Nat.{mul-suc, mul-zero, add-zero, mod-lt}
 use native.Mathlib.Numerals.{add-one}
 use native.Mathlib.Omega.{arith}
-use lib.ListN.{length, getD, drop, length-append, drop-of-length-le}
-use lib.Seq.{sets, drop-cons, drop-drop}
+use lib.ListN.{length, getD, take, drop, length-append, length-drop, drop-of-length-le}
+use lib.Pow.{high, split, pow-pos}
+use lib.Seq.{drop-cons, drop-drop, take-all}
 use Rattle.bits.specs.Bits.{bitsOf, lowBits, wordBits}
-use Rattle.bits.proofs.Words.{sets-append, length-low, length-words}
+use Rattle.bits.proofs.Words.{length-low, length-words}
+use Rattle.bits.proofs.Bytes.{low-add}
+use Rattle.bits.proofs.Appending.{low-split}
 use Rattle.script.specs.Writer.{numericWords}
 use Rattle.script.specs.declared.Glyph.{Glyph}
 use Rattle.script.specs.declared.Glyph.the-variants.{Same, Other, Lacking}
 use Rattle.script.specs.Glyphs.{wordsOf, hasAll, stepOf, switchOf, endOf, Glyphed}
 use Rattle.script.proofs.Tests.{false-true}
 use Rattle.script.proofs.Runs.{just-end}
-use Rattle.encoding.specs.Written.{Written}
+use Rattle.encoding.specs.Written.{Written, Doing, groupAt}
 
 pub written-both : {s t u xs ys : List ℕ} {i a r : ℕ} → Written s i xs a t → Written t a ys r u → Written s i (xs ++ ys) r u
 written-both {s} {t} {u} {xs} {ys} {i} {a} {r} p q =
     record {
       behind = q .behind ∙ rw (p .behind, length-append xs ys) (omega arith);
-      bits = q .bits ∙ rw (p .bits, p .behind) (sym (sets-append (bitsOf s) i xs ys));
+      bits = q .bits ∙ rw (p .bits) (append-assoc (take i (bitsOf s)) xs ys);
     }
-
--- to write the words us into the bytes t from the position a on is what is left of writing ws into s from i on
-pub record Doing (w : ℕ) (s : List ℕ) (i : ℕ) (ws t : List ℕ) (a : ℕ) (us : List ℕ) : Type 0 where
-  pub place : a + w * length us ≡ i + w * length ws
-  pub bits : sets (bitsOf t) a (wordBits w us) ≡ sets (bitsOf s) i (wordBits w ws)
 
 pub begun : (w : ℕ) (s : List ℕ) (i : ℕ) (ws : List ℕ) → Doing w s i ws s i ws
 begun w s i ws = record { place = refl; bits = refl }
@@ -44,27 +42,61 @@ module _ {w : ℕ} {s : List ℕ} {i : ℕ} {ws t : List ℕ} {a : ℕ} where
       let b : r ≡ a + w = q .behind ∙ rw length-low in
       record {
         place = rw b (omega arith);
-        bits = rw (q .bits, b) (sym (sets-append (bitsOf t) a (lowBits w u) (wordBits w us) ∙ rw length-low) ∙ d .bits);
+        bits = rw (q .bits) (append-assoc (take a (bitsOf t)) (lowBits w u) (wordBits w us) ∙ d .bits);
+      }
+
+  -- two words at once
+  pub two-room : {u v : ℕ} {us : List ℕ} (m : ℕ) → Doing w s i ws t a (u ∷ v ∷ us) → i + w * length ws ≤ m → a + (w + w) ≤ m
+  two-room {u} {v} {us} m d h = let k : a + (w * length us + w + w) ≡ i + w * length ws = rw (mul-suc, mul-suc) at (d .place) in omega arith
+
+  pub two-done : {u v : ℕ} {us : List ℕ} {t′ : List ℕ} {r : ℕ} → Doing w s i ws t a (u ∷ v ∷ us) → Written t a (lowBits w u ++ lowBits w v) r t′ → Doing w s i ws t′ r us
+  unfolding wordBits
+  two-done {u} {v} {us} {t′} {r} d q =
+      let k : a + (w * length us + w + w) ≡ i + w * length ws = rw (mul-suc, mul-suc) at (d .place) in
+      let b : r ≡ a + (w + w) = q .behind ∙ rw (length-append, length-low, length-low) in
+      record {
+        place = rw b (omega arith);
+        bits = rw (q .bits) (append-assoc (take a (bitsOf t)) (lowBits w u ++ lowBits w v) (wordBits w us) ∙ rw (append-assoc (lowBits w u) (lowBits w v) (wordBits w us)) (d .bits));
       }
 
   pub all-done : Doing w s i ws t a [] → Written s i (wordBits w ws) a t
   unfolding wordBits
   all-done d =
       let k : a ≡ i + w * length ws = rw (mul-zero, add-zero) at (d .place) in
-      record { behind = rw length-words k; bits = d .bits }
+      record { behind = rw length-words k; bits = rw append-nil at (d .bits) }
+
+-- the part of a run from a place on, as a slice of it
+pub all-left : (run : List ℕ) (k : ℕ) → take (length run - k) (drop k run) ≡ drop k run
+all-left run k = take-all (length run - k) (drop k run) (rw length-drop (omega arith))
+
+-- what was left is written too
+pub doing-rest : {w : ℕ} {s : List ℕ} {i : ℕ} {ws t : List ℕ} {a : ℕ} {us u : List ℕ} {r : ℕ} → Doing w s i ws t a us → Written t a (wordBits w us) r u → Written s i (wordBits w ws) r u
+doing-rest d q = record { behind = q .behind ∙ rw (length-words, length-words) (d .place); bits = q .bits ∙ d .bits }
 
 pub doing-as : {w : ℕ} {s : List ℕ} {i : ℕ} {ws t : List ℕ} {a : ℕ} {us vs : List ℕ} → us ≡ vs → Doing w s i ws t a us → Doing w s i ws t a vs
 doing-as e d = rw e at d
 
 -- ---- digits
 
-pub three-digits : (run : List ℕ) (j : ℕ) → j + 3 ≤ length run → numericWords (drop j run) ≡ ((getD run j 0 - 48) * 100 + (getD run (j + 1) 0 - 48) * 10 + (getD run (j + 2) 0 - 48)) ∷ numericWords (drop (j + 3) run)
+pub three-digits : (run : List ℕ) (j : ℕ) → j + 3 ≤ length run → numericWords (drop j run) ≡ groupAt run j ∷ numericWords (drop (j + 3) run)
 unfolding numericWords
 three-digits run j h =
     let e1 : j + 1 ≡ suc j = omega arith in
     let e2 : j + 2 ≡ suc (suc j) = omega arith in
     let e3 : j + 3 ≡ suc (suc (suc j)) = omega arith in
     rw (e1, e2, e3, drop-cons run j 0 (omega arith), drop-cons run (suc j) 0 (omega arith), drop-cons run (suc (suc j)) 0 (omega arith))
+
+pub six-digits : (run : List ℕ) (j : ℕ) → j + 6 ≤ length run → numericWords (drop j run) ≡ groupAt run j ∷ groupAt run (j + 3) ∷ numericWords (drop (j + 6) run)
+six-digits run j h =
+    let e : j + 3 + 3 ≡ j + 6 = omega arith in
+    three-digits run j (omega arith) ∙ rw (three-digits run (j + 3) (omega arith), e)
+
+-- two words of ten bits in one
+pub two-words : (x y : ℕ) → lowBits 20 (x * 1024 + y % 1024) ≡ lowBits 10 x ++ lowBits 10 y
+two-words x y =
+    let d : (x * 2 ^ 10 + y % 2 ^ 10) / 2 ^ 10 ≡ x = high x 10 (mod-lt y (pow-pos 10)) in
+    low-split 10 10 (x * 1024 + y % 1024)
+    ∙ rw (d, low-add 10 10 x (y % 2 ^ 10) (omega arith), ← low-add 10 10 (y / 2 ^ 10) (y % 2 ^ 10) (omega arith), split y 10)
 
 pub one-digit : (run : List ℕ) (j : ℕ) → j + 1 ≡ length run → numericWords (drop j run) ≡ (getD run j 0 - 48) ∷ 1021 ∷ []
 unfolding numericWords

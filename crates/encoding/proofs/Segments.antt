@@ -1,17 +1,16 @@
 -- Segments that are left to write.
 use mathlib.Core.Path.{_≡_, refl, ap, _∙_, sym}
 use mathlib.Core.Bool.{Bool, true, false, cond}
-use mathlib.Core.List.{List, [], _∷_, _++_}
+use mathlib.Core.List.{List, [], _∷_, _++_, append-assoc, append-nil}
 use Prim.Native.Nat.{ℕ, zero, suc, _+_, _-_, _*_, _<_, _≤_}
-use native.Mathlib.Nat.{zero-add}
+use native.Mathlib.Nat.{zero-add, add-zero}
 use native.Mathlib.Omega.{arith}
 use borrow.Author.Tests.{ne-eqb, eq-eqb, ltb-false}
 use lib.Dec.{ltb, eqb}
 use lib.ListN.{length, getD, take, drop, replicate, length-append, length-drop}
-use lib.Seq.{sets, drop-drop}
+use lib.Seq.{drop-drop}
 use Rattle.bits.specs.Bits.{bitsOf, words}
 use Rattle.bits.proofs.Tests.{never}
-use Rattle.bits.proofs.Words.{sets-append}
 use Rattle.bits.proofs.Bytes.{words-bits}
 use Rattle.segments.specs.Script.{Segment, run, eci}
 use Rattle.script.specs.declared.Command.{Command}
@@ -23,7 +22,6 @@ use Rattle.script.proofs.Back.{encodings-length}
 use Rattle.script.proofs.Theorems.{accepted, uncapped}
 use Rattle.encoding.specs.Written.{Written}
 use Rattle.encoding.specs.Fits.{Fits}
-use Rattle.encoding.proofs.Zeros.{zero-bits, into-zeros}
 
 -- to write the segments hs of the rest of script and payload into the bytes t from the position a on is what is left of the whole
 pub record Left (s p : List ℕ) (n : ℕ) (t : List ℕ) (i j a : ℕ) : Type 0 where
@@ -36,10 +34,10 @@ pub record Left (s p : List ℕ) (n : ℕ) (t : List ℕ) (i j a : ℕ) : Type 0
   pub have : allHave rest ≡ true
   pub room : length (encodings whole) ≤ 8 * n
   pub place : a + length (encodings rest) ≡ length (encodings whole)
-  pub bits : sets (bitsOf t) a (encodings rest) ≡ sets (replicate (8 * n) 0) 0 (encodings whole)
+  pub bits : take a (bitsOf t) ++ encodings rest ≡ encodings whole
 
-pub begun : (s p : List ℕ) (n : ℕ) (t : List ℕ) → ((i : ℕ) → getD s i 0 < 256) → Fits s p n → t ≡ replicate n 0 → Left s p n t 0 0 0
-begun s p n t b f e =
+pub begun : (s p : List ℕ) (n : ℕ) (t : List ℕ) → ((i : ℕ) → getD s i 0 < 256) → Fits s p n → Left s p n t 0 0 0
+begun s p n t b f =
     let a = accepted s p (f .bits) b (f .accepted) in
     let gs = a .segments in
     record {
@@ -52,7 +50,7 @@ begun s p n t b f e =
       have = a .have;
       room = rw (encodings-length gs (a .again .2) (a .have)) (uncapped (f .bits) (bitsOfSegments gs) n (a .bits) (f .room) (f .long));
       place = zero-add (length (encodings gs));
-      bits = rw (e, zero-bits n);
+      bits = refl;
     }
 
 module _ (s p : List ℕ) (n : ℕ) (t : List ℕ) (i j a : ℕ) (h : i < length s) (c : Command) (e : c ≡ commandAt (drop i s)) (d : Left s p n t i j a) where
@@ -111,7 +109,7 @@ module _ (s p : List ℕ) (n : ℕ) (t : List ℕ) (i j a : ℕ) (h : i < length
     front-done t′ r l k w =
         let q = parts in
         let m = d .enough in
-        let b : sets (bitsOf t) a (encodingOf g ++ encodings (f .0)) ≡ sets (replicate (8 * n) 0) 0 (encodings (d .whole)) = rw (f .1) at (d .bits) in
+        let b : take a (bitsOf t) ++ (encodingOf g ++ encodings (f .0)) ≡ encodings (d .whole) = rw (f .1) at (d .bits) in
         record {
           fuel = d .fuel - 1;
           enough = omega arith;
@@ -122,23 +120,35 @@ module _ (s p : List ℕ) (n : ℕ) (t : List ℕ) (i j a : ℕ) (h : i < length
           have = both (has g) (allHave (f .0)) (rw (f .1) at (d .have)) .1;
           room = d .room;
           place = rw (w .behind) (omega arith);
-          bits = rw (w .bits, w .behind) (sym (sets-append (bitsOf t) a (encodingOf g) (encodings (f .0))) ∙ b);
+          bits = rw (w .bits) (append-assoc (take a (bitsOf t)) (encodingOf g) (encodings (f .0)) ∙ b);
         }
 
 -- the end of the script
-pub ended : (s p : List ℕ) (n : ℕ) (t : List ℕ) (i j a : ℕ) → length s ≤ i → ((k : ℕ) → getD t k 0 < 256) → Left s p n t i j a → t ≡ encoded n (commandsOf s p)
-unfolding commands encodings
-ended s p n t i j a h b d =
-    let r : d .rest ≡ [] = last (d .fuel) (omega (arith, d .enough)) (d .left) in
-    let q : bitsOf t ≡ sets (replicate (8 * n) 0) 0 (encodings (d .whole)) = rw r at (d .bits) in
-    rw (d .are) (sym (words-bits t b) ∙ ap (words 8) (q ∙ into-zeros (8 * n) (encodings (d .whole)) (d .room)))
-  where
-    last : (f : ℕ) → 0 < f → commands f (drop i s) (drop j p) ≡ these (d .rest) → d .rest ≡ []
-    last zero l e = absurd (omega arith)
-    last (suc f) l e =
-        let z : length (drop i s) ≡ 0 = rw length-drop (omega arith) in
-        go (eqb (length (drop j p)) 0) (rw (eq-eqb (length (drop i s)) 0 z) at e)
-      where
-        go : (x : Bool) → cond x (these []) none ≡ these (d .rest) → d .rest ≡ []
-        go true k = cc
-        go false k = never cc
+module _ (s p : List ℕ) (n : ℕ) (t : List ℕ) (i j a : ℕ) (h : length s ≤ i) (d : Left s p n t i j a) where
+  last : (f : ℕ) → 0 < f → commands f (drop i s) (drop j p) ≡ these (d .rest) → d .rest ≡ []
+  unfolding commands
+  last zero l e = absurd (omega arith)
+  last (suc f) l e =
+      let z : length (drop i s) ≡ 0 = rw length-drop (omega arith) in
+      go (eqb (length (drop j p)) 0) (rw (eq-eqb (length (drop i s)) 0 z) at e)
+    where
+      go : (x : Bool) → cond x (these []) none ≡ these (d .rest) → d .rest ≡ []
+      go true k = cc
+      go false k = never cc
+
+  nothing : d .rest ≡ []
+  nothing = last (d .fuel) (omega (arith, d .enough)) (d .left)
+
+  place-is : a ≡ length (encodings (d .whole))
+  unfolding encodings
+  place-is = rw (nothing, add-zero) at (d .place)
+
+  pub end-room : a ≤ 8 * n
+  end-room = let l = place-is in let m = d .room in omega arith
+
+  -- zeros behind
+  pub ended : (u : List ℕ) → ((k : ℕ) → getD u k 0 < 256) → bitsOf u ≡ take a (bitsOf t) ++ replicate (8 * n - a) 0 → u ≡ encoded n (commandsOf s p)
+  unfolding encodings
+  ended u b e =
+      let q : take a (bitsOf t) ≡ encodings (d .whole) = rw (nothing, append-nil) at (d .bits) in
+      rw (d .are) (sym (words-bits u b) ∙ ap (words 8) (rw (q, place-is) at e))

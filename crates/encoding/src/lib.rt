@@ -3,14 +3,15 @@ use script::Command;
 use script::Glyph;
 ghost use mathlib.Core.Path.{_≡_};
 ghost use mathlib.Core.Bool.{true};
-ghost use Prim.Native.Nat.{_+_, _-_, _*_, _<_, _≤_};
+ghost use mathlib.Core.List.{_++_};
+ghost use Prim.Native.Nat.{_+_, _-_, _*_, _/_, _<_, _≤_};
 ghost use lib.ListN.{length, getD, take, drop, replicate};
 ghost use Rattle.bits.specs.Bits.{bitsOf, lowBits, wordBits};
 ghost use Rattle.script.specs.Writer.{all, isDigit, numericWords, modeHas, modeBits, eciBits, encodingOf};
 ghost use Rattle.script.specs.Glyphs.{wordsOf, hasAll, widthOf, switchOf, endOf, beginsIn};
 ghost use Rattle.segments.specs.Script.{run, eci};
 ghost use Rattle.script.specs.Check.{commandsOf, encoded};
-ghost use Rattle.encoding.specs.Written.{Written};
+ghost use Rattle.encoding.specs.Written.{Written, Doing, groupAt};
 ghost use Rattle.encoding.specs.Fits.{Fits};
 
 // Writes the n low bits of a number, and says where the next go.
@@ -79,16 +80,39 @@ fn digit(run: &[u8], j: usize) -> usize
     script::minus(bits::wide(run[j]), 48)
 }
 
+// The three digits from a place of a run on, as a number.
+fn group(run: &[u8], j: usize) -> usize
+    requires { ⌜ j + 3 ≤ length (now run) ⌝ }
+    ensures { λ r. ⌜ (r ≡ groupAt (now (run .entry)) j) × (r < 65536) ⌝ }
+{
+    digit(run, j) * 100 + digit(run, j + 1) * 10 + digit(run, j + 2)
+}
+
+// The digits of a run, as far as there are six, with two groups of three in one word: fewer words wait for each other.
+fn write_sixes(buf: &mut [u8], from: usize, run: &[u8]) -> usize
+    requires { ⌜ (length (now buf) ≤ 4096) × (from + 10 * length (numericWords (now run)) ≤ 8 * length (now buf)) ⌝ }
+    ensures { λ r. ⌜ Doing 10 (now (buf .entry)) from (numericWords (now (run .entry))) (now (buf .exit)) r (numericWords (drop (length (now (run .entry)) / 6 * 6) (now (run .entry)))) ⌝ }
+{
+    let mut at = from;
+    let mut j: usize = 0;
+    while 6 <= run.len() - j {
+        let first = group(run, j);
+        let second = group(run, j + 3);
+        at = put(buf, at, 20, first * 1024 + second % 1024);
+        j += 6;
+    }
+    at
+}
+
 // The digits of a run in groups of three, and the end with the number of the last group's digits.
-fn write_numeric(buf: &mut [u8], from: usize, run: &[u8]) -> usize
+fn write_groups(buf: &mut [u8], from: usize, run: &[u8]) -> usize
     requires { ⌜ (length (now buf) ≤ 4096) × (from + 10 * length (numericWords (now run)) ≤ 8 * length (now buf)) ⌝ }
     ensures { λ r. ⌜ Written (now (buf .entry)) from (wordBits 10 (numericWords (now (run .entry)))) r (now (buf .exit)) ⌝ }
 {
     let mut at = from;
     let mut j: usize = 0;
     while 3 <= run.len() - j {
-        let v = digit(run, j) * 100 + digit(run, j + 1) * 10 + digit(run, j + 2);
-        at = put(buf, at, 10, v);
+        at = put(buf, at, 10, group(run, j));
         j += 3;
     }
     let left = run.len() - j;
@@ -101,6 +125,16 @@ fn write_numeric(buf: &mut [u8], from: usize, run: &[u8]) -> usize
         return put(buf, next, 10, 1022);
     }
     put(buf, at, 10, 1023)
+}
+
+// The same, six digits at a time first.
+fn write_numeric(buf: &mut [u8], from: usize, run: &[u8]) -> usize
+    requires { ⌜ (length (now buf) ≤ 4096) × (from + 10 * length (numericWords (now run)) ≤ 8 * length (now buf)) ⌝ }
+    ensures { λ r. ⌜ Written (now (buf .entry)) from (wordBits 10 (numericWords (now (run .entry)))) r (now (buf .exit)) ⌝ }
+{
+    let at = write_sixes(buf, from, run);
+    let done = run.len() / 6 * 6;
+    write_groups(buf, at, &run[done..])
 }
 
 // The bytes of a run.
@@ -154,15 +188,25 @@ fn write_eci(buf: &mut [u8], from: usize, v: usize) -> usize
     put(buf, next, 21, v)
 }
 
-// Sets all bytes to 0.
-fn clear(buf: &mut [u8])
-    ensures { λ _. ⌜ now (buf .exit) ≡ replicate (length (now (buf .entry))) 0 ⌝ }
+// Sets the bytes from a place on to 0.
+fn clear(buf: &mut [u8], from: usize)
+    requires { ⌜ from ≤ length (now buf) ⌝ }
+    ensures { λ _. ⌜ now (buf .exit) ≡ take from (now (buf .entry)) ++ replicate (length (now (buf .entry)) - from) 0 ⌝ }
 {
-    let mut i: usize = 0;
+    let mut i = from;
     while i < buf.len() {
         buf[i] = 0;
         i += 1;
     }
+}
+
+// Sets the bits from a position on to 0.
+fn pad(buf: &mut [u8], at: usize)
+    requires { ⌜ (length (now buf) ≤ 4096) × (at ≤ 8 * length (now buf)) ⌝ }
+    ensures { λ _. ⌜ bitsOf (now (buf .exit)) ≡ take at (bitsOf (now (buf .entry))) ++ replicate (8 * length (now (buf .entry)) - at) 0 ⌝ }
+{
+    bits::write_bits(buf, at, (8 - at % 8) % 8, 0);
+    clear(buf, (at + 7) / 8);
 }
 
 // The data bytes of a script and its payload that the check has accepted: their bits, and zeros behind.
@@ -170,7 +214,6 @@ pub fn encode(script: &[u8], payload: &[u8], codewords: &mut [u8])
     requires { ⌜ Fits (now script) (now payload) (length (now codewords)) ⌝ }
     ensures { λ _. ⌜ now (codewords .exit) ≡ encoded (length (now (codewords .entry))) (commandsOf (now (script .entry)) (now (payload .entry))) ⌝ }
 {
-    clear(codewords);
     let mut i: usize = 0;
     let mut j: usize = 0;
     let mut at: usize = 0;
@@ -192,4 +235,5 @@ pub fn encode(script: &[u8], payload: &[u8], codewords: &mut [u8])
             }
         }
     }
+    pad(codewords, at);
 }

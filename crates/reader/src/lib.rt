@@ -180,9 +180,11 @@ fn told_of(answer: Answer, count: usize) -> Told
     }
 }
 
-// Script and payload of the corrected blocks, of which `count` codewords were changed.
+// Script and payload of the corrected blocks, of which `count` codewords were changed. Buffers that are not needed any more, the stream and
+// another, are what the segments are decoded into first.
 fn tell_segments(
-    stream: &[u8],
+    stream: &mut [u8],
+    spare: &mut [u8],
     row: &[u8],
     count: usize,
     payload: &mut [u8],
@@ -193,11 +195,20 @@ fn tell_segments(
 {
     let mut data = [0u8; 3886];
     let n = blockwise::gather_data(&mut data, stream, row);
-    told_of(segments::from_data(&data[..n], payload, script), count)
+    told_of(
+        segments::from_data_with(&data[..n], payload, script, spare, stream),
+        count,
+    )
 }
 
 // The stream of a square corrected, and its segments.
-fn tell_blocks(kinds: &[u8], square: &[u8], m: Mark, payload: &mut [u8], script: &mut [u8]) -> Told
+fn tell_blocks(
+    kinds: &mut [u8],
+    square: &[u8],
+    m: Mark,
+    payload: &mut [u8],
+    script: &mut [u8],
+) -> Told
     requires { ⌜ Fitting m (now square) × Drawn (m .version) (now kinds) × (8 * totalOf (m .version) ≤ dataModules (layoutOf (m .version))) ⌝ }
     ensures { λ r. ⌜ (readingIn m r (now (payload .exit)) (now (script .exit)) ≡ bodyOf (m .version) (m .level) (m .mask) (m .distance) (now (square .entry)) (now (payload .entry)) (now (script .entry))) × Small r ⌝ }
 {
@@ -208,13 +219,13 @@ fn tell_blocks(kinds: &[u8], square: &[u8], m: Mark, payload: &mut [u8], script:
     let field = field::han_xin();
     let row = blocks::block_row(m.version, m.level);
     match blockwise::correct_blocks(&field, &mut stream, &row) {
-        Blocks::Corrected(count) => tell_segments(&stream, &row, count, payload, script),
+        Blocks::Corrected(count) => tell_segments(&mut stream, kinds, &row, count, payload, script),
         Blocks::Refused => refused(6),
     }
 }
 
 // The same, or 1 for a version with too few data modules: the rows of the table hold their rule.
-fn tell(kinds: &[u8], square: &[u8], m: Mark, payload: &mut [u8], script: &mut [u8]) -> Told
+fn tell(kinds: &mut [u8], square: &[u8], m: Mark, payload: &mut [u8], script: &mut [u8]) -> Told
     requires { ⌜ Fitting m (now square) × Drawn (m .version) (now kinds) ⌝ }
     ensures { λ r. ⌜ (readingIn m r (now (payload .exit)) (now (script .exit)) ≡ bodyOr1 m (now (square .entry)) (now (payload .entry)) (now (script .entry))) × Small r ⌝ }
 {
@@ -237,7 +248,7 @@ fn finish(
 {
     let mut kinds = [0u8; 35721];
     symbol::layout(m.version, &mut kinds);
-    let t = tell(&kinds, square, m, payload, script);
+    let t = tell(&mut kinds, square, m, payload, script);
     let number = t.number;
     write_receipt(receipt, m, t);
     number

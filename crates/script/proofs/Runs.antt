@@ -6,7 +6,7 @@ use Prim.Native.Nat.{ℕ, zero, suc, _+_, _-_, _*_, _/_, _%_, _<_, _≤_}
 use native.Mathlib.Nat.{mul-le-mul, le-of-lt}
 use native.Mathlib.Numerals.{add-one}
 use native.Mathlib.Omega.{arith}
-use borrow.Author.Tests.{eq-eqb, ne-eqb, lt-ltb}
+use borrow.Author.Tests.{eq-eqb, ne-eqb, lt-ltb, le-ltb, lt-leb, le-leb, ltb-true, ltb-false}
 use lib.Dec.{eqb, ltb}
 use lib.ListN.{length, getD, drop, length-drop, drop-of-length-le}
 use lib.Seq.{drop-cons, drop-drop}
@@ -269,14 +269,47 @@ module _ (s : List ℕ) (w a b c d : ℕ) (e : w ≡ fourCode s) (v : w < 158760
           (last-and (eqb (0x30 + w % 10) d))
 
 -- a digit more, and the first byte that is none
-pub digit-more : (run : List ℕ) (j : ℕ) → j < length run → isDigit (getD run j 0) ≡ true → all isDigit (drop j run) ≡ all isDigit (drop (j + 1) run)
-digit-more run j h e = rw (drop-cons run j 0 h, e, add-one)
+pub digits-next : (run : List ℕ) (j x y z : ℕ) → j < length run → ltb y 10 ≡ isDigit (getD run j 0) → ltb z 10 ≡ (ltb x 10 && ltb y 10)
+    → (ltb x 10 && all isDigit (drop j run)) ≡ (ltb z 10 && all isDigit (drop (j + 1) run))
+digits-next run j x y z h e f = rw (f, e, drop-cons run j 0 h, add-one) (and-assoc (ltb x 10) (isDigit (getD run j 0)) (all isDigit (drop (suc j) run)))
+  where
+    and-assoc : (a b c : Bool) → (a && (b && c)) ≡ ((a && b) && c)
+    and-assoc true b c = refl
+    and-assoc false b c = refl
 
-pub digit-none : (run : List ℕ) (j : ℕ) → j < length run → isDigit (getD run j 0) ≡ false → all isDigit (drop j run) ≡ false
-digit-none run j h e = rw (drop-cons run j 0 h, e)
+pub digits-end : (run : List ℕ) (j x : ℕ) → length run ≤ j → ltb x 10 ≡ (ltb x 10 && all isDigit (drop j run))
+digits-end run j x h = rw (drop-of-length-le run h) (and-true (ltb x 10))
+  where
+    and-true : (a : Bool) → a ≡ (a && true)
+    and-true true = refl
+    and-true false = refl
 
-pub digit-end : (run : List ℕ) (j : ℕ) → length run ≤ j → true ≡ all isDigit (drop j run)
-digit-end run j h = rw (drop-of-length-le run h)
+-- the value of a digit, and the greater of two values
+pub digit-value : (b : ℕ) → 48 ≤ b → ltb (b - 48) 10 ≡ isDigit b
+unfolding isDigit
+digit-value b h = rw (le-leb 48 b h) (go (ltb b 58) refl)
+  where
+    go : (x : Bool) → ltb b 58 ≡ x → ltb (b - 48) 10 ≡ ltb b 58
+    go true e = let l = ltb-true b 58 e in rw e (lt-ltb (b - 48) 10 (omega arith))
+    go false e = let l = ltb-false b 58 e in rw e (le-ltb (b - 48) 10 (omega arith))
+
+pub not-a-digit : (b : ℕ) → b < 48 → ltb 255 10 ≡ isDigit b
+unfolding isDigit
+not-a-digit b h = rw (lt-leb 48 b h)
+
+pub right-greater : (a b : ℕ) → a ≤ b → ltb b 10 ≡ (ltb a 10 && ltb b 10)
+right-greater a b h = go (ltb a 10) refl
+  where
+    go : (x : Bool) → ltb a 10 ≡ x → ltb b 10 ≡ (ltb a 10 && ltb b 10)
+    go true e = rw e
+    go false e = let l = ltb-false a 10 e in rw e (le-ltb b 10 (omega arith))
+
+pub left-greater : (a b : ℕ) → b ≤ a → ltb a 10 ≡ (ltb a 10 && ltb b 10)
+left-greater a b h = go (ltb a 10) refl
+  where
+    go : (x : Bool) → ltb a 10 ≡ x → ltb a 10 ≡ (ltb a 10 && ltb b 10)
+    go true e = let l = ltb-true a 10 e in rw (lt-ltb b 10 (omega arith), e)
+    go false e = rw e
 
 -- no product of a word's width and the number of words is large
 pub small : (w n : ℕ) → w ≤ 15 → n < 1000000 → w * n ≤ 15000000

@@ -1,8 +1,9 @@
 // A script and its payload: what writing asks of them, and how many bits they take.
 ghost use mathlib.Core.Path.{_≡_};
-ghost use mathlib.Core.Bool.{true, false};
+ghost use mathlib.Core.Bool.{true, false, _&&_};
 ghost use mathlib.Core.List.{[], _∷_};
 ghost use Prim.Native.Nat.{_+_, _-_, _*_, _/_, _<_, _≤_};
+ghost use lib.Dec.{ltb};
 ghost use lib.ListN.{length, getD, take, drop};
 ghost use Rattle.script.specs.Writer.{all, isDigit, codeOf, inSubset, pairCode, inRegion, doubleCode, inDouble, fourCode, inFour, eciLength};
 ghost use Rattle.script.specs.Check.{allowed, runAt, eciAt, commandAt, commandSize, capped, checkOf};
@@ -177,27 +178,36 @@ fn in_four(run: &[u8]) -> bool
     0x30 + w % 10 == bits::wide(run[3])
 }
 
-fn is_digit(b: usize) -> bool
-    ensures { λ r. ⌜ r ≡ isDigit b ⌝ }
+// The value of a digit; 10 or more for another byte.
+fn digit_value(b: u8) -> u8
+    ensures { λ r. ⌜ ltb r 10 ≡ isDigit b ⌝ }
 {
     if b < 48 {
-        return false;
+        return 255;
     }
-    b < 58
+    b - 48
 }
 
-// All bytes of a run are digits.
+fn greater(a: u8, b: u8) -> u8
+    ensures { λ r. ⌜ ltb r 10 ≡ (ltb a 10 && ltb b 10) ⌝ }
+{
+    if a < b {
+        return b;
+    }
+    a
+}
+
+// All bytes of a run are digits: their greatest value is below 10. With no early exit the compiler takes many bytes at once.
 fn all_digits(run: &[u8]) -> bool
     ensures { λ r. ⌜ r ≡ all isDigit (now (run .entry)) ⌝ }
 {
+    let mut top: u8 = 0;
     let mut j: usize = 0;
     while j < run.len() {
-        if !is_digit(bits::wide(run[j])) {
-            return false;
-        }
+        top = greater(top, digit_value(run[j]));
         j += 1;
     }
-    true
+    top < 10
 }
 
 fn text_glyph(first: bool, b: usize) -> Glyph

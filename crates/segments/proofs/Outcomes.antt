@@ -5,8 +5,8 @@ use Prim.Native.Nat.{ℕ, _+_, _≤_, _<_}
 use native.Mathlib.Nat.{zero-add}
 use native.Mathlib.Omega.{arith}
 use borrow.Author.Tests.{eq-eqb, ne-eqb, lt-ltb, le-ltb}
-use lib.ListN.{length, drop}
-use lib.Seq.{sets-eq}
+use lib.ListN.{length, take, drop}
+use lib.Seq.{sets, sets-eq, take-append-seam}
 use Rattle.bits.proofs.Tests.{never}
 use Rattle.segments.specs.declared.Answer.the-variants.{Read, TooLong, Broken, Empty, PayloadFull, ScriptFull}
 use Rattle.segments.specs.declared.Count.{Count}
@@ -19,6 +19,10 @@ use Rattle.segments.specs.FromData.{Outcome, fromData, givenOr7, told}
 same : {n n′ m m′ : ℕ} {u u′ v v′ : List ℕ} → n ≡ n′ → m ≡ m′ → u ≡ u′ → v ≡ v′
     → _≡_ {A = Outcome} (record { refusal = 0; payloadLength = n; scriptLength = m; payload = u; script = v }) (record { refusal = 0; payloadLength = n′; scriptLength = m′; payload = u′; script = v′ })
 same p q r t = λ i. record { refusal = 0; payloadLength = p i; scriptLength = q i; payload = r i; script = t i }
+
+-- the front of a buffer in which bytes were stored, before the rest of another
+front : (bs l x p : List ℕ) (n : ℕ) → n ≡ length bs → x ≡ sets l 0 bs → length bs ≤ length l → take n x ++ drop n p ≡ bs ++ drop (length bs) p
+front bs l x p n e f w = rw (e, f, sets-eq bs l 0 (rw zero-add w), take-append-seam bs (drop (0 + length bs) l))
 
 module _ (s p c : List ℕ) where
   pub too-long : 3886 < length s → told TooLong p c ≡ fromData s p c
@@ -71,13 +75,27 @@ module _ (s p c : List ℕ) where
               let j = some .4 in
               rw (le-ltb 3886 (length s) h, some .2, ne-eqb (length (payloadOf (some .0))) 0 (λ f. z (k ∙ f)), le-ltb (length p) (length (payloadOf (some .0))) (omega arith), lt-ltb (length c) (length (scriptOf (some .0))) (omega arith))
 
-          -- the second pass, over the buffers themselves
-          pub is-read : m ≤ length c → (t : Count) (u v : List ℕ) → Passed 0 0 p c (segmentsOf s) t u v → told (Read n m) u v ≡ fromData s p c
-          is-read g t u v i =
-              let k = some .3 in
-              let j = some .4 in
-              let f : Passed 0 0 p c (got (some .0) (some .1)) t u v = subst (λ (w : Result (List Segment)). Passed 0 0 p c w t u v) (some .2) i in
-              let eu : u ≡ payloadOf (some .0) ++ drop (length (payloadOf (some .0))) p = f .1 ∙ sets-eq (payloadOf (some .0)) p 0 (omega arith) ∙ rw zero-add in
-              let ev : v ≡ scriptOf (some .0) ++ drop (length (scriptOf (some .0))) c = f .2 ∙ sets-eq (scriptOf (some .0)) c 0 (omega arith) ∙ rw zero-add in
-              rw (le-ltb 3886 (length s) h, some .2, ne-eqb (length (payloadOf (some .0))) 0 (λ w. z (k ∙ w)), le-ltb (length p) (length (payloadOf (some .0))) (omega arith), le-ltb (length c) (length (scriptOf (some .0))) (omega arith))
-              (same k j eu ev)
+          module _ (g : m ≤ length c) where
+            -- both buffers begin with what the segments say
+            filled : (u v : List ℕ) → u ≡ payloadOf (some .0) ++ drop (length (payloadOf (some .0))) p → v ≡ scriptOf (some .0) ++ drop (length (scriptOf (some .0))) c → told (Read n m) u v ≡ fromData s p c
+            filled u v eu ev =
+                let k = some .3 in
+                let j = some .4 in
+                rw (le-ltb 3886 (length s) h, some .2, ne-eqb (length (payloadOf (some .0))) 0 (λ w. z (k ∙ w)), le-ltb (length p) (length (payloadOf (some .0))) (omega arith), le-ltb (length c) (length (scriptOf (some .0))) (omega arith))
+                (same k j eu ev)
+
+            -- the second pass, over the buffers themselves
+            pub is-read : (t : Count) (u v : List ℕ) → Passed 0 0 p c (segmentsOf s) t u v → told (Read n m) u v ≡ fromData s p c
+            is-read t u v i =
+                let k = some .3 in
+                let j = some .4 in
+                let f : Passed 0 0 p c (got (some .0) (some .1)) t u v = subst (λ (w : Result (List Segment)). Passed 0 0 p c w t u v) (some .2) i in
+                filled u v (f .1 ∙ sets-eq (payloadOf (some .0)) p 0 (omega arith) ∙ rw zero-add) (f .2 ∙ sets-eq (scriptOf (some .0)) c 0 (omega arith) ∙ rw zero-add)
+
+            -- copies of what the first pass stored
+            pub is-copied : n ≤ length o → m ≤ length q → (u v : List ℕ) → u ≡ take n x ++ drop n p → v ≡ take m y ++ drop m c → told (Read n m) u v ≡ fromData s p c
+            is-copied a b u v eu ev =
+                let k = some .3 in
+                let j = some .4 in
+                let f : Passed 0 0 o q (got (some .0) (some .1)) r x y = subst (λ (w : Result (List Segment)). Passed 0 0 o q w r x y) (some .2) d in
+                filled u v (eu ∙ front (payloadOf (some .0)) o x p n k (f .1) (omega arith)) (ev ∙ front (scriptOf (some .0)) q y c m j (f .2) (omega arith))

@@ -2,21 +2,36 @@
 use mathlib.Core.Path.{_≡_, subst, refl}
 use mathlib.Core.Bool.{Bool, not}
 use mathlib.Core.List.{List}
-use Prim.Native.Nat.{ℕ, _+_, _*_, _≤_}
+use Prim.Native.Nat.{ℕ, _+_, _-_, _*_, _/_, _%_, _<_, _≤_}
 use native.Mathlib.Omega.{arith}
+use borrow.Author.Tests.{ne-eqb}
 use lib.ListN.{length}
 use Rattle.segments.specs.declared.Region.{Region}
 use Rattle.segments.specs.declared.Region.the-variants.{End, Switch, Cut as RegionCut, Lacking as RegionLacking}
 use Rattle.segments.specs.declared.Count.{Count}
 use Rattle.segments.specs.declared.Count.the-variants.{Done, Cut, Lacking}
-use Rattle.segments.specs.Passes.{Left, Inside, RegionLeft, regionAt}
+use Rattle.segments.specs.Passes.{countOf, Left, Inside, RegionLeft, regionAt}
+
+coded : (i n : ℕ) → n < 65536 → countOf (i * 65536 + n + 2) ≡ Done i n
+coded i n h =
+    let e : i * 65536 + n + 2 - 2 ≡ i * 65536 + n = omega arith in
+    let d : (i * 65536 + n) / 65536 ≡ i = omega arith in
+    let m : (i * 65536 + n) % 65536 ≡ n = omega arith in
+    rw (ne-eqb (i * 65536 + n + 2) 0 (λ z. omega arith), ne-eqb (i * 65536 + n + 2) 1 (λ z. omega arith), e, d, m)
 
 module _ (s : List ℕ) (from to : ℕ) (o : List ℕ) (f : Bool) (r : Region) (x : List ℕ) (h : RegionLeft s from to o f r x) where
   told : (q : Region) → r ≡ q → RegionLeft s from to o f q x
   told q e = subst (λ (z : Region). RegionLeft s from to o f z x) e h
 
-  pub ran-end : (i n : ℕ) → r ≡ End i n → Left (regionAt s from to o f) (Done i n) x × Inside s from to (Done i n)
-  ran-end i n e = let g = told (End i n) e in (rw (g .0) (refl, refl), (g .1, g .2, g .3, g .4))
+  pub ran-end : length s ≤ 4096 → (i n : ℕ) → r ≡ End i n → Left (regionAt s from to o f) (countOf (i * 65536 + n + 2)) x × Inside s from to (countOf (i * 65536 + n + 2))
+  ran-end l i n e =
+      let g = told (End i n) e in
+      let small : n < 65536 = omega (arith, g .2, g .4) in
+      rw (coded i n small) (rw (g .0) (refl, refl), (g .1, g .2, g .3, g .4))
+
+  -- position and bytes of a switch and of the end are not large
+  pub ran-small : length s ≤ 4096 → (i n : ℕ) → r ≡ End i n → (i ≤ 32768) × (n ≤ 32768)
+  ran-small l i n e = let g = told (End i n) e in (omega (arith, g .2), omega (arith, g .2, g .4))
 
   pub ran-cut : r ≡ RegionCut → Left (regionAt s from to o f) Cut x
   ran-cut e = rw (told RegionCut e) refl

@@ -1,8 +1,9 @@
 -- What the contracts of inner functions say: positions and buffers of one pass over the data. Nobody has to believe anything here.
 use mathlib.Core.Path.{_≡_}
-use mathlib.Core.Bool.{Bool, not}
+use mathlib.Core.Bool.{Bool, cond, not}
 use mathlib.Core.List.{List}
-use Prim.Native.Nat.{ℕ, _+_, _*_, _≤_, _<_}
+use Prim.Native.Nat.{ℕ, _+_, _-_, _*_, _/_, _%_, _≤_, _<_}
+use lib.Dec.{eqb}
 use lib.ListN.{length, drop}
 use lib.Seq.{sets}
 use Rattle.bits.specs.Bits.{bitsOf, words}
@@ -60,6 +61,10 @@ abbrev pub Left : State → Count → List ℕ → Type 0
 Left stoppedCut r x = r ≡ Cut
 Left stoppedLacking r x = r ≡ Lacking
 Left (at i n o) r x = (r ≡ Done i n) × (x ≡ o)
+
+-- the answer of a region as one number
+abbrev pub countOf : ℕ → Count
+countOf r = cond (eqb r 0) Cut (cond (eqb r 1) Lacking (Done ((r - 2) / 65536) ((r - 2) % 65536)))
 
 -- an answer within the bits, behind where the function began, with no more bytes than bits
 abbrev pub Inside : List ℕ → ℕ → ℕ → Count → Type 0

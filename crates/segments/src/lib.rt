@@ -1,18 +1,18 @@
 // Segments of the data codewords (000: `parse` and the functions that it calls).
 //
-// Each mode has one function for both passes: what does not fit the lent buffer is counted and not stored, so the first pass, over
-// buffers of one byte, only counts.
+// What does not fit a lent buffer is counted and not stored. So a pass over spare buffers writes nothing that a refusal would have to undo,
+// and the same functions serve the second pass, where the spare buffers were too short.
 use bits::Word;
 ghost use mathlib.Core.Path.{_≡_};
 ghost use mathlib.Core.Bool.{true, false};
-ghost use mathlib.Core.List.{[], _∷_};
+ghost use mathlib.Core.List.{[], _∷_, _++_};
 ghost use Prim.Native.Nat.{_+_, _*_, _^_, _<_, _≤_};
-ghost use lib.ListN.{length, drop, set};
+ghost use lib.ListN.{length, take, drop, set};
 ghost use lib.Seq.{sets};
 ghost use Rattle.bits.specs.Bits.{bitsOf};
 ghost use Rattle.segments.specs.Script.{commandOf, runCommand, eci};
 ghost use Rattle.segments.specs.Segments.{digits, charOf, highOf, lowOf, regionSize, firstOf, secondOf, fourBytes, eciOf, eciValue, segmentOf, segmentsOf};
-ghost use Rattle.segments.specs.Passes.{Left, Inside, RegionLeft, EciLeft, Stepped, Passed, numericAt, textAt, bytesRunAt, bytesAt, regionAt, doubleByteAt, fourByteAt, runAt};
+ghost use Rattle.segments.specs.Passes.{countOf, Left, Inside, RegionLeft, EciLeft, Stepped, Passed, numericAt, textAt, bytesRunAt, bytesAt, regionAt, doubleByteAt, fourByteAt, runAt};
 ghost use Rattle.segments.specs.FromData.{fromData, told};
 
 // Two numbers: a position with the payload bytes there or with an ECI's value, or the lengths of payload and script.
@@ -109,33 +109,50 @@ fn numeric(s: &[u8], from: usize, out: &mut [u8], to: usize) -> Count
     }
 }
 
+// What is added to a 6-bit value for its byte in the first subset of the text mode. The answers are constants, so that the compiler picks
+// one without a jump, which in text would often be guessed wrong.
+fn first_offset(w: usize) -> usize
+    requires { ⌜ w < 62 ⌝ }
+    ensures { λ r. ⌜ (r < 128) × (w + r ≡ charOf true w) ⌝ }
+{
+    if w < 10 {
+        return 48;
+    }
+    if w < 36 {
+        return 55;
+    }
+    61
+}
+
+// The same in the second subset.
+fn second_offset(w: usize) -> usize
+    requires { ⌜ w < 62 ⌝ }
+    ensures { λ r. ⌜ (r < 128) × (w + r ≡ charOf false w) ⌝ }
+{
+    if w < 28 {
+        return 0;
+    }
+    if w < 44 {
+        return 4;
+    }
+    if w < 51 {
+        return 14;
+    }
+    if w < 57 {
+        return 40;
+    }
+    66
+}
+
 // The byte of a 6-bit value in a subset of the text mode.
 pub fn text_char(first: bool, w: usize) -> usize
     requires { ⌜ w < 62 ⌝ }
     ensures { λ r. ⌜ (r < 256) × (r ≡ charOf first w) ⌝ }
 {
     if first {
-        if w < 10 {
-            return 48 + w;
-        }
-        if w < 36 {
-            return 55 + w;
-        }
-        return 61 + w;
+        return w + first_offset(w);
     }
-    if w < 28 {
-        return w;
-    }
-    if w < 44 {
-        return 4 + w;
-    }
-    if w < 51 {
-        return 14 + w;
-    }
-    if w < 57 {
-        return 40 + w;
-    }
-    66 + w
+    w + second_offset(w)
 }
 
 // Text mode: two subsets of 6-bit values, switched by 62 and ended by 63. Each segment starts in the first.
@@ -276,34 +293,48 @@ fn same_region(s: &[u8], from: usize, out: &mut [u8], to: usize, one: bool) -> R
     }
 }
 
-// Region one: 12 bits a character; hands over to region two at 4094.
-fn region_one(s: &[u8], from: usize, out: &mut [u8], to: usize) -> Count
+// Region one: 12 bits a character; hands over to region two at 4094. The answer is one number, 0 for cut, 1 for lacking, else 2 more than
+// position and bytes: a switch then needs less of the stack, and less time.
+fn region_one(s: &[u8], from: usize, out: &mut [u8], to: usize) -> usize
     requires { ⌜ (length (now s) ≤ 4096) × (from ≤ 8 * length (now s)) × (to ≤ from) ⌝ }
-    ensures { λ r. ⌜ Left (regionAt (now (s .entry)) from to (now (out .entry)) true) r (now (out .exit)) ⌝ }
-    ensures { λ r. ⌜ Inside (now (s .entry)) from to r ⌝ }
+    ensures { λ r. ⌜ Left (regionAt (now (s .entry)) from to (now (out .entry)) true) (countOf r) (now (out .exit)) ⌝ }
+    ensures { λ r. ⌜ Inside (now (s .entry)) from to (countOf r) ⌝ }
 {
     let ran = same_region(s, from, out, to, true);
     match ran {
-        Region::End(at, n) => Count::Done(at, n),
+        Region::End(at, n) => at * 65536 + n + 2,
         Region::Switch(at, n) => region_two(s, at, out, n),
-        Region::Cut => Count::Cut,
-        Region::Lacking => Count::Lacking,
+        Region::Cut => 0,
+        Region::Lacking => 1,
     }
 }
 
 // Region two: 12 bits a character; hands back to region one at 4094.
-fn region_two(s: &[u8], from: usize, out: &mut [u8], to: usize) -> Count
+fn region_two(s: &[u8], from: usize, out: &mut [u8], to: usize) -> usize
     requires { ⌜ (length (now s) ≤ 4096) × (from ≤ 8 * length (now s)) × (to ≤ from) ⌝ }
-    ensures { λ r. ⌜ Left (regionAt (now (s .entry)) from to (now (out .entry)) false) r (now (out .exit)) ⌝ }
-    ensures { λ r. ⌜ Inside (now (s .entry)) from to r ⌝ }
+    ensures { λ r. ⌜ Left (regionAt (now (s .entry)) from to (now (out .entry)) false) (countOf r) (now (out .exit)) ⌝ }
+    ensures { λ r. ⌜ Inside (now (s .entry)) from to (countOf r) ⌝ }
 {
     let ran = same_region(s, from, out, to, false);
     match ran {
-        Region::End(at, n) => Count::Done(at, n),
+        Region::End(at, n) => at * 65536 + n + 2,
         Region::Switch(at, n) => region_one(s, at, out, n),
-        Region::Cut => Count::Cut,
-        Region::Lacking => Count::Lacking,
+        Region::Cut => 0,
+        Region::Lacking => 1,
     }
+}
+
+// What the answer of a region says.
+fn region_count(r: usize) -> Count
+    ensures { λ c. ⌜ c ≡ countOf r ⌝ }
+{
+    if r == 0 {
+        return Count::Cut;
+    }
+    if r == 1 {
+        return Count::Lacking;
+    }
+    Count::Done((r - 2) / 65536, (r - 2) % 65536)
 }
 
 // The two bytes of a 15-bit value.
@@ -424,8 +455,8 @@ fn run_of_mode(s: &[u8], from: usize, out: &mut [u8], to: usize, mode: usize) ->
         1 => numeric(s, from, out, to),
         2 => text_mode(s, from, out, to),
         3 => bytes_mode(s, from, out, to),
-        4 => region_one(s, from, out, to),
-        5 => region_two(s, from, out, to),
+        4 => region_count(region_one(s, from, out, to)),
+        5 => region_count(region_two(s, from, out, to)),
         6 => double_byte(s, from, out, to),
         7 => four_byte(s, from, out, to),
         _ => Count::Lacking,
@@ -547,16 +578,33 @@ pub enum Answer {
     ScriptFull,
 }
 
-// Segments from data: payload and script in lent buffers, which a refusal leaves as they were.
-pub fn from_data(data: &[u8], payload: &mut [u8], script: &mut [u8]) -> Answer
+// Copies the first n bytes.
+fn copy(to: &mut [u8], from: &[u8], n: usize)
+    requires { ⌜ (n ≤ length (now to)) × (n ≤ length (now from)) ⌝ }
+    ensures { λ _. ⌜ now (to .exit) ≡ take n (now (from .entry)) ++ drop n (now (to .entry)) ⌝ }
+{
+    let mut i: usize = 0;
+    while i < n {
+        to[i] = from[i];
+        i += 1;
+    }
+}
+
+// Segments from data: payload and script in lent buffers, which a refusal leaves as they were. The first pass stores into spare buffers of
+// any length; what fits them is copied, so that data are decoded once, and only for what does not fit is there a second pass.
+pub fn from_data_with(
+    data: &[u8],
+    payload: &mut [u8],
+    script: &mut [u8],
+    spare: &mut [u8],
+    other: &mut [u8],
+) -> Answer
     ensures { λ r. ⌜ told r (now (payload .exit)) (now (script .exit)) ≡ fromData (now («data» .entry)) (now (payload .entry)) (now (script .entry)) ⌝ }
 {
     if 3886 < data.len() {
         return Answer::TooLong;
     }
-    let mut spare = [0u8; 1];
-    let mut other = [0u8; 1];
-    let first = pass(data, &mut spare, &mut other);
+    let first = pass(data, spare, other);
     match first {
         Count::Done(n, m) => {
             if n == 0 {
@@ -568,10 +616,28 @@ pub fn from_data(data: &[u8], payload: &mut [u8], script: &mut [u8]) -> Answer
             if script.len() < m {
                 return Answer::ScriptFull;
             }
-            pass(data, payload, script);
+            if spare.len() < n {
+                pass(data, payload, script);
+                return Answer::Read(n, m);
+            }
+            if other.len() < m {
+                pass(data, payload, script);
+                return Answer::Read(n, m);
+            }
+            copy(payload, spare, n);
+            copy(script, other, m);
             Answer::Read(n, m)
         }
         Count::Cut => Answer::Broken,
         Count::Lacking => Answer::Broken,
     }
+}
+
+// The same with spare buffers of its own.
+pub fn from_data(data: &[u8], payload: &mut [u8], script: &mut [u8]) -> Answer
+    ensures { λ r. ⌜ told r (now (payload .exit)) (now (script .exit)) ≡ fromData (now («data» .entry)) (now (payload .entry)) (now (script .entry)) ⌝ }
+{
+    let mut spare = [0u8; 8192];
+    let mut other = [0u8; 4096];
+    from_data_with(data, payload, script, &mut spare, &mut other)
 }

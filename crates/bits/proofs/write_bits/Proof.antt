@@ -1,78 +1,124 @@
-use mathlib.Core.Path.{_≡_, _∙_, refl, sym, ap}
-use native.Mathlib.Nat.{sub-zero, add-zero}
-use native.Mathlib.Omega.{arith}
-use Prim.Native.Nat.{ℕ, _≤_, _-_, _+_}
+use mathlib.Core.Path.{_≡_, ap, _∙_}
 use mathlib.Core.List.{List}
-use lib.ListN.{length}
+use Prim.Native.Nat.{_+_, _-_, _*_, _/_, _%_}
+use native.Mathlib.Nat.{mod-le}
+use native.Mathlib.Omega.{arith}
+use lib.ListN.{length, take}
+use lib.Pow.{pow-pos}
 use lib.Seq.{sets}
 use Rattle.bits.specs.Bits.{bitsOf, lowBits}
-use Rattle.bits.proofs.Writing.{write-more, write-all}
+use Rattle.bits.specs.Four.{fourOf}
+use Rattle.bits.proofs.Reading.{length-bits}
+use Rattle.bits.proofs.Words.{length-low}
+use Rattle.bits.proofs.Window.{one-shifted}
+use Rattle.bits.proofs.Appending.{Joins, joined-is, appended, behind-set}
+use borrow.Author.Needs.{needs}
 use Rattle.bits.proofs.write_bits.Statement.{statement}
 use Rattle.bits.proofs.write_bits.Tie as tie
 
-abbrev Inv-loop : tie.InvT-loop
-Inv-loop buf₀ at n v i₀ buf i =
-    (length buf ≡ length buf₀) × (i ≤ n) × (sets (bitsOf buf₀) at (lowBits n v) ≡ sets (bitsOf buf) (at + i) (lowBits (n - i) v))
+sub-if1 : tie.Need-sub-if1
+sub-if1 c = search needs
 
-abbrev μ-loop : tie.MeasureT-loop
-μ-loop buf₀ at n v i₀ buf i = n - i
+write-last-requires : tie.Need-write-last-requires
+write-last-requires c κs = search needs
 
-loop-holds : tie.Need-loop-holds Inv-loop μ-loop
-loop-holds c = (refl, omega arith, simp (sub-zero, add-zero))
+same-length : tie.Need-same-length
+same-length c = search needs
 
-add-write-bit : tie.Need-add-write-bit Inv-loop μ-loop
-add-write-bit c = omega arith
-
-sub-write-bit : tie.Need-sub-write-bit Inv-loop μ-loop
-sub-write-bit c = omega arith
-
-sub-write-bit-2 : tie.Need-sub-write-bit-2 Inv-loop μ-loop
-sub-write-bit-2 c = omega arith
-
-shr-write-bit : tie.Need-shr-write-bit Inv-loop μ-loop
-shr-write-bit c = omega arith
-
-write-bit-requires : tie.Need-write-bit-requires Inv-loop μ-loop
-write-bit-requires c κs = omega arith
-
-add-i : tie.Need-add-i Inv-loop μ-loop
-add-i c = omega arith
-
-loop-less : tie.Need-loop-less Inv-loop μ-loop
-loop-less c = omega arith
-
-loop-again : tie.Need-loop-again Inv-loop μ-loop
-loop-again c =
-    let start = c .before .before .before .before .before .before .before in
-    let loop = c .before .before .before .before .before .loop in
-    let write-bit = c .before .before .write-bit in
-    let a = start .args in
-    let l = loop in
-    (write-bit .kept .0 ∙ l .inv .0, omega arith, l .inv .2 ∙ write-more (bitsOf (l .buf)) (a .at) (a .n) (l .i) (a .v) (omega arith) ∙ ap (λ (B : List ℕ). sets B (a .at + (l .i + 1)) (lowBits (a .n - (l .i + 1)) (a .v))) (sym (write-bit .ensures)))
-
-same-length : tie.Need-same-length Inv-loop μ-loop
-same-length c = omega arith
-
-returns : tie.Need-returns Inv-loop μ-loop
+returns : tie.Need-returns
 returns c =
-    let a = c .before .before .before .args in
-    let l = c .before .loop in
-    sym (l .inv .2 ∙ write-all (bitsOf (l .buf)) (a .at + l .i) (a .n) (l .i) (a .v) (omega arith))
+    let a = c .before .before .before .before .before .before .args in
+    let b = bitsOf (a .buf .now) in
+    let e = length-bits (a .buf .now) in
+    let w : length (lowBits (a .n) (a .v)) ≡ a .n = length-low (a .n) (a .v) in
+    rw (c .before .before .write-last .ensures) (rw w at (behind-set b (a .at) (lowBits (a .n) (a .v)) (rw (w, e) (omega arith))))
+
+slice-read-wide : tie.Need-slice-read-wide
+slice-read-wide c = search needs
+
+wide-requires : tie.Need-wide-requires
+wide-requires c κs = search needs
+
+sub-before : tie.Need-sub-before
+sub-before c = search needs
+
+shl-before : tie.Need-shl-before
+shl-before c = search needs
+
+rem-before : tie.Need-rem-before
+rem-before c =
+    let a = c .before .before .before .before .args in
+    rw (one-shifted (8 - a .at % 8) (omega arith)) (pow-pos (8 - a .at % 8))
+
+sub-before-2 : tie.Need-sub-before-2
+sub-before-2 c = mod-le _ _
+
+-- what is stored
+joins : (c : tie.After-store-four-arg) → Joins (c .before .wide .result) (c .before .before .before .before .before .args .at % 8) (c .before .before .before .before .before .args .n) (c .before .before .before .before .before .args .v)
+joins c =
+    let a = c .before .before .before .before .before .args in
+    joined-is (c .before .wide .result) (a .at % 8) (a .n) (a .v) (c .before .wide .ensures .1) (omega arith) (omega arith)
+
+mul-store-four : tie.Need-mul-store-four
+mul-store-four c = search needs
+
+shl-store-four : tie.Need-shl-store-four
+shl-store-four c = search needs
+
+rem-store-four : tie.Need-rem-store-four
+rem-store-four c =
+    let a = c .before .before .before .before .before .args in
+    rw (one-shifted (a .n) (omega arith)) (pow-pos (a .n))
+
+sub-store-four : tie.Need-sub-store-four
+sub-store-four c = search needs
+
+sub-store-four-2 : tie.Need-sub-store-four-2
+sub-store-four-2 c = search needs
+
+shl-store-four-2 : tie.Need-shl-store-four-2
+shl-store-four-2 c = search needs
+
+add-store-four : tie.Need-add-store-four
+add-store-four c = let j = joins c in rw (j .0) (omega arith)
+
+store-four-requires : tie.Need-store-four-requires
+store-four-requires c κs =
+    let j = joins c in
+    (omega arith, rw (j .0) (j .1))
+
+same-length-2 : tie.Need-same-length-2
+same-length-2 c = search needs
+
+returns-2 : tie.Need-returns-2
+returns-2 c =
+    let d = c .before .before in
+    let g = d .before in
+    let a = g .before .before .before .before .before .args in
+    let j = joins g in
+    rw (d .store-four .ensures, j .0, g .before .wide .ensures .0) (appended (a .buf .now) (a .at) (a .n) (a .v) (omega arith) (omega arith))
 
 pub write-bits-spec : {M : Type 1} → statement M
 write-bits-spec =
     tie.close
     (tie.spec
-    Inv-loop
-    μ-loop
-    loop-holds
-    add-write-bit
-    sub-write-bit
-    sub-write-bit-2
-    shr-write-bit
-    write-bit-requires
-    add-i
-    loop-less
-    loop-again
+    sub-if1
+    write-last-requires
     same-length
-    returns)
+    returns
+    slice-read-wide
+    wide-requires
+    sub-before
+    shl-before
+    rem-before
+    sub-before-2
+    mul-store-four
+    shl-store-four
+    rem-store-four
+    sub-store-four
+    sub-store-four-2
+    shl-store-four-2
+    add-store-four
+    store-four-requires
+    same-length-2
+    returns-2)

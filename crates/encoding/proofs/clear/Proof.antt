@@ -1,20 +1,19 @@
-use mathlib.Core.Path.{_≡_, refl}
-use mathlib.Core.List.{_++_}
+use mathlib.Core.Path.{_≡_, refl, _∙_}
 use Prim.Native.Nat.{_-_, _≤_}
 use native.Mathlib.Omega.{arith}
-use lib.ListN.{length, drop, replicate, length-set}
-use Rattle.encoding.proofs.Zeros.{clear-more, clear-end}
+use lib.ListN.{length, length-set}
+use Rattle.encoding.proofs.Zeros.{cleared, clear-start, clear-more, clear-end}
 use Rattle.encoding.proofs.clear.Statement.{statement}
 use Rattle.encoding.proofs.clear.Tie as tie
 
 abbrev Inv-loop : tie.InvT-loop
-Inv-loop buf₀ i₀ buf i = (length buf ≡ length buf₀) × (i ≤ length buf₀) × (buf ≡ replicate i 0 ++ drop i buf₀)
+Inv-loop buf₀ from i₀ buf i = (length buf ≡ length buf₀) × (from ≤ i) × (i ≤ length buf₀) × (buf ≡ cleared buf₀ from i)
 
 abbrev μ-loop : tie.MeasureT-loop
-μ-loop buf₀ i₀ buf i = length buf₀ - i
+μ-loop buf₀ from i₀ buf i = length buf₀ - i
 
 loop-holds : tie.Need-loop-holds Inv-loop μ-loop
-loop-holds c = (refl, omega arith, refl)
+loop-holds c = (refl, omega arith, omega arith, clear-start (c .args .buf .now) (c .args .from))
 
 slice-write-buf : tie.Need-slice-write-buf Inv-loop μ-loop
 slice-write-buf c = omega arith
@@ -29,7 +28,7 @@ loop-again : tie.Need-loop-again Inv-loop μ-loop
 loop-again c =
     let l = c .before .loop in
     let a = c .before .before .args in
-    (simp length-set (l .inv .0), omega arith, clear-more (a .buf .now) (l .buf) (l .i) (omega arith) (l .inv .2))
+    (simp length-set (l .inv .0), omega arith, omega arith, rw (l .inv .3) (clear-more (a .buf .now) (a .from) (l .i) (omega arith) (omega arith)))
 
 same-length : tie.Need-same-length Inv-loop μ-loop
 same-length c = c .before .loop .inv .0
@@ -37,7 +36,8 @@ same-length c = c .before .loop .inv .0
 returns : tie.Need-returns Inv-loop μ-loop
 returns c =
     let l = c .before .loop in
-    clear-end (c .before .before .args .buf .now) (l .buf) (l .i) (omega arith) (l .inv .2)
+    let a = c .before .before .args in
+    l .inv .3 ∙ clear-end (a .buf .now) (a .from) (l .i) (omega arith)
 
 pub clear-spec : {M : Type 1} → statement M
 clear-spec =

@@ -4,7 +4,8 @@ use borrow.Author.Needs.{needs}
 use Prim.Native.Nat.{_+_, _-_, _*_, _≤_}
 use native.Mathlib.Omega.{arith}
 use lib.ListN.{length, getD, drop}
-use Rattle.encoding.proofs.Doing.{Doing, begun, word-room, word-done, all-done, doing-as, next-byte, no-byte}
+use Rattle.encoding.specs.Written.{Doing}
+use Rattle.encoding.proofs.Doing.{begun, word-room, word-done, all-done, doing-as, next-byte, no-byte}
 use Rattle.encoding.proofs.write_bytes.Statement.{statement}
 use Rattle.encoding.proofs.write_bytes.Tie as tie
 

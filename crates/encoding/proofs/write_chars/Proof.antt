@@ -5,7 +5,8 @@ use native.Mathlib.Omega.{arith}
 use borrow.Author.Needs.{needs}
 use lib.ListN.{length, drop, length-drop}
 use Rattle.script.specs.Glyphs.{wordsOf, hasAll, beginsIn}
-use Rattle.encoding.proofs.Doing.{Doing, begun, word-room, word-done, all-done, doing-as, same-words, other-words, never-lacking, end-words}
+use Rattle.encoding.specs.Written.{Doing}
+use Rattle.encoding.proofs.Doing.{begun, word-room, word-done, all-done, doing-as, same-words, other-words, never-lacking, end-words}
 use Rattle.encoding.proofs.write_chars.Statement.{statement}
 use Rattle.encoding.proofs.write_chars.Tie as tie
 

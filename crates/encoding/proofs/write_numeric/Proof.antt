@@ -1,228 +1,49 @@
-use mathlib.Core.Path.{_≡_, refl, _∙_}
-use mathlib.Core.List.{[], _∷_}
-use Prim.Native.Nat.{_+_, _-_, _*_, _≤_}
 use native.Mathlib.Omega.{arith}
-use lib.ListN.{length, getD, drop}
-use Rattle.script.specs.Writer.{numericWords}
-use Rattle.encoding.proofs.Doing.{Doing, begun, word-room, word-done, all-done, doing-as, three-digits, one-digit, two-digits, no-digit}
+use borrow.Author.Needs.{needs}
+use Rattle.encoding.proofs.Doing.{all-left, doing-rest}
 use Rattle.encoding.proofs.write_numeric.Statement.{statement}
 use Rattle.encoding.proofs.write_numeric.Tie as tie
 
-abbrev Inv-loop : tie.InvT-loop
-Inv-loop buf₀ from run at₀ j₀ buf at j = (length buf ≡ length buf₀) × (j ≤ length run) × Doing 10 buf₀ from (numericWords run) buf at (numericWords (drop j run))
+write-sixes-requires : tie.Need-write-sixes-requires
+write-sixes-requires c κs = search needs
 
-abbrev μ-loop : tie.MeasureT-loop
-μ-loop buf₀ from run at₀ j₀ buf at j = length run - j
+mul-done : tie.Need-mul-done
+mul-done c = omega arith
 
-loop-holds : tie.Need-loop-holds Inv-loop μ-loop
-loop-holds c =
-    let a = c .before .before .args in
-    (refl, omega arith, begun 10 (a .buf .now) (a .from) (numericWords (a .run .now)))
+sub-write-groups : tie.Need-sub-write-groups
+sub-write-groups c = omega arith
 
-sub-loop : tie.Need-sub-loop Inv-loop μ-loop
-sub-loop c = omega arith
+part-write-groups-start : tie.Need-part-write-groups-start
+part-write-groups-start c = omega arith
 
-digit-requires : tie.Need-digit-requires Inv-loop μ-loop
-digit-requires c κs = omega arith
+part-write-groups-end : tie.Need-part-write-groups-end
+part-write-groups-end c = omega arith
 
-mul-v : tie.Need-mul-v Inv-loop μ-loop
-mul-v c = omega arith
+write-groups-requires : tie.Need-write-groups-requires
+write-groups-requires c κs =
+    let w = c .before .before .before .before .write-sixes in
+    let d = w .ensures .place in
+    let k = w .kept .0 in
+    (omega arith, rw (all-left (c .before .before .before .before .before .before .before .before .args .run .now) _) (omega arith))
 
-add-digit : tie.Need-add-digit Inv-loop μ-loop
-add-digit c = omega arith
+same-length : tie.Need-same-length
+same-length c = search needs
 
-digit-requires-2 : tie.Need-digit-requires-2 Inv-loop μ-loop
-digit-requires-2 c κs = omega arith
-
-mul-v-2 : tie.Need-mul-v-2 Inv-loop μ-loop
-mul-v-2 c = omega arith
-
-add-v : tie.Need-add-v Inv-loop μ-loop
-add-v c = omega arith
-
-add-digit-2 : tie.Need-add-digit-2 Inv-loop μ-loop
-add-digit-2 c = omega arith
-
-digit-requires-3 : tie.Need-digit-requires-3 Inv-loop μ-loop
-digit-requires-3 c κs = omega arith
-
-add-v-2 : tie.Need-add-v-2 Inv-loop μ-loop
-add-v-2 c = omega arith
-
-put-requires : tie.Need-put-requires Inv-loop μ-loop
-put-requires c κs =
-    let l = c .before .before .before .before .before .loop in
-    let a = c .before .before .before .before .before .before .before .before .args in
-    let r = word-room (8 * length (a .buf .now)) (doing-as (three-digits (a .run .now) (l .j) (omega arith)) (l .inv .2)) (omega arith) in
-    (omega arith, omega arith, omega arith)
-
-add-j : tie.Need-add-j Inv-loop μ-loop
-add-j c = omega arith
-
-loop-less : tie.Need-loop-less Inv-loop μ-loop
-loop-less c = omega arith
-
-loop-again : tie.Need-loop-again Inv-loop μ-loop
-loop-again c =
-    let d = c .before .before .before .before in
-    let l = d .before .before .before .before .loop in
-    let a = d .before .before .before .before .before .before .before .args in
-    let p = c .before .before .put in (
-      p .kept .0 ∙ l .inv .0,
-      omega arith,
-      word-done (doing-as (three-digits (a .run .now) (l .j) (omega arith)) (l .inv .2))
-          (rw (d .before .before .digit .ensures .0, d .before .digit2 .ensures .0, d .digit3 .ensures .0) at (p .ensures)),
-    )
-
-sub-left : tie.Need-sub-left Inv-loop μ-loop
-sub-left c = omega arith
-
-digit-requires-4 : tie.Need-digit-requires-4 Inv-loop μ-loop
-digit-requires-4 c κs = omega arith
-
--- one digit is left, or two, or none
-one : (c : tie.Then1 Inv-loop μ-loop) → Doing 10 (c .before .before .before .before .before .args .buf .now) (c .before .before .before .before .before .args .from) (numericWords (c .before .before .before .before .before .args .run .now)) (c .before .before .loop .buf) (c .before .before .loop .at) ((getD (c .before .before .before .before .before .args .run .now) (c .before .before .loop .j) 0 - 48) ∷ 1021 ∷ [])
-one c =
-    let l = c .before .before .loop in
-    let a = c .before .before .before .before .before .args in
-    doing-as (one-digit (a .run .now) (l .j) (omega arith)) (l .inv .2)
-
-two : (c : tie.Then2 Inv-loop μ-loop) → Doing 10 (c .before .before .before .before .before .before .args .buf .now) (c .before .before .before .before .before .before .args .from) (numericWords (c .before .before .before .before .before .before .args .run .now)) (c .before .before .before .loop .buf) (c .before .before .before .loop .at) (((getD (c .before .before .before .before .before .before .args .run .now) (c .before .before .before .loop .j) 0 - 48) * 10 + (getD (c .before .before .before .before .before .before .args .run .now) (c .before .before .before .loop .j + 1) 0 - 48)) ∷ 1022 ∷ [])
-two c =
-    let l = c .before .before .before .loop in
-    let a = c .before .before .before .before .before .before .args in
-    doing-as (two-digits (a .run .now) (l .j) (omega arith)) (l .inv .2)
-
-none : (c : tie.Else2 Inv-loop μ-loop) → Doing 10 (c .before .before .before .before .before .before .args .buf .now) (c .before .before .before .before .before .before .args .from) (numericWords (c .before .before .before .before .before .before .args .run .now)) (c .before .before .before .loop .buf) (c .before .before .before .loop .at) (1023 ∷ [])
-none c =
-    let l = c .before .before .before .loop in
-    let a = c .before .before .before .before .before .before .args in
-    doing-as (no-digit (a .run .now) (l .j) (omega arith)) (l .inv .2)
-
-put-requires-2 : tie.Need-put-requires-2 Inv-loop μ-loop
-put-requires-2 c κs =
-    let i = c .before .before in
-    let a = i .before .before .before .before .before .args in
-    let r = word-room (8 * length (a .buf .now)) (one i) (omega arith) in
-    (omega arith, omega arith, omega arith)
-
-put-requires-3 : tie.Need-put-requires-3 Inv-loop μ-loop
-put-requires-3 c κs =
-    let d = c .before .before .before .before in
-    let i = d .before .before in
-    let a = i .before .before .before .before .before .args in
-    let p = c .before .before .before .put2 in
-    let r = word-room (8 * length (a .buf .now)) (word-done (one i) (rw (d .digit4 .ensures .0) at (p .ensures))) (omega arith) in
-    let k = p .kept .0 in
-    (omega arith, omega arith, omega arith)
-
-same-length : tie.Need-same-length Inv-loop μ-loop
-same-length c =
-    let loop = c .before .before .before .before .before .before .before .before .before .before .before .loop in
-    let put2 = c .before .before .before .before .before .before .put2 in
-    c .before .before .put3 .kept .0 ∙ put2 .kept .0 ∙ loop .inv .0
-
-returns : tie.Need-returns Inv-loop μ-loop
+returns : tie.Need-returns
 returns c =
-    let d = c .before .before .before .before .before .before .before in
-    let i = d .before .before in
-    let p = c .before .before .before .before .before .before .put2 in
-    all-done (word-done (word-done (one i) (rw (d .digit4 .ensures .0) at (p .ensures))) (c .before .before .put3 .ensures))
-
-digit-requires-5 : tie.Need-digit-requires-5 Inv-loop μ-loop
-digit-requires-5 c κs = omega arith
-
-mul-put : tie.Need-mul-put Inv-loop μ-loop
-mul-put c = omega arith
-
-add-digit-3 : tie.Need-add-digit-3 Inv-loop μ-loop
-add-digit-3 c = omega arith
-
-digit-requires-6 : tie.Need-digit-requires-6 Inv-loop μ-loop
-digit-requires-6 c κs = omega arith
-
-add-put : tie.Need-add-put Inv-loop μ-loop
-add-put c = omega arith
-
-put-requires-4 : tie.Need-put-requires-4 Inv-loop μ-loop
-put-requires-4 c κs =
-    let i = c .before .before .before in
-    let a = i .before .before .before .before .before .before .args in
-    let r = word-room (8 * length (a .buf .now)) (two i) (omega arith) in
-    (omega arith, omega arith, omega arith)
-
-put-requires-5 : tie.Need-put-requires-5 Inv-loop μ-loop
-put-requires-5 c κs =
-    let d = c .before .before .before .before in
-    let i = d .before .before .before in
-    let a = i .before .before .before .before .before .before .args in
-    let p = c .before .before .before .put4 in
-    let r = word-room (8 * length (a .buf .now)) (word-done (two i) (rw (d .before .digit5 .ensures .0, d .digit6 .ensures .0) at (p .ensures))) (omega arith) in
-    let k = p .kept .0 in
-    (omega arith, omega arith, omega arith)
-
-same-length-2 : tie.Need-same-length-2 Inv-loop μ-loop
-same-length-2 c =
-    let loop = c .before .before .before .before .before .before .before .before .before .before .before .before .before .loop in
-    let put4 = c .before .before .before .before .before .before .put4 in
-    c .before .before .put5 .kept .0 ∙ put4 .kept .0 ∙ loop .inv .0
-
-returns-2 : tie.Need-returns-2 Inv-loop μ-loop
-returns-2 c =
-    let d = c .before .before .before .before .before .before .before in
-    let i = d .before .before .before in
-    let p = c .before .before .before .before .before .before .put4 in
-    all-done (word-done (word-done (two i) (rw (d .before .digit5 .ensures .0, d .digit6 .ensures .0) at (p .ensures))) (c .before .before .put5 .ensures))
-
-put-requires-6 : tie.Need-put-requires-6 Inv-loop μ-loop
-put-requires-6 c κs =
-    let i = c .before in
-    let a = i .before .before .before .before .before .before .args in
-    let r = word-room (8 * length (a .buf .now)) (none i) (omega arith) in
-    (omega arith, omega arith, omega arith)
-
-same-length-3 : tie.Need-same-length-3 Inv-loop μ-loop
-same-length-3 c = c .before .before .put6 .kept .0 ∙ c .before .before .before .before .before .before .before .loop .inv .0
-
-returns-3 : tie.Need-returns-3 Inv-loop μ-loop
-returns-3 c = all-done (word-done (none (c .before .before .before .before)) (c .before .before .put6 .ensures))
+    let g = c .before .before .write-groups in
+    let a = c .before .before .before .before .before .before .before .before .before .before .before .args in
+    doing-rest (c .before .before .before .before .before .before .before .write-sixes .ensures) (rw (all-left (a .run .now) _) at (g .ensures))
 
 pub write-numeric-spec : {M : Type 1} → statement M
 write-numeric-spec =
     tie.close
     (tie.spec
-    Inv-loop
-    μ-loop
-    loop-holds
-    sub-loop
-    digit-requires
-    mul-v
-    add-digit
-    digit-requires-2
-    mul-v-2
-    add-v
-    add-digit-2
-    digit-requires-3
-    add-v-2
-    put-requires
-    add-j
-    loop-less
-    loop-again
-    sub-left
-    digit-requires-4
-    put-requires-2
-    put-requires-3
+    write-sixes-requires
+    mul-done
+    sub-write-groups
+    part-write-groups-start
+    part-write-groups-end
+    write-groups-requires
     same-length
-    returns
-    digit-requires-5
-    mul-put
-    add-digit-3
-    digit-requires-6
-    add-put
-    put-requires-4
-    put-requires-5
-    same-length-2
-    returns-2
-    put-requires-6
-    same-length-3
-    returns-3)
+    returns)

@@ -37,7 +37,7 @@ same-length-3 c = search needs
 
 returns : tie.Need-returns
 returns c =
-    let tell = c .before .before .before .before .before .before .before .before .tell in
+    let tell = c .before .before .before .before .before .before .before .before .before .tell in
     finished _ _ _ _ _ _ (tell .ensures .0) (c .before .before .write-receipt .ensures)
 
 pub finish-spec : {M : Type 1} → statement M

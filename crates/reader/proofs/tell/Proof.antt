@@ -18,16 +18,16 @@ refused-requires c κs = search needs
 
 returns : tie.Need-returns
 returns c =
-    let before = c .before .before .before .before .before .before .before .before in
+    let before = c .before .before .before .before .before .before .before .before .before in
     let a = before in
     too-few (a .args .m) _ _ (a .pre .0) (a .pre .1) _ _ (c .before .before .before .data-modules .ensures) (c .before .before .total-codewords .ensures .0) _ _ (c .before .if1 .taken) _ (c .refused .ensures)
 
 tell-blocks-requires : tie.Need-tell-blocks-requires
 tell-blocks-requires c κs =
-    let before = c .before .before .before .before .before .before .before .before .before in
-    let data-modules = c .before .before .before .before .data-modules in
+    let before = c .before .before .before .before .before .before .before .before .before .before .before in
+    let data-modules = c .before .before .before .before .before .data-modules in
     let a = before in
-    (a .pre .0, a .pre .1, enough (a .args .m) _ _ (a .pre .0) (a .pre .1) _ _ (data-modules .ensures) (c .before .before .before .total-codewords .ensures .0) (a .args .payload .now) (a .args .script .now) (c .before .before .if1 .left))
+    (a .pre .0, a .pre .1, enough (a .args .m) _ _ (a .pre .0) (a .pre .1) _ _ (data-modules .ensures) (c .before .before .before .before .total-codewords .ensures .0) (a .args .payload .now) (a .args .script .now) (c .before .before .before .if1 .left))
 
 same-length : tie.Need-same-length
 same-length c = search needs
@@ -37,14 +37,20 @@ same-length-2 c = search needs
 
 returns-2 : tie.Need-returns-2
 returns-2 c =
-    let before = c .before .before .before .before .before .before .before .before .before .before .before .before .before .before in
-    let data-modules = c .before .before .before .before .before .before .before .before .before .data-modules in
-    let total-codewords = c .before .before .before .before .before .before .before .before .total-codewords in
-    let if1 = c .before .before .before .before .before .before .before .if1 in
-    let tell-blocks = c .before .before .before .before .tell-blocks in
+    let before = c .before .before .before .before .before .before .before .before .before .before .before .before .before .before .before .before .before .before in
+    let data-modules = c .before .before .before .before .before .before .before .before .before .before .before .before .data-modules in
+    let total-codewords = c .before .before .before .before .before .before .before .before .before .before .before .total-codewords in
+    let if1 = c .before .before .before .before .before .before .before .before .before .before .if1 in
+    let tell-blocks = c .before .before .before .before .before .before .tell-blocks in
     let a = before in
     let q = tell-blocks .ensures in
     (with-blocks (a .args .m) _ _ (a .pre .0) (a .pre .1) _ _ (data-modules .ensures) (total-codewords .ensures .0) _ _ (if1 .left) _ (q .0), q .1)
+
+same-length-3 : tie.Need-same-length-3
+same-length-3 c = search needs
+
+same-length-4 : tie.Need-same-length-4
+same-length-4 c = search needs
 
 pub tell-spec : {M : Type 1} → statement M
 tell-spec =
@@ -54,8 +60,10 @@ tell-spec =
     total-codewords-requires
     mul-if1
     refused-requires
+    same-length
     returns
     tell-blocks-requires
-    same-length
     same-length-2
+    same-length-3
+    same-length-4
     returns-2)

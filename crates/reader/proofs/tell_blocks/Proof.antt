@@ -19,10 +19,10 @@ slice-aggregate-read-stream c = search needs
 
 read-stream-requires : tie.Need-read-stream-requires
 read-stream-requires c κs =
-    let before = c .before .before .before .before .before .before .before in
+    let before = c .before .before .before .before .before .before .before .before in
     let a = before in
-    let total = c .before .total-codewords in
-    let side = c .before .before .side in
+    let total = c .before .before .total-codewords in
+    let side = c .before .before .before .side in
     let size = a .pre .0 .size ∙ sym (ap (λ (n : ℕ). n * n) (side .ensures)) in
     ((legible (a .args .m) _ _ (a .pre .0) (a .pre .1), omega (arith, side .ensures), omega (arith, side .ensures, a .pre .0 .high), size), (total .ensures .1, total .ensures .1, enough-bits (a .args .m) _ _ (a .pre .0) (a .pre .1) _ (total .result) (total .ensures .0) (a .pre .2)))
 
@@ -40,8 +40,8 @@ slice-aggregate-correct-blocks-2 c = search needs
 
 correct-blocks-requires : tie.Need-correct-blocks-requires
 correct-blocks-requires c κs =
-    let before = c .before .before .before .before .before .before .before .before .before .before .before .before .before .before in
-    let total-codewords = c .before .before .before .before .before .before .before .before .total-codewords in
+    let before = c .before .before .before .before .before .before .before .before .before .before .before .before .before .before .before in
+    let total-codewords = c .before .before .before .before .before .before .before .before .before .total-codewords in
     let han-xin = c .before .before .before .before .han-xin in
     let a = before in
     let f = a .pre .0 in
@@ -61,13 +61,13 @@ slice-aggregate-tell-segments-2 c = search needs
 
 tell-segments-requires : tie.Need-tell-segments-requires
 tell-segments-requires c κs =
-    let a = c .before .before .before .before .before .before .before .before .before .before .before .before .before .before .before .before .before .before .before .before .before .before .before in
+    let a = c .before .before .before .before .before .before .before .before .before .before .before .before .before .before .before .before .before .before .before .before .before .before .before .before .before in
     let f = a .pre .0 in
-    let row = c .before .before .before .before .before .before .before .before .before .before .before .before .block-row in
+    let row = c .before .before .before .before .before .before .before .before .before .before .before .before .before .block-row in
     let long = row-total _ _ (f .low) (f .high) (f .level) _ (row .ensures) in
-    let q = c .before .before .before .before .before .before .before .before .correct-blocks in
-    let n = c .before .before .before .before .before .count .given in
-    (search needs, omega (arith, long, c .before .before .before .before .before .before .before .before .before .before .before .before .before .before .before .before .before .total-codewords .ensures), row-data _ _ (f .low) (f .high) (f .level) _ (row .ensures), count-small (a .args .m) _ _ (a .pre .0) (a .pre .1) _ (row .ensures) _ (n .0 .0) _ (n .1) (λ z. q .ensures .1 z .0))
+    let q = c .before .before .before .before .before .before .before .before .before .correct-blocks in
+    let n = c .before .before .before .before .before .before .count .given in
+    (search needs, omega (arith, long, c .before .before .before .before .before .before .before .before .before .before .before .before .before .before .before .before .before .before .before .total-codewords .ensures), row-data _ _ (f .low) (f .high) (f .level) _ (row .ensures), count-small (a .args .m) _ _ (a .pre .0) (a .pre .1) _ (row .ensures) _ (n .0 .0) _ (n .1) (λ z. q .ensures .1 z .0))
 
 enum-told : tie.Need-enum-told
 enum-told c = search needs
@@ -83,14 +83,14 @@ same-length-2 c = search needs
 
 returns : tie.Need-returns
 returns c =
-    let before = c .before .before .before .before .before .before .before .before .before .before .before .before .before .before .before .before .before .before .before .before .before .before .before .before .before .before .before .before in
-    let side = c .before .before .before .before .before .before .before .before .before .before .before .before .before .before .before .before .before .before .before .before .before .before .before .side in
-    let total-codewords = c .before .before .before .before .before .before .before .before .before .before .before .before .before .before .before .before .before .before .before .before .before .before .total-codewords in
-    let read-stream = c .before .before .before .before .before .before .before .before .before .before .before .before .before .before .before .before .before .before .before .before .read-stream in
-    let block-row = c .before .before .before .before .before .before .before .before .before .before .before .before .before .before .before .before .before .block-row in
-    let correct-blocks = c .before .before .before .before .before .before .before .before .before .before .before .before .before .correct-blocks in
-    let count = c .before .before .before .before .before .before .before .before .before .before .count in
-    let tell-segments = c .before .before .before .before .tell-segments in
+    let before = c .before .before .before .before .before .before .before .before .before .before .before .before .before .before .before .before .before .before .before .before .before .before .before .before .before .before .before .before .before .before .before .before .before in
+    let side = c .before .before .before .before .before .before .before .before .before .before .before .before .before .before .before .before .before .before .before .before .before .before .before .before .before .before .before .before .side in
+    let total-codewords = c .before .before .before .before .before .before .before .before .before .before .before .before .before .before .before .before .before .before .before .before .before .before .before .before .before .before .before .total-codewords in
+    let read-stream = c .before .before .before .before .before .before .before .before .before .before .before .before .before .before .before .before .before .before .before .before .before .before .before .before .read-stream in
+    let block-row = c .before .before .before .before .before .before .before .before .before .before .before .before .before .before .before .before .before .before .before .before .before .block-row in
+    let correct-blocks = c .before .before .before .before .before .before .before .before .before .before .before .before .before .before .before .before .before .correct-blocks in
+    let count = c .before .before .before .before .before .before .before .before .before .before .before .before .before .before .count in
+    let tell-segments = c .before .before .before .before .before .before .before .tell-segments in
     let a = before in
     let row = block-row in
     let st = stream-is (a .args .m) _ _ (a .pre .0) (a .pre .1) _ _ _ _ (side .ensures) (total-codewords .ensures .0) (read-stream .ensures) in
@@ -100,9 +100,9 @@ returns c =
 
 returns-2 : tie.Need-returns-2
 returns-2 c =
-    let before = c .before .before .before .before .before .before .before .before .before .before .before .before .before .before .before .before .before .before .before in
-    let side = c .before .before .before .before .before .before .before .before .before .before .before .before .before .before .side in
-    let total-codewords = c .before .before .before .before .before .before .before .before .before .before .before .before .before .total-codewords in
+    let before = c .before .before .before .before .before .before .before .before .before .before .before .before .before .before .before .before .before .before .before .before in
+    let side = c .before .before .before .before .before .before .before .before .before .before .before .before .before .before .before .side in
+    let total-codewords = c .before .before .before .before .before .before .before .before .before .before .before .before .before .before .total-codewords in
     let read-stream = c .before .before .before .before .before .before .before .before .before .before .before .read-stream in
     let block-row = c .before .before .before .before .before .before .before .before .block-row in
     let correct-blocks = c .before .before .before .before .correct-blocks in
@@ -110,6 +110,12 @@ returns-2 c =
     let row = block-row in
     let st = stream-is (a .args .m) _ _ (a .pre .0) (a .pre .1) _ _ _ _ (side .ensures) (total-codewords .ensures .0) (read-stream .ensures) in
     blocks-refused (a .args .m) _ _ (a .pre .0) (a .pre .1) _ (row .ensures) _ _ _ _ st _ _ (c .before .enum-told .given .1) (correct-blocks .ensures .0) (c .refused .ensures)
+
+same-length-3 : tie.Need-same-length-3
+same-length-3 c = search needs
+
+same-length-4 : tie.Need-same-length-4
+same-length-4 c = search needs
 
 pub tell-blocks-spec : {M : Type 1} → statement M
 tell-blocks-spec =
@@ -132,5 +138,7 @@ tell-blocks-spec =
     refused-requires
     same-length
     same-length-2
+    same-length-3
     returns
+    same-length-4
     returns-2)

@@ -20,13 +20,13 @@ gather-data-requires c κs = search needs
 array-share-prefix-data : tie.Need-array-share-prefix-data
 array-share-prefix-data c = search needs
 
-slice-aggregate-from-data : tie.Need-slice-aggregate-from-data
-slice-aggregate-from-data c =
+slice-aggregate-from-data-with : tie.Need-slice-aggregate-from-data-with
+slice-aggregate-from-data-with c =
     let g = c .before .before .gather-data in
-    sym (length-take-le (g .result) (g .last .0) (omega (arith, g .ensures .0, c .before .before .before .before .before .before .before .before .pre)))
+    sym (length-take-le (g .result) (g .last .0) (omega (arith, g .ensures .0, c .before .before .before .before .before .before .before .before .before .before .pre)))
 
-from-data-requires : tie.Need-from-data-requires
-from-data-requires c κs = search needs
+from-data-with-requires : tie.Need-from-data-with-requires
+from-data-with-requires c κs = search needs
 
 told-of-requires : tie.Need-told-of-requires
 told-of-requires c κs = search needs
@@ -39,9 +39,9 @@ same-length-2 c = search needs
 
 returns : tie.Need-returns
 returns c =
-    let before = c .before .before .before .before .before .before .before .before .before .before .before .before .before .before .before .before in
-    let gather-data = c .before .before .before .before .before .before .before .before .before .before .gather-data in
-    let from-data = c .before .before .before .before .before .from-data in
+    let before = c .before .before .before .before .before .before .before .before .before .before .before .before .before .before .before .before .before .before .before .before .before .before .before .before in
+    let gather-data = c .before .before .before .before .before .before .before .before .before .before .before .before .before .before .before .before .gather-data in
+    let from-data = c .before .before .before .before .before .before .before .before .before .from-data-with in
     let q = from-data in
     let g = gather-data in
     let a = before in
@@ -50,6 +50,12 @@ returns c =
     tells (a .args .count) (q .result) _ d (a .args .payload .now) (a .args .script .now) _ _ (g .result) (a .pre .3) (f .0) (omega (arith, g .ensures .0, a .pre .2)) (c .told-of .ensures)
     (q .ensures ∙ ap (λ (x : List ℕ). fromData x (a .args .payload .now) (a .args .script .now)) (f .1))
 
+same-length-3 : tie.Need-same-length-3
+same-length-3 c = search needs
+
+same-length-4 : tie.Need-same-length-4
+same-length-4 c = search needs
+
 pub tell-segments-spec : {M : Type 1} → statement M
 tell-segments-spec =
     tie.close
@@ -57,9 +63,11 @@ tell-segments-spec =
     slice-aggregate-gather-data
     gather-data-requires
     array-share-prefix-data
-    slice-aggregate-from-data
-    from-data-requires
+    slice-aggregate-from-data-with
+    from-data-with-requires
     told-of-requires
     same-length
     same-length-2
+    same-length-3
+    same-length-4
     returns)

@@ -1,39 +1,32 @@
-use mathlib.Core.Path.{_≡_, refl, sym, ap, _∙_}
+use mathlib.Core.Path.{_≡_, refl, sym, _∙_}
+use mathlib.Core.Bool.{_&&_}
 use Prim.Native.Nat.{_≤_, _-_}
 use native.Mathlib.Omega.{arith}
 use borrow.Author.Needs.{needs}
-use borrow.Author.Tests.{not-true, not-false}
+use lib.Dec.{ltb}
 use lib.ListN.{length, drop}
 use Rattle.script.specs.Writer.{all, isDigit}
-use Rattle.script.proofs.Runs.{digit-more, digit-none, digit-end}
+use Rattle.script.proofs.Runs.{digits-next, digits-end}
 use Rattle.script.proofs.all_digits.Statement.{statement}
 use Rattle.script.proofs.all_digits.Tie as tie
 
 abbrev Inv-loop : tie.InvT-loop
-Inv-loop run j₀ j = (j ≤ length run) × (all isDigit run ≡ all isDigit (drop j run))
+Inv-loop run top₀ j₀ top j = (j ≤ length run) × (all isDigit run ≡ (ltb top 10 && all isDigit (drop j run)))
 
 abbrev μ-loop : tie.MeasureT-loop
-μ-loop run j₀ j = length run - j
+μ-loop run top₀ j₀ top j = length run - j
 
 loop-holds : tie.Need-loop-holds Inv-loop μ-loop
 loop-holds c = (omega arith, refl)
 
-shared-slice-read-wide : tie.Need-shared-slice-read-wide Inv-loop μ-loop
-shared-slice-read-wide c = omega arith
+shared-slice-read-digit-value : tie.Need-shared-slice-read-digit-value Inv-loop μ-loop
+shared-slice-read-digit-value c = omega arith
 
-wide-requires : tie.Need-wide-requires Inv-loop μ-loop
-wide-requires c κs = search needs
+digit-value-requires : tie.Need-digit-value-requires Inv-loop μ-loop
+digit-value-requires c κs = search needs
 
-is-digit-requires : tie.Need-is-digit-requires Inv-loop μ-loop
-is-digit-requires c κs = search needs
-
-returns : tie.Need-returns Inv-loop μ-loop
-returns c =
-    let is-digit = c .before .is-digit in
-    let w = c .before .before in
-    let l = w .before .before .before .loop in
-    let a = w .before .before .before .before .before .args in
-    sym (l .inv .1 ∙ digit-none (a .run .now) (l .j) (omega arith) (sym (is-digit .ensures ∙ ap isDigit (w .wide .ensures .0)) ∙ not-true (is-digit .result) (c .if1 .taken)))
+greater-requires : tie.Need-greater-requires Inv-loop μ-loop
+greater-requires c κs = search needs
 
 add-j : tie.Need-add-j Inv-loop μ-loop
 add-j c = omega arith
@@ -43,16 +36,15 @@ loop-less c = omega arith
 
 loop-again : tie.Need-loop-again Inv-loop μ-loop
 loop-again c =
-    let is-digit = c .before .is-digit in
-    let w = c .before .before in
-    let l = w .before .before .before .loop in
-    let a = w .before .before .before .before .before .args in
-    (omega arith, l .inv .1 ∙ digit-more (a .run .now) (l .j) (omega arith) (sym (is-digit .ensures ∙ ap isDigit (w .wide .ensures .0)) ∙ not-false (is-digit .result) (c .if1 .left)))
+    let d = c .before in
+    let l = d .before .before .before .loop in
+    let a = d .before .before .before .before .before .args in
+    (omega arith, l .inv .1 ∙ digits-next (a .run .now) (l .j) (l .top) (d .digit-value .result) (c .greater .result) (omega arith) (d .digit-value .ensures) (c .greater .ensures))
 
-returns-2 : tie.Need-returns-2 Inv-loop μ-loop
-returns-2 c =
+returns : tie.Need-returns Inv-loop μ-loop
+returns c =
     let l = c .before .loop in
-    digit-end (c .before .before .before .args .run .now) (l .j) (omega arith) ∙ sym (l .inv .1)
+    digits-end (c .before .before .before .args .run .now) (l .j) (l .top) (omega arith) ∙ sym (l .inv .1)
 
 pub all-digits-spec : {M : Type 1} → statement M
 all-digits-spec =
@@ -61,11 +53,10 @@ all-digits-spec =
     Inv-loop
     μ-loop
     loop-holds
-    shared-slice-read-wide
-    wide-requires
-    is-digit-requires
-    returns
+    shared-slice-read-digit-value
+    digit-value-requires
+    greater-requires
     add-j
     loop-less
     loop-again
-    returns-2)
+    returns)

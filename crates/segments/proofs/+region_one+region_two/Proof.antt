@@ -1,5 +1,5 @@
 -- `region_one` and `region_two` call each other at a switch; the bits left fall by twelve each time.
-use Prim.Native.Nat.{ℕ, _<_, _-_, _*_}
+use Prim.Native.Nat.{ℕ, _<_, _≤_, _-_, _*_}
 use mathlib.Core.Path.{_∙_}
 use mathlib.Core.Bool.{true, false}
 use native.Mathlib.Omega.{arith}
@@ -7,7 +7,8 @@ use borrow.Author.Needs.{needs}
 use borrow.Fn.Kinds.{In}
 use borrow.Fn.PlainCycle.{Measures, is, falls, and}
 use lib.ListN.{length}
-use Rattle.segments.proofs.Regions.{ran-end, ran-cut, ran-lacks, ran-room, ran-on}
+use Rattle.segments.specs.Passes.{countOf}
+use Rattle.segments.proofs.Regions.{ran-end, ran-small, ran-cut, ran-lacks, ran-room, ran-on}
 use Rattle.segments.proofs.region_one.Reads as region-one
 use Rattle.segments.proofs.region_one.Kinds as region-one-kinds
 use Rattle.segments.proofs.+region_one+region_two.Lts-region_one as region-one-lts
@@ -48,6 +49,23 @@ region-one-same-region-requires t c κs = search needs
 region-one-enum-known-ran : (t : ℕ) → region-one-lts.Need-enum-known-ran (one-claims t) (region-one-at t) region-one.Post
 region-one-enum-known-ran t c = c .match .keys1
 
+-- position and bytes of the end are not large
+region-one-small : (t : ℕ) (c : region-one-lts.After-known-told (one-claims t) (region-one-at t) region-one.Post) → (c .before .ran .given .0 .0 ≤ 32768) × (c .before .ran .given .0 .1 .0 ≤ 32768)
+region-one-small t c =
+    let g = c .before .before .before .before .before in
+    let a = g .before .before .before .before .args in
+    let r = g .same-region in
+    ran-small (a .s .now) (a .from) (a .to) (a .out .now) true (r .result) (r .last .1 .1 .0) (r .ensures) (omega arith) (c .before .ran .given .0 .0) (c .before .ran .given .0 .1 .0) (c .before .ran .given .1)
+
+region-one-mul-result : (t : ℕ) → region-one-lts.Need-mul-result (one-claims t) (region-one-at t) region-one.Post
+region-one-mul-result t c = let k = region-one-small t c in omega arith
+
+region-one-add-result : (t : ℕ) → region-one-lts.Need-add-result (one-claims t) (region-one-at t) region-one.Post
+region-one-add-result t c = let k = region-one-small t c in omega arith
+
+region-one-add-result-2 : (t : ℕ) → region-one-lts.Need-add-result-2 (one-claims t) (region-one-at t) region-one.Post
+region-one-add-result-2 t c = let k = region-one-small t c in omega arith
+
 region-one-enum-known-ran-2 : (t : ℕ) → region-one-lts.Need-enum-known-ran-2 (one-claims t) (region-one-at t) region-one.Post
 region-one-enum-known-ran-2 t c = c .match .keys2
 
@@ -74,7 +92,7 @@ region-one-returns t c =
     let g = c .before .before .before .before .before in
     let a = g .before .before .before .before .args in
     let r = g .same-region in
-    ran-end (a .s .now) (a .from) (a .to) (a .out .now) true (r .result) (r .last .1 .1 .0) (r .ensures) (c .before .ran .given .0 .0) (c .before .ran .given .0 .1 .0) (c .before .ran .given .1)
+    ran-end (a .s .now) (a .from) (a .to) (a .out .now) true (r .result) (r .last .1 .1 .0) (r .ensures) (omega arith) (c .before .ran .given .0 .0) (c .before .ran .given .0 .1 .0) (c .before .ran .given .1)
 
 region-one-same-length-2 : (t : ℕ) → region-one-lts.Need-same-length-2 (one-claims t) (region-one-at t) region-one.Post
 region-one-same-length-2 t c = c .before .before .region-two .kept .1 .1 .0 ∙ c .before .before .before .before .before .before .before .before .before .same-region .kept .1 .1 .0
@@ -86,7 +104,7 @@ region-one-returns-2 t c =
     let r = g .same-region in
     let v = c .before .before .before .before .before .ran2 .given in
     let q = c .before .before .region-two in
-    ran-on (a .s .now) (a .from) (a .to) (a .out .now) true (r .result) (r .last .1 .1 .0) (r .ensures) (v .0 .0) (v .0 .1 .0) (v .1) (q .result) (q .last .1 .1 .0) (q .ensures)
+    ran-on (a .s .now) (a .from) (a .to) (a .out .now) true (r .result) (r .last .1 .1 .0) (r .ensures) (v .0 .0) (v .0 .1 .0) (v .1) (countOf (q .result)) (q .last .1 .1 .0) (q .ensures)
 
 region-one-same-length-3 : (t : ℕ) → region-one-lts.Need-same-length-3 (one-claims t) (region-one-at t) region-one.Post
 region-one-same-length-3 t c = c .before .before .before .before .same-region .kept .1 .1 .0
@@ -114,6 +132,23 @@ region-two-same-region-requires t c κs = search needs
 region-two-enum-known-ran : (t : ℕ) → region-two-lts.Need-enum-known-ran (two-claims t) (region-two-at t) region-two.Post
 region-two-enum-known-ran t c = c .match .keys1
 
+-- position and bytes of the end are not large
+region-two-small : (t : ℕ) (c : region-two-lts.After-known-told (two-claims t) (region-two-at t) region-two.Post) → (c .before .ran .given .0 .0 ≤ 32768) × (c .before .ran .given .0 .1 .0 ≤ 32768)
+region-two-small t c =
+    let g = c .before .before .before .before .before in
+    let a = g .before .before .before .before .args in
+    let r = g .same-region in
+    ran-small (a .s .now) (a .from) (a .to) (a .out .now) false (r .result) (r .last .1 .1 .0) (r .ensures) (omega arith) (c .before .ran .given .0 .0) (c .before .ran .given .0 .1 .0) (c .before .ran .given .1)
+
+region-two-mul-result : (t : ℕ) → region-two-lts.Need-mul-result (two-claims t) (region-two-at t) region-two.Post
+region-two-mul-result t c = let k = region-two-small t c in omega arith
+
+region-two-add-result : (t : ℕ) → region-two-lts.Need-add-result (two-claims t) (region-two-at t) region-two.Post
+region-two-add-result t c = let k = region-two-small t c in omega arith
+
+region-two-add-result-2 : (t : ℕ) → region-two-lts.Need-add-result-2 (two-claims t) (region-two-at t) region-two.Post
+region-two-add-result-2 t c = let k = region-two-small t c in omega arith
+
 region-two-enum-known-ran-2 : (t : ℕ) → region-two-lts.Need-enum-known-ran-2 (two-claims t) (region-two-at t) region-two.Post
 region-two-enum-known-ran-2 t c = c .match .keys2
 
@@ -140,7 +175,7 @@ region-two-returns t c =
     let g = c .before .before .before .before .before in
     let a = g .before .before .before .before .args in
     let r = g .same-region in
-    ran-end (a .s .now) (a .from) (a .to) (a .out .now) false (r .result) (r .last .1 .1 .0) (r .ensures) (c .before .ran .given .0 .0) (c .before .ran .given .0 .1 .0) (c .before .ran .given .1)
+    ran-end (a .s .now) (a .from) (a .to) (a .out .now) false (r .result) (r .last .1 .1 .0) (r .ensures) (omega arith) (c .before .ran .given .0 .0) (c .before .ran .given .0 .1 .0) (c .before .ran .given .1)
 
 region-two-same-length-2 : (t : ℕ) → region-two-lts.Need-same-length-2 (two-claims t) (region-two-at t) region-two.Post
 region-two-same-length-2 t c = c .before .before .region-one .kept .1 .1 .0 ∙ c .before .before .before .before .before .before .before .before .before .same-region .kept .1 .1 .0
@@ -152,7 +187,7 @@ region-two-returns-2 t c =
     let r = g .same-region in
     let v = c .before .before .before .before .before .ran2 .given in
     let q = c .before .before .region-one in
-    ran-on (a .s .now) (a .from) (a .to) (a .out .now) false (r .result) (r .last .1 .1 .0) (r .ensures) (v .0 .0) (v .0 .1 .0) (v .1) (q .result) (q .last .1 .1 .0) (q .ensures)
+    ran-on (a .s .now) (a .from) (a .to) (a .out .now) false (r .result) (r .last .1 .1 .0) (r .ensures) (v .0 .0) (v .0 .1 .0) (v .1) (countOf (q .result)) (q .last .1 .1 .0) (q .ensures)
 
 region-two-same-length-3 : (t : ℕ) → region-two-lts.Need-same-length-3 (two-claims t) (region-two-at t) region-two.Post
 region-two-same-length-3 t c = c .before .before .before .before .same-region .kept .1 .1 .0
@@ -179,6 +214,9 @@ pub +region-one+region-two-spec : {M : Type 1} → statement M
     (λ t. region-one-lts.spec (one-claims t) (region-one-at t) region-one.Post
     (region-one-same-region-requires t)
     (region-one-enum-known-ran t)
+    (region-one-mul-result t)
+    (region-one-add-result t)
+    (region-one-add-result-2 t)
     (region-one-enum-known-ran-2 t)
     (region-one-region-two-requires t)
     (region-one-enum-told t)
@@ -194,6 +232,9 @@ pub +region-one+region-two-spec : {M : Type 1} → statement M
     (λ t. region-two-lts.spec (two-claims t) (region-two-at t) region-two.Post
     (region-two-same-region-requires t)
     (region-two-enum-known-ran t)
+    (region-two-mul-result t)
+    (region-two-add-result t)
+    (region-two-add-result-2 t)
     (region-two-enum-known-ran-2 t)
     (region-two-region-one-requires t)
     (region-two-enum-told t)

@@ -57,18 +57,18 @@ same-length-4 c = search needs
 
 returns-4 : tie.Need-returns-4
 returns-4 c =
-    let q = c .before .before .region-one in
-    let a = c .before .before .before .before .before .before .before .args in
-    (rw (run-one (a .s .now) (a .from) (a .to) (a .out .now) (a .mode) (c .before .before .before .before .match .keys4)) (q .ensures .0), q .ensures .1)
+    let q = c .before .before .before .region-one in
+    let a = c .before .before .before .before .before .before .before .before .args in
+    rw (c .region-count .ensures) (rw (run-one (a .s .now) (a .from) (a .to) (a .out .now) (a .mode) (c .before .before .before .before .before .match .keys4)) (q .ensures .0), q .ensures .1)
 
 same-length-5 : tie.Need-same-length-5
 same-length-5 c = search needs
 
 returns-5 : tie.Need-returns-5
 returns-5 c =
-    let q = c .before .before .region-two in
-    let a = c .before .before .before .before .before .before .before .args in
-    (rw (run-two (a .s .now) (a .from) (a .to) (a .out .now) (a .mode) (c .before .before .before .before .match .keys5)) (q .ensures .0), q .ensures .1)
+    let q = c .before .before .before .region-two in
+    let a = c .before .before .before .before .before .before .before .before .args in
+    rw (c .region-count2 .ensures) (rw (run-two (a .s .now) (a .from) (a .to) (a .out .now) (a .mode) (c .before .before .before .before .before .match .keys5)) (q .ensures .0), q .ensures .1)
 
 same-length-6 : tie.Need-same-length-6
 same-length-6 c = search needs
@@ -94,6 +94,12 @@ returns-8 c =
     let k = c .match .rest in
     (rw (run-none (a .s .now) (a .from) (a .to) (a .out .now) (a .mode) (k .0 .0 .0 .0 .0 .0 .1) (k .0 .0 .0 .0 .0 .1) (k .0 .0 .0 .0 .1) (k .0 .0 .0 .1) (k .0 .0 .1) (k .0 .1) (k .1)) refl, tt)
 
+region-count-requires : tie.Need-region-count-requires
+region-count-requires c κs = search needs
+
+region-count-requires-2 : tie.Need-region-count-requires-2
+region-count-requires-2 c κs = search needs
+
 pub run-of-mode-spec : {M : Type 1} → statement M
 run-of-mode-spec =
     tie.close
@@ -102,7 +108,9 @@ run-of-mode-spec =
     text-mode-requires
     bytes-mode-requires
     region-one-requires
+    region-count-requires
     region-two-requires
+    region-count-requires-2
     double-byte-requires
     four-byte-requires
     same-length

@@ -1,0 +1,192 @@
+use mathlib.Core.Path.{_≡_, refl, _∙_}
+use mathlib.Core.List.{[], _∷_}
+use Prim.Native.Nat.{_+_, _-_, _*_, _≤_}
+use native.Mathlib.Omega.{arith}
+use lib.ListN.{length, getD, drop}
+use Rattle.script.specs.Writer.{numericWords}
+use Rattle.encoding.specs.Written.{Doing}
+use Rattle.encoding.proofs.Doing.{begun, word-room, word-done, all-done, doing-as, three-digits, one-digit, two-digits, no-digit}
+use Rattle.encoding.proofs.write_groups.Statement.{statement}
+use Rattle.encoding.proofs.write_groups.Tie as tie
+
+abbrev Inv-loop : tie.InvT-loop
+Inv-loop buf₀ from run at₀ j₀ buf at j = (length buf ≡ length buf₀) × (j ≤ length run) × Doing 10 buf₀ from (numericWords run) buf at (numericWords (drop j run))
+
+abbrev μ-loop : tie.MeasureT-loop
+μ-loop buf₀ from run at₀ j₀ buf at j = length run - j
+
+loop-holds : tie.Need-loop-holds Inv-loop μ-loop
+loop-holds c =
+    let a = c .before .before .args in
+    (refl, omega arith, begun 10 (a .buf .now) (a .from) (numericWords (a .run .now)))
+
+sub-loop : tie.Need-sub-loop Inv-loop μ-loop
+sub-loop c = omega arith
+
+group-requires : tie.Need-group-requires Inv-loop μ-loop
+group-requires c κs = omega arith
+
+put-requires : tie.Need-put-requires Inv-loop μ-loop
+put-requires c κs =
+    let l = c .before .before .before .loop in
+    let a = c .before .before .before .before .before .before .args in
+    let r = word-room (8 * length (a .buf .now)) (doing-as (three-digits (a .run .now) (l .j) (omega arith)) (l .inv .2)) (omega arith) in
+    (omega arith, omega arith, omega arith)
+
+add-j : tie.Need-add-j Inv-loop μ-loop
+add-j c = omega arith
+
+loop-less : tie.Need-loop-less Inv-loop μ-loop
+loop-less c = omega arith
+
+loop-again : tie.Need-loop-again Inv-loop μ-loop
+loop-again c =
+    let l = c .before .before .before .before .before .before .loop in
+    let a = c .before .before .before .before .before .before .before .before .before .args in
+    let p = c .before .before .put in
+    (p .kept .0 ∙ l .inv .0, omega arith, word-done (doing-as (three-digits (a .run .now) (l .j) (omega arith)) (l .inv .2)) (rw (c .before .before .before .group .ensures .0) at (p .ensures)))
+
+sub-left : tie.Need-sub-left Inv-loop μ-loop
+sub-left c = omega arith
+
+digit-requires : tie.Need-digit-requires Inv-loop μ-loop
+digit-requires c κs = omega arith
+
+-- one digit is left, or two, or none
+one : (c : tie.Then1 Inv-loop μ-loop) → Doing 10 (c .before .before .before .before .before .args .buf .now) (c .before .before .before .before .before .args .from) (numericWords (c .before .before .before .before .before .args .run .now)) (c .before .before .loop .buf) (c .before .before .loop .at) ((getD (c .before .before .before .before .before .args .run .now) (c .before .before .loop .j) 0 - 48) ∷ 1021 ∷ [])
+one c =
+    let l = c .before .before .loop in
+    let a = c .before .before .before .before .before .args in
+    doing-as (one-digit (a .run .now) (l .j) (omega arith)) (l .inv .2)
+
+two : (c : tie.Then2 Inv-loop μ-loop) → Doing 10 (c .before .before .before .before .before .before .args .buf .now) (c .before .before .before .before .before .before .args .from) (numericWords (c .before .before .before .before .before .before .args .run .now)) (c .before .before .before .loop .buf) (c .before .before .before .loop .at) (((getD (c .before .before .before .before .before .before .args .run .now) (c .before .before .before .loop .j) 0 - 48) * 10 + (getD (c .before .before .before .before .before .before .args .run .now) (c .before .before .before .loop .j + 1) 0 - 48)) ∷ 1022 ∷ [])
+two c =
+    let l = c .before .before .before .loop in
+    let a = c .before .before .before .before .before .before .args in
+    doing-as (two-digits (a .run .now) (l .j) (omega arith)) (l .inv .2)
+
+none : (c : tie.Else2 Inv-loop μ-loop) → Doing 10 (c .before .before .before .before .before .before .args .buf .now) (c .before .before .before .before .before .before .args .from) (numericWords (c .before .before .before .before .before .before .args .run .now)) (c .before .before .before .loop .buf) (c .before .before .before .loop .at) (1023 ∷ [])
+none c =
+    let l = c .before .before .before .loop in
+    let a = c .before .before .before .before .before .before .args in
+    doing-as (no-digit (a .run .now) (l .j) (omega arith)) (l .inv .2)
+
+put-requires-2 : tie.Need-put-requires-2 Inv-loop μ-loop
+put-requires-2 c κs =
+    let i = c .before .before in
+    let a = i .before .before .before .before .before .args in
+    let r = word-room (8 * length (a .buf .now)) (one i) (omega arith) in
+    (omega arith, omega arith, omega arith)
+
+put-requires-3 : tie.Need-put-requires-3 Inv-loop μ-loop
+put-requires-3 c κs =
+    let d = c .before .before .before .before in
+    let i = d .before .before in
+    let a = i .before .before .before .before .before .args in
+    let p = c .before .before .before .put2 in
+    let r = word-room (8 * length (a .buf .now)) (word-done (one i) (rw (d .digit .ensures .0) at (p .ensures))) (omega arith) in
+    let k = p .kept .0 in
+    (omega arith, omega arith, omega arith)
+
+same-length : tie.Need-same-length Inv-loop μ-loop
+same-length c =
+    let loop = c .before .before .before .before .before .before .before .before .before .before .before .loop in
+    let put2 = c .before .before .before .before .before .before .put2 in
+    c .before .before .put3 .kept .0 ∙ put2 .kept .0 ∙ loop .inv .0
+
+returns : tie.Need-returns Inv-loop μ-loop
+returns c =
+    let d = c .before .before .before .before .before .before .before in
+    let i = d .before .before in
+    let p = c .before .before .before .before .before .before .put2 in
+    all-done (word-done (word-done (one i) (rw (d .digit .ensures .0) at (p .ensures))) (c .before .before .put3 .ensures))
+
+digit-requires-2 : tie.Need-digit-requires-2 Inv-loop μ-loop
+digit-requires-2 c κs = omega arith
+
+mul-put : tie.Need-mul-put Inv-loop μ-loop
+mul-put c = omega arith
+
+add-digit : tie.Need-add-digit Inv-loop μ-loop
+add-digit c = omega arith
+
+digit-requires-3 : tie.Need-digit-requires-3 Inv-loop μ-loop
+digit-requires-3 c κs = omega arith
+
+add-put : tie.Need-add-put Inv-loop μ-loop
+add-put c = omega arith
+
+put-requires-4 : tie.Need-put-requires-4 Inv-loop μ-loop
+put-requires-4 c κs =
+    let i = c .before .before .before in
+    let a = i .before .before .before .before .before .before .args in
+    let r = word-room (8 * length (a .buf .now)) (two i) (omega arith) in
+    (omega arith, omega arith, omega arith)
+
+put-requires-5 : tie.Need-put-requires-5 Inv-loop μ-loop
+put-requires-5 c κs =
+    let d = c .before .before .before .before in
+    let i = d .before .before .before in
+    let a = i .before .before .before .before .before .before .args in
+    let p = c .before .before .before .put4 in
+    let r = word-room (8 * length (a .buf .now)) (word-done (two i) (rw (d .before .digit2 .ensures .0, d .digit3 .ensures .0) at (p .ensures))) (omega arith) in
+    let k = p .kept .0 in
+    (omega arith, omega arith, omega arith)
+
+same-length-2 : tie.Need-same-length-2 Inv-loop μ-loop
+same-length-2 c =
+    let loop = c .before .before .before .before .before .before .before .before .before .before .before .before .before .loop in
+    let put4 = c .before .before .before .before .before .before .put4 in
+    c .before .before .put5 .kept .0 ∙ put4 .kept .0 ∙ loop .inv .0
+
+returns-2 : tie.Need-returns-2 Inv-loop μ-loop
+returns-2 c =
+    let d = c .before .before .before .before .before .before .before in
+    let i = d .before .before .before in
+    let p = c .before .before .before .before .before .before .put4 in
+    all-done (word-done (word-done (two i) (rw (d .before .digit2 .ensures .0, d .digit3 .ensures .0) at (p .ensures))) (c .before .before .put5 .ensures))
+
+put-requires-6 : tie.Need-put-requires-6 Inv-loop μ-loop
+put-requires-6 c κs =
+    let i = c .before in
+    let a = i .before .before .before .before .before .before .args in
+    let r = word-room (8 * length (a .buf .now)) (none i) (omega arith) in
+    (omega arith, omega arith, omega arith)
+
+same-length-3 : tie.Need-same-length-3 Inv-loop μ-loop
+same-length-3 c = c .before .before .put6 .kept .0 ∙ c .before .before .before .before .before .before .before .loop .inv .0
+
+returns-3 : tie.Need-returns-3 Inv-loop μ-loop
+returns-3 c = all-done (word-done (none (c .before .before .before .before)) (c .before .before .put6 .ensures))
+
+pub write-groups-spec : {M : Type 1} → statement M
+write-groups-spec =
+    tie.close
+    (tie.spec
+    Inv-loop
+    μ-loop
+    loop-holds
+    sub-loop
+    group-requires
+    put-requires
+    add-j
+    loop-less
+    loop-again
+    sub-left
+    digit-requires
+    put-requires-2
+    put-requires-3
+    same-length
+    returns
+    digit-requires-2
+    mul-put
+    add-digit
+    digit-requires-3
+    add-put
+    put-requires-4
+    put-requires-5
+    same-length-2
+    returns-2
+    put-requires-6
+    same-length-3
+    returns-3)

@@ -1,0 +1,92 @@
+use mathlib.Core.Path.{_≡_, refl, ap, _∙_}
+use mathlib.Core.List.{List}
+use Prim.Native.Nat.{ℕ, _+_, _-_, _*_, _/_, _%_, _≤_}
+use native.Mathlib.Omega.{arith}
+use lib.ListN.{length, drop}
+use Rattle.script.specs.Writer.{numericWords}
+use Rattle.encoding.specs.Written.{Doing}
+use Rattle.encoding.proofs.Doing.{begun, two-room, two-done, doing-as, six-digits, two-words}
+use Rattle.encoding.proofs.write_sixes.Statement.{statement}
+use Rattle.encoding.proofs.write_sixes.Tie as tie
+
+abbrev Inv-loop : tie.InvT-loop
+Inv-loop buf₀ from run at₀ j₀ buf at j = (length buf ≡ length buf₀) × (j ≤ length run) × (j % 6 ≡ 0) × Doing 10 buf₀ from (numericWords run) buf at (numericWords (drop j run))
+
+abbrev μ-loop : tie.MeasureT-loop
+μ-loop buf₀ from run at₀ j₀ buf at j = length run - j
+
+loop-holds : tie.Need-loop-holds Inv-loop μ-loop
+loop-holds c =
+    let a = c .before .before .args in
+    (refl, omega arith, refl, begun 10 (a .buf .now) (a .from) (numericWords (a .run .now)))
+
+sub-loop : tie.Need-sub-loop Inv-loop μ-loop
+sub-loop c = omega arith
+
+group-requires : tie.Need-group-requires Inv-loop μ-loop
+group-requires c κs = omega arith
+
+add-group : tie.Need-add-group Inv-loop μ-loop
+add-group c = omega arith
+
+group-requires-2 : tie.Need-group-requires-2 Inv-loop μ-loop
+group-requires-2 c κs = omega arith
+
+mul-put : tie.Need-mul-put Inv-loop μ-loop
+mul-put c = omega arith
+
+add-put : tie.Need-add-put Inv-loop μ-loop
+add-put c = omega arith
+
+put-requires : tie.Need-put-requires Inv-loop μ-loop
+put-requires c κs =
+    let l = c .before .before .before .before .loop in
+    let a = c .before .before .before .before .before .before .before .args in
+    let r = two-room (8 * length (a .buf .now)) (doing-as (six-digits (a .run .now) (l .j) (omega arith)) (l .inv .3)) (omega arith) in
+    (omega arith, omega arith, omega arith)
+
+add-j : tie.Need-add-j Inv-loop μ-loop
+add-j c = omega arith
+
+loop-less : tie.Need-loop-less Inv-loop μ-loop
+loop-less c = omega arith
+
+loop-again : tie.Need-loop-again Inv-loop μ-loop
+loop-again c =
+    let l = c .before .before .before .before .before .before .before .loop in
+    let a = c .before .before .before .before .before .before .before .before .before .before .args in
+    let p = c .before .before .put in
+    let x = c .before .before .before .before .before .group in
+    let y = c .before .before .before .before .group2 in
+    let d = doing-as (six-digits (a .run .now) (l .j) (omega arith)) (l .inv .3) in
+    (p .kept .0 ∙ l .inv .0, omega arith, omega arith, two-done d (rw (x .ensures .0, y .ensures .0) at (rw (two-words (x .result) (y .result)) at (p .ensures))))
+
+same-length : tie.Need-same-length Inv-loop μ-loop
+same-length c = c .before .loop .inv .0
+
+returns : tie.Need-returns Inv-loop μ-loop
+returns c =
+    let l = c .before .loop in
+    let a = c .before .before .before .before .args in
+    let e : l .j ≡ length (a .run .now) / 6 * 6 = omega arith in
+    doing-as (ap (λ (k : ℕ). numericWords (drop k (a .run .now))) e) (l .inv .3)
+
+pub write-sixes-spec : {M : Type 1} → statement M
+write-sixes-spec =
+    tie.close
+    (tie.spec
+    Inv-loop
+    μ-loop
+    loop-holds
+    sub-loop
+    group-requires
+    add-group
+    group-requires-2
+    mul-put
+    add-put
+    put-requires
+    add-j
+    loop-less
+    loop-again
+    same-length
+    returns)

@@ -1,0 +1,33 @@
+use borrow.Author.Tests.{eq-eqb, ne-eqb}
+use borrow.Author.Needs.{needs}
+use Rattle.segments.proofs.region_count.Statement.{statement}
+use Rattle.segments.proofs.region_count.Tie as tie
+
+returns : tie.Need-returns
+returns c = rw (eq-eqb (c .before .args .r) 0 (c .if1 .taken))
+
+returns-2 : tie.Need-returns-2
+returns-2 c =
+    let r = c .before .before .args .r in
+    rw (ne-eqb r 0 (c .before .if1 .left), eq-eqb r 1 (c .if2 .taken))
+
+returns-3 : tie.Need-returns-3
+returns-3 c =
+    let r = c .before .before .args .r in
+    rw (ne-eqb r 0 (c .before .if1 .left), ne-eqb r 1 (c .if2 .left))
+
+sub-t3 : tie.Need-sub-t3
+sub-t3 c = search needs
+
+sub-t5 : tie.Need-sub-t5
+sub-t5 c = search needs
+
+pub region-count-spec : {M : Type 1} → statement M
+region-count-spec =
+    tie.close
+    (tie.spec
+    returns
+    returns-2
+    sub-t3
+    sub-t5
+    returns-3)
