@@ -71,9 +71,9 @@ finished m t r p s b e f = ap (λ (x : List ℕ). readingOf (t .number) x p s) f
 
 -- ---- the layout
 
-pub drawn : (m : Mark) (sq out ks : List ℕ) → Fitting m sq → length out ≡ 35721 → ks ≡ layoutWritten (m .version) out → Drawn (m .version) ks
+pub drawn : (m : Mark) (sq out ks : List ℕ) → Fitting m sq → sideOf (m .version) * sideOf (m .version) ≤ length out → ks ≡ layoutWritten (m .version) out → Drawn (m .version) ks
 drawn m sq out ks F h e =
-    let f = layout-front (m .version) out ks (F .low) (F .high) (omega (arith, square-le (sideOf (m .version)) (omega (arith, F .high)))) e in
+    let f = layout-front (m .version) out ks (F .low) (F .high) h e in
     record { room = f .0; front = f .1 }
 
 -- ---- the stream of a square

@@ -235,7 +235,40 @@ fn tell(kinds: &mut [u8], square: &[u8], m: Mark, payload: &mut [u8], script: &m
     tell_blocks(kinds, square, m, payload, script)
 }
 
-// A square that has passed the first refusals is read, and the receipt written.
+// A square that has passed the first refusals is read, its layout drawn into a lent buffer, and the receipt written.
+fn finish_in(
+    kinds: &mut [u8],
+    square: &[u8],
+    m: Mark,
+    payload: &mut [u8],
+    script: &mut [u8],
+    receipt: &mut [u8],
+) -> usize
+    requires { ⌜ Fitting m (now square) × (length (now receipt) ≡ 12) × (sideOf (m .version) * sideOf (m .version) ≤ length (now kinds)) ⌝ }
+    ensures { λ r. ⌜ readingOf r (now (receipt .exit)) (now (payload .exit)) (now (script .exit)) ≡ bodyOr1 m (now (square .entry)) (now (payload .entry)) (now (script .entry)) ⌝ }
+{
+    symbol::layout(m.version, kinds);
+    let t = tell(kinds, square, m, payload, script);
+    let number = t.number;
+    write_receipt(receipt, m, t);
+    number
+}
+
+// The same for a version up to 10: to clear a buffer for any layout would take longer than to read such a mark.
+fn finish_small(
+    square: &[u8],
+    m: Mark,
+    payload: &mut [u8],
+    script: &mut [u8],
+    receipt: &mut [u8],
+) -> usize
+    requires { ⌜ Fitting m (now square) × (length (now receipt) ≡ 12) × (m .version ≤ 10) ⌝ }
+    ensures { λ r. ⌜ readingOf r (now (receipt .exit)) (now (payload .exit)) (now (script .exit)) ≡ bodyOr1 m (now (square .entry)) (now (payload .entry)) (now (script .entry)) ⌝ }
+{
+    let mut kinds = [0u8; 1681];
+    finish_in(&mut kinds, square, m, payload, script, receipt)
+}
+
 fn finish(
     square: &[u8],
     m: Mark,
@@ -246,12 +279,11 @@ fn finish(
     requires { ⌜ Fitting m (now square) × (length (now receipt) ≡ 12) ⌝ }
     ensures { λ r. ⌜ readingOf r (now (receipt .exit)) (now (payload .exit)) (now (script .exit)) ≡ bodyOr1 m (now (square .entry)) (now (payload .entry)) (now (script .entry)) ⌝ }
 {
+    if m.version <= 10 {
+        return finish_small(square, m, payload, script, receipt);
+    }
     let mut kinds = [0u8; 35721];
-    symbol::layout(m.version, &mut kinds);
-    let t = tell(&mut kinds, square, m, payload, script);
-    let number = t.number;
-    write_receipt(receipt, m, t);
-    number
+    finish_in(&mut kinds, square, m, payload, script, receipt)
 }
 
 // A refusal with its receipt.

@@ -13,7 +13,8 @@ use Rattle.information.specs.declared.InfoBits.the-variants.{Word}
 use Rattle.information.specs.Information.{isInfo, infoRefusal, infoWord, infoBits, wordRefusalOf, wordIn}
 use Rattle.squares.proofs.Marks.{ranges}
 use Rattle.squares.proofs.Starts.{layout-front, has-word}
-use Rattle.writer.specs.Inner.{Ready}
+use Rattle.writer.specs.Inner.{Ranged, Ready}
+use Rattle.writer.specs.declared.Mark.{Mark}
 
 -- the side of a version, squared
 pub square-small : (v side : ℕ) → v ≤ 84 → side ≡ sideOf v → side * side ≤ 35721
@@ -30,10 +31,9 @@ module _ (v l k : ℕ) (b : InfoBits) (er : wordRefusalOf b ≡ infoRefusal v l 
   unfolding infoWord
   word-is f = sym (ap wordIn e) ∙ f ∙ ap (λ (t : Bool). cond t (infoBits v l k) 0) has
 
-  -- with the layout in a buffer of 189 × 189 bytes, all is ready
-  pub ready : wordIn b ≡ infoWord v l k → (out g : List ℕ) → 35721 ≤ length out → g ≡ layoutWritten v out
-      → Ready (record { version = v; level = l; mask = k; word = w }) g
-  ready f out g h q =
-      let R = ranges v l k has in
-      let F = layout-front v out g (R .low) (R .high) (omega (arith, square-small v (sideOf v) (R .high) refl)) q in
-      record { ranged = record { low = R .low; high = R .high; level = R .level; mask = R .mask; word = word-is f }; long = F .0; kinds = F .1 }
+  pub ranged : wordIn b ≡ infoWord v l k → Ranged (record { version = v; level = l; mask = k; word = w })
+  ranged f = let R = ranges v l k has in record { low = R .low; high = R .high; level = R .level; mask = R .mask; word = word-is f }
+
+-- with the layout in a buffer, all is ready
+pub ready : (m : Mark) (out g : List ℕ) → Ranged m → sideOf (m .version) * sideOf (m .version) ≤ length out → g ≡ layoutWritten (m .version) out → Ready m g
+ready m out g R h q = let F = layout-front (m .version) out g (R .low) (R .high) h q in record { ranged = R; long = F .0; kinds = F .1 }

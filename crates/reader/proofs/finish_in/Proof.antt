@@ -1,0 +1,16 @@
+-- `finish_in` meets its contract. Assumes nothing.
+use Rattle.reader.proofs.Body.{drawn, finished}
+use borrow.Author.Needs.{needs}
+use Rattle.reader.proofs.finish_in.Statement.{statement}
+use Rattle.reader.proofs.finish_in.Tie as tie
+
+tell-requires : tie.Need-tell-requires
+tell-requires c κs =
+    let a = c .before .before .before .before .before .before .before .before .before .before .before .before in
+    (a .pre .0, drawn (a .args .m) _ (a .args .kinds .now) _ (a .pre .0) (a .pre .2) (c .before .before .before .before .before .layout .ensures .1))
+
+returns : tie.Need-returns
+returns c = finished _ _ _ _ _ _ (c .before .before .before .before .before .before .before .before .before .before .tell .ensures .0) (c .before .before .write-receipt .ensures)
+
+pub finish-in-spec : {M : Type 1} → statement M
+finish-in-spec = tie.close (tie.spec (λ c κs. search needs) tell-requires (λ c κs. search needs) (λ c. search needs) (λ c. search needs) (λ c. search needs) (λ c. search needs) returns)
