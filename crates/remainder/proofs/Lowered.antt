@@ -4,10 +4,10 @@ use mathlib.Core.List.{List}
 use Prim.Native.Nat.{ℕ, zero, suc, _+_, _-_, _*_, _/_, _%_, _^_, _≤_, _<_}
 use native.Mathlib.Omega.{arith}
 use native.Mathlib.Decide.{decLt}
-use native.Mathlib.Nat.{add-zero, suc-mul}
-use lib.ListN.{length, getD}
+use native.Mathlib.Nat.{add-zero, add-mul, suc-mul}
+use lib.ListN.{length, getD, take}
 use lib.Pow.{shr-shr}
-use lib.Seq.{take-length}
+use lib.Seq.{take-length, length-take-le, getD-take}
 use lib.Bits.{bitXor, xor-zero-l, xor-zero-r}
 use Rattle.field.specs.Field.{raised, mul, power}
 use Rattle.field.proofs.Field.{Passes, passes, mul-assoc, mul-one, mul-power, power-period, mul-lt}
@@ -20,7 +20,7 @@ use Rattle.reed_solomon.specs.Block.{eval}
 use Rattle.reed_solomon.specs.Inner.{Each, Syndromes}
 use Rattle.reed_solomon.proofs.Codeword.{eval-horner}
 use Rattle.remainder.specs.declared.Register.{Register}
-use Rattle.remainder.specs.Words.{digits, behind, sumOf, none, wordAt, byteAt, Remains, Prepared, tabled, Left}
+use Rattle.remainder.specs.Words.{digits, behind, sumOf, none, wordAt, byteAt, Kept, Remains, Prepared, tabled, Left}
 use Rattle.remainder.proofs.Digits.{behind-sum}
 use Rattle.remainder.proofs.Places.{register-eq}
 use Rattle.remainder.proofs.Steps.{empty-zero}
@@ -109,22 +109,60 @@ module _ (poly : ℕ) (P : Passes poly) (m : ℕ) where
   pub none-left : (e : ℕ) → e < 256 → behind poly (power poly m) e none ≡ 0 → e ≡ 0
   none-left e h z = lowered e none h z ∙ ap (λ (y : ℕ). mul poly y (power poly (223 * m))) (empty-zero poly P (power poly m)) ∙ mul-left-zero poly (power poly (223 * m))
 
+-- zeros behind k bytes
+horner-zeros : (poly : ℕ) → Passes poly → (m : ℕ) (f : ℕ → ℕ) (k n : ℕ) → ((i : ℕ) → f i < 256) → ((i : ℕ) → k ≤ i → i < k + n → f i ≡ 0)
+    → horner poly f (power poly m) (k + n) ≡ mul poly (horner poly f (power poly m) k) (power poly (n * m))
+unfolding horner
+horner-zeros poly P m f k zero bs z =
+    let o : k + 0 ≡ k = omega arith in
+    let q : 0 * m ≡ 0 = omega arith in
+    let h = horner poly f (power poly m) k in
+    let l : h < 256 = horner-lt poly P f (power poly m) k bs in
+    let r : h % 256 ≡ h = omega arith in
+    ap (horner poly f (power poly m)) o ∙ sym (ap (λ (e : ℕ). mul poly h (power poly e)) q ∙ ap (mul poly h) (first poly) ∙ mul-one poly P h ∙ r)
+horner-zeros poly P m f k (suc n) bs z =
+    let x = power poly m in
+    let h = horner poly f x k in
+    let o : k + suc n ≡ suc (k + n) = omega arith in
+    let q : n * m + m ≡ suc n * m = omega (arith, suc-mul n m) in
+    ap (horner poly f x) o
+    ∙ ap₂ (λ (y w : ℕ). mul poly y x ⊕ w) (horner-zeros poly P m f k n bs (λ i a b. z i a (omega arith))) (z (k + n) (omega arith) (omega arith))
+    ∙ xor-zero-r (mul poly (mul poly h (power poly (n * m))) x) ∙ mul-assoc poly P h (power poly (n * m)) x ∙ ap (mul poly h) (mul-power poly P (n * m) m ∙ ap (power poly) q)
+
+-- the value of a block out of the first k bytes of its remainder
+lowered-kept : (poly : ℕ) → Passes poly → (m e k : ℕ) (r : Register) → e < 256 → Kept r k → behind poly (power poly m) e r ≡ 0
+    → e ≡ mul poly (horner poly (byteAt r) (power poly m) k) (power poly ((255 - k) * m))
+lowered-kept poly P m e k r l K z =
+    let x = power poly m in
+    let h = horner poly (byteAt r) x k in
+    let o : k + (32 - k) ≡ 32 = omega (arith, K .few) in
+    let q : (32 - k) * m + 223 * m ≡ (255 - k) * m = sym (add-mul (32 - k) 223 m) ∙ ap (λ (n : ℕ). n * m) (let w : 32 - k + 223 ≡ 255 - k = omega (arith, K .few) in w) in
+    lowered poly P m e r l z
+    ∙ ap (λ (y : ℕ). mul poly y (power poly (223 * m)))
+    (behind-horner poly x r ∙ ap (horner poly (byteAt r) x) (sym o) ∙ horner-zeros poly P m (byteAt r) k (32 - k) (λ i. omega arith) (λ i a b. K .zeros i a (omega (arith, K .few))))
+    ∙ mul-assoc poly P h (power poly ((32 - k) * m)) (power poly (223 * m)) ∙ ap (mul poly h) (mul-power poly P ((32 - k) * m) (223 * m) ∙ ap (power poly) q)
+
 pub reduced-power : (poly : ℕ) → Passes poly → (n : ℕ) → power poly (n % 255) ≡ power poly n
 reduced-power poly P n = let e : 255 * (n / 255) + n % 255 ≡ n = omega arith in sym (power-period poly P (n / 255) (n % 255)) ∙ ap (power poly) e
 
-pub syndromes-left : (poly : ℕ) → Passes poly → (first parity : ℕ) (block : List ℕ) (r : Register) (b s s′ : List ℕ) → Remains poly first parity block r
-    → length b ≡ 32 → ((i : ℕ) → i < 32 → seq b i ≡ byteAt r i) → Syndromes poly first parity b s
-    → Each (λ j x. mul poly x (power poly (223 * (first + j)))) parity s s′ → Syndromes poly first parity block s′
-syndromes-left poly P first parity block r b s s′ R lb is S E = record {
+pub syndromes-left : (poly : ℕ) → Passes poly → (first parity k : ℕ) (block : List ℕ) (r : Register) (b s s′ : List ℕ) → Remains poly first parity block r → Kept r k
+    → length b ≡ 32 → ((i : ℕ) → i < 32 → seq b i ≡ byteAt r i) → Syndromes poly first parity (take k b) s
+    → Each (λ j x. mul poly x (power poly ((255 - k) * (first + j)))) parity s s′ → Syndromes poly first parity block s′
+syndromes-left poly P first parity k block r b s s′ R K lb is S E = record {
   size = E .size ∙ S .size;
   bytes = λ j. elim (decLt j parity) [
-    | yes h ↦ omega (arith, E .done j h, mul-lt poly P (seq s j) (power poly (223 * (first + j))))
+    | yes h ↦ omega (arith, E .done j h, mul-lt poly P (seq s j) (power poly ((255 - k) * (first + j))))
     | no h ↦ omega (arith, E .rest j (omega arith), S .bytes j)
   ];
   are = λ j h.
-      E .done j h ∙ ap (λ (y : ℕ). mul poly y (power poly (223 * (first + j)))) (S .are j h ∙ bytes-value poly (power poly (first + j)) r b lb is)
-      ∙ sym (lowered poly P (first + j) (eval poly (power poly (first + j)) block) r (R .byte j h) (R .zero-at j h));
+      E .done j h ∙ ap (λ (y : ℕ). mul poly y (power poly ((255 - k) * (first + j)))) (S .are j h ∙ value (power poly (first + j)))
+      ∙ sym (lowered-kept poly P (first + j) (eval poly (power poly (first + j)) block) k r (R .byte j h) K (R .zero-at j h));
 }
+  where
+    value : (x : ℕ) → eval poly x (take k b) ≡ horner poly (byteAt r) x k
+    value x =
+        eval-horner poly x (take k b) ∙ ap (horner poly (seq (take k b)) x) (length-take-le k b (omega (arith, lb, K .few)))
+        ∙ horner-ext poly (seq (take k b)) (byteAt r) x k (λ i h. getD-take k b i 0 h ∙ is i (omega (arith, K .few)))
 
 -- what the division leaves of a whole block
 pub remains : (parity : ℕ) (t block : List ℕ) (r : Register) → Prepared parity t → tabled parity → ((i : ℕ) → seq block i < 256) → Left t (length block) block r

@@ -128,6 +128,11 @@ wordAt r (suc (suc (suc k))) = r .d
 abbrev pub byteAt : Register → ℕ → ℕ
 byteAt r i = wordAt r (i / 8) / 2 ^ (56 - 8 * (i % 8)) % 256
 
+-- all bytes of a register behind the first k are zero
+pub record Kept (r : Register) (k : ℕ) : Type 0 where
+  pub few : k ≤ 32
+  pub zeros : (i : ℕ) → k ≤ i → i < 32 → byteAt r i ≡ 0
+
 -- a block of bytes followed by the register r is zero at α^first to α^(first + parity - 1)
 pub record Remains (poly first parity : ℕ) (block : List ℕ) (r : Register) : Type 0 where
   pub byte : (j : ℕ) → j < parity → eval poly (power poly (first + j)) block < 256

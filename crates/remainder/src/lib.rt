@@ -6,7 +6,7 @@ ghost use mathlib.Core.List.{List};
 ghost use Prim.Native.Nat.{ℕ, _+_, _-_, _*_, _/_, _%_, _^_, _≤_, _<_};
 ghost use lib.ListN.{length, getD, take};
 ghost use lib.Bits.{bitXor};
-ghost use Rattle.remainder.specs.Words.{digits, behind, Zero, rowAt, sumOf, doubleOf, doubledOf, movedOf, none, Rows, Adds, Keeps, Front, Left, Put, Extended, Filling, Bytewise, Shifts, Prepared, wordAt, byteAt, Remains};
+ghost use Rattle.remainder.specs.Words.{digits, behind, Zero, rowAt, sumOf, doubleOf, doubledOf, movedOf, none, Rows, Adds, Keeps, Front, Left, Put, Extended, Filling, Bytewise, Shifts, Prepared, wordAt, byteAt, Kept, Remains};
 ghost use mathlib.Core.Bool.{true};
 ghost use Rattle.field.specs.Field.{power, mul};
 ghost use Rattle.field.specs.Table.{Field, polyOf};
@@ -327,15 +327,31 @@ pub fn bytes(r: Register) -> [u8; 32]
     s
 }
 
-// A syndrome j of a block out of that of its remainder, which stands 32 places higher: times α^(-32 (first + j)).
-fn lower(field: &[u16; 1280], first: usize, s: &mut [u8], parity: usize)
+// How many bytes of a register are looked at: those up to its last word that is not zero.
+fn kept(r: Register) -> usize
+    ensures { λ k. ⌜ Kept r k ⌝ }
+{
+    if r.d != 0 {
+        return 32;
+    }
+    if r.c != 0 {
+        return 24;
+    }
+    if r.b != 0 {
+        return 16;
+    }
+    8
+}
+
+// The syndromes of a block out of those of what is left of it, which stands 255 - n places higher: syndrome j times α^(n (first + j)).
+fn lower(field: &[u16; 1280], first: usize, s: &mut [u8], parity: usize, n: usize)
     requires { ⌜ Field (now field) ⌝ }
-    requires { ⌜ (first ≤ 255) × (parity ≤ 256) × (parity ≤ length (now s)) ⌝ }
-    ensures { λ _. ⌜ Each (λ j x. mul (polyOf (now (field .entry))) x (power (polyOf (now (field .entry))) (223 * (first + j)))) parity (now (s .entry)) (now (s .exit)) ⌝ }
+    requires { ⌜ (first ≤ 255) × (parity ≤ 256) × (n ≤ 255) × (parity ≤ length (now s)) ⌝ }
+    ensures { λ _. ⌜ Each (λ j x. mul (polyOf (now (field .entry))) x (power (polyOf (now (field .entry))) (n * (first + j)))) parity (now (s .entry)) (now (s .exit)) ⌝ }
 {
     let mut j: usize = 0;
     while j < parity {
-        s[j] = field::raised(field, s[j], 223 * (first + j) % 255);
+        s[j] = field::raised(field, s[j], n * (first + j) % 255);
         j += 1;
     }
 }
@@ -347,8 +363,9 @@ pub fn syndromes(field: &[u16; 1280], first: usize, r: Register, parity: usize) 
     ensures { λ s. ⌜ ((block : List ℕ) → Remains (polyOf (now (field .entry))) first parity block r → Syndromes (polyOf (now (field .entry))) first parity block s) ⌝ }
 {
     let b = bytes(r);
-    let mut s = syndromes::syndromes(field, first, &b, parity);
-    lower(field, first, &mut s, parity);
+    let k = kept(r);
+    let mut s = syndromes::syndromes(field, first, &b[..k], parity);
+    lower(field, first, &mut s, parity, 255 - k);
     s
 }
 

@@ -2,6 +2,7 @@
 use mathlib.Core.Path.{_≡_, ap, _∙_}
 use Prim.Native.Nat.{ℕ, _+_, _-_, _*_, _≤_}
 use native.Mathlib.Omega.{arith}
+use native.Mathlib.Nat.{mul-le-mul}
 use borrow.Author.Needs.{needs}
 use Rattle.field.specs.Field.{power, mul}
 use Rattle.field.specs.Table.{polyOf}
@@ -13,16 +14,24 @@ use Rattle.remainder.proofs.lower.Statement.{statement}
 use Rattle.remainder.proofs.lower.Tie as tie
 
 abbrev Inv-loop : tie.InvT-loop
-Inv-loop field first s₀ parity j₀ s j = Each (λ j x. mul (polyOf field) x (power (polyOf field) (223 * (first + j)))) j s₀ s × (j ≤ parity)
+Inv-loop field first s₀ parity n j₀ s j = Each (λ j x. mul (polyOf field) x (power (polyOf field) (n * (first + j)))) j s₀ s × (j ≤ parity)
 
 abbrev μ-loop : tie.MeasureT-loop
-μ-loop field first s₀ parity j₀ s j = parity - j
+μ-loop field first s₀ parity n j₀ s j = parity - j
 
 loop-holds : tie.Need-loop-holds Inv-loop μ-loop
 loop-holds c = (each-start _ _, omega arith)
 
 slice-read-raised : tie.Need-slice-read-raised Inv-loop μ-loop
 slice-read-raised c = omega (arith, c .before .before .loop .inv .0 .size)
+
+mul-raised : tie.Need-mul-raised Inv-loop μ-loop
+mul-raised c =
+    let start = c .before .before .before .before in
+    let j = c .before .before .loop .j in
+    let few : start .args .n ≤ 255 = start .pre .1 .2 in
+    let low : start .args .first + j ≤ 511 = omega arith in
+    record { fits = omega (arith, mul-le-mul few low) }
 
 slice-write-s : tie.Need-slice-write-s Inv-loop μ-loop
 slice-write-s c = omega (arith, c .before .before .before .loop .inv .0 .size)
@@ -32,7 +41,7 @@ loop-again c =
     let start = c .before .before .before .before .before in
     let loop = c .before .before .before .loop in (
       each-next _ _ _ _ _ (loop .inv .0) (omega (arith, loop .inv .0 .size))
-          (c .raised .ensures ∙ ap (mul (polyOf (start .args .field .now)) _) (reduced-power _ (the-field _ (start .pre .0)) (223 * (start .args .first + loop .j)))),
+          (c .raised .ensures ∙ ap (mul (polyOf (start .args .field .now)) _) (reduced-power _ (the-field _ (start .pre .0)) (start .args .n * (start .args .first + loop .j)))),
       omega arith,
     )
 
@@ -45,5 +54,5 @@ returns c = each-end _ _ _ _ _ (c .before .loop .inv .0) (c .before .loop .inv .
 pub lower-spec : {M : Type 1} → statement M
 lower-spec =
     tie.close
-    (tie.spec Inv-loop μ-loop loop-holds slice-read-raised (λ c. search needs) (λ c. search needs) (λ c κs. search needs) slice-write-s (λ c. search needs) (λ c. search needs)
+    (tie.spec Inv-loop μ-loop loop-holds slice-read-raised (λ c. search needs) mul-raised (λ c κs. search needs) slice-write-s (λ c. search needs) (λ c. search needs)
     loop-again same-length returns)
