@@ -20,29 +20,29 @@ columns-none z e = record { size = e; column = λ p c h. absurd (omega arith) }
 -- a column's three numbers, and the others as they were
 module _ {mask n : ℕ} {table : List ℕ} (x y : ℕ) (u : Columns mask n table) (h : n < 192) where
   abbrev t1 : List ℕ
-  t1 = set table n (n + 1)
+  t1 = set table (192 + n) x
 
   abbrev t2 : List ℕ
-  t2 = set t1 (192 + n) x
+  t2 = set t1 (384 + n) y
 
   abbrev t3 : List ℕ
-  t3 = set t2 (384 + n) y
+  t3 = set t2 n (n + 1)
 
   one : length t1 ≡ 576
-  one = length-set table n (n + 1) ∙ u .size
+  one = length-set table (192 + n) x ∙ u .size
 
   two : length t2 ≡ 576
-  two = length-set t1 (192 + n) x ∙ one
+  two = length-set t1 (384 + n) y ∙ one
 
   new : (2 < mask → x ≡ inverse (n + 1)) → y ≡ rest (n + 1) → Column mask t3 n
   new e f = record {
-    number-is = getD-set-other t2 (384 + n) n y 0 (λ z. omega arith) ∙ getD-set-other t1 (192 + n) n x 0 (λ z. omega arith) ∙ getD-set-same table n (n + 1) 0 (omega (arith, u .size));
-    factor-is = λ m. getD-set-other t2 (384 + n) (192 + n) y 0 (λ z. omega arith) ∙ getD-set-same t1 (192 + n) x 0 (omega (arith, one)) ∙ e m;
-    rest-is = getD-set-same t2 (384 + n) y 0 (omega (arith, two)) ∙ f;
+    number-is = getD-set-same t2 n (n + 1) 0 (omega (arith, two));
+    factor-is = λ m. getD-set-other t2 n (192 + n) (n + 1) 0 (λ z. omega arith) ∙ getD-set-other t1 (384 + n) (192 + n) y 0 (λ z. omega arith) ∙ getD-set-same table (192 + n) x 0 (omega (arith, u .size)) ∙ e m;
+    rest-is = getD-set-other t2 n (384 + n) (n + 1) 0 (λ z. omega arith) ∙ getD-set-same t1 (384 + n) y 0 (omega (arith, one)) ∙ f;
   }
 
   kept : (k : ℕ) → k ≢ n → k ≢ 192 + n → k ≢ 384 + n → getD t3 k 0 ≡ getD table k 0
-  kept k a b c = getD-set-other t2 (384 + n) k y 0 c ∙ getD-set-other t1 (192 + n) k x 0 b ∙ getD-set-other table n k (n + 1) 0 a
+  kept k a b c = getD-set-other t2 n k (n + 1) 0 a ∙ getD-set-other t1 (384 + n) k y 0 c ∙ getD-set-other table (192 + n) k x 0 b
 
   old : (c : ℕ) → c < n → Column mask table c → Column mask t3 c
   old c k v = record {
@@ -53,7 +53,7 @@ module _ {mask n : ℕ} {table : List ℕ} (x y : ℕ) (u : Columns mask n table
 
   pub columns-next : (2 < mask → x ≡ inverse (n + 1)) → y ≡ rest (n + 1) → Columns mask (n + 1) t3
   columns-next e f = record {
-    size = length-set t2 (384 + n) y ∙ two;
+    size = length-set t2 n (n + 1) ∙ two;
     column = λ p c k. elim (ℕ-discrete c n) [ yes z ↦ subst (Column mask t3) (sym z) (new e f) | no z ↦ (let l : c < n = omega arith in old c l (u .column p c l)) ];
   }
 

@@ -36,9 +36,9 @@ pub fn columns(table: &mut [u16], n: usize, mask: usize)
     }
     let mut c = 0;
     while c < n {
-        table[c] = (c + 1) as u16;
         table[192 + c] = factor(mask, c + 1);
         table[384 + c] = rest_of(c + 1);
+        table[c] = (c + 1) as u16;
         c += 1;
     }
 }

@@ -20,22 +20,22 @@ returns c = columns-none (c .if1 .taken) (c .before .before .pre .1)
 loop-holds : tie.Need-loop-holds Inv-loop μ-loop
 loop-holds c = (columns-start (c .before .before .pre .1), omega arith)
 
-slice-write-table : tie.Need-slice-write-table Inv-loop μ-loop
-slice-write-table c = omega (arith, c .before .loop .inv .0 .size, c .before .before .before .before .pre .0)
-
 factor-requires : tie.Need-factor-requires Inv-loop μ-loop
 factor-requires c κs = (omega arith, omega (arith, c .before .before .before .before .pre .0))
 
-slice-write-table-2 : tie.Need-slice-write-table-2 Inv-loop μ-loop
-slice-write-table-2 c = let loop = c .before .before .loop in omega (arith, loop .inv .0 .size, c .before .before .before .before .before .pre .0, length-set (loop .table) (loop .c) (loop .c + 1))
+slice-write-table : tie.Need-slice-write-table Inv-loop μ-loop
+slice-write-table c = omega (arith, c .before .before .loop .inv .0 .size, c .before .before .before .before .before .pre .0)
 
 rest-of-requires : tie.Need-rest-of-requires Inv-loop μ-loop
 rest-of-requires c κs = omega arith
 
+slice-write-table-2 : tie.Need-slice-write-table-2 Inv-loop μ-loop
+slice-write-table-2 c = let loop = c .before .before .before .loop in omega (arith, loop .inv .0 .size, c .before .before .before .before .before .before .pre .0, length-set (loop .table) (192 + loop .c) (c .before .factor .result))
+
 slice-write-table-3 : tie.Need-slice-write-table-3 Inv-loop μ-loop
 slice-write-table-3 c =
     let loop = c .before .before .before .loop in
-    let first = set (loop .table) (loop .c) (loop .c + 1) in omega (arith, loop .inv .0 .size, c .before .before .before .before .before .before .pre .0, length-set (loop .table) (loop .c) (loop .c + 1), length-set first (192 + loop .c) (c .before .factor .result))
+    let first = set (loop .table) (192 + loop .c) (c .before .factor .result) in omega (arith, loop .inv .0 .size, c .before .before .before .before .before .before .pre .0, length-set (loop .table) (192 + loop .c) (c .before .factor .result), length-set first (384 + loop .c) (c .rest-of .result))
 
 loop-again : tie.Need-loop-again Inv-loop μ-loop
 loop-again c =
@@ -58,16 +58,16 @@ columns-spec =
     returns
     loop-holds
     (λ c. omega arith)
+    factor-requires
     (λ c. omega arith)
     (λ c. omega arith)
     slice-write-table
     (λ c. omega arith)
-    factor-requires
+    rest-of-requires
     (λ c. omega arith)
     (λ c. omega arith)
     slice-write-table-2
     (λ c. omega arith)
-    rest-of-requires
     (λ c. omega arith)
     (λ c. omega arith)
     slice-write-table-3

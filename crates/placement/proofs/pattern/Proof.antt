@@ -5,7 +5,7 @@ use Rattle.placement.proofs.pattern.Statement.{statement}
 use Rattle.placement.proofs.pattern.Tie as tie
 
 returns : tie.Need-returns
-returns c = pattern-light (c .before .args .kind) (c .if1 .taken)
+returns c = pattern-light (c .before .args .kind) (omega (arith, c .if1 .taken))
 
 returns-2 : tie.Need-returns-2
 returns-2 c = pattern-dark (c .before .args .kind) (omega (arith, c .if1 .left))
