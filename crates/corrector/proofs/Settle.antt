@@ -7,7 +7,7 @@ use mathlib.Core.List.{List, [], _∷_}
 use Prim.Native.Nat.{ℕ, _+_, _≤_, _<_}
 use native.Mathlib.Omega.{arith}
 use native.Mathlib.Decide.{ℕ-discrete, decLt}
-use borrow.Author.Tests.{eq-eqb, ne-eqb}
+use borrow.Author.Tests.{eq-eqb}
 use lib.Dec.{eqb}
 use lib.ListN.{length}
 use lib.Bits.{xor-self, xor-zero-r}
@@ -17,7 +17,7 @@ use Rattle.algebra.specs.Sum.{_⊕_, seq, degree, syndrome}
 use Rattle.algebra.proofs.Peel.{syndrome-add, syndrome-ext}
 use Rattle.reed_solomon.specs.Block.{eval, orOneMore, distance, nearest, unfit}
 use Rattle.corrector.specs.Correct.{refused, settled, orOutcome, correctOf}
-use Rattle.reed_solomon.specs.Inner.{Each, Syndromes, isClean, Shortest, locatorAt, zeroFlag, Errors, withoutAll, repaired}
+use Rattle.reed_solomon.specs.Inner.{Each, Syndromes, isClean, Shortest, locatorAt, Located, Errors, withoutAll, repaired}
 use Rattle.reed_solomon.proofs.Search.{Bytes}
 use Rattle.reed_solomon.proofs.Codeword.{zero-codeword, eval-syndrome, difference}
 use Rattle.reed_solomon.proofs.Nearest.{Near, near-none, near-some}
@@ -70,8 +70,8 @@ module _ (poly : ℕ) (P : Passes poly) (first parity : ℕ) (w : List ℕ) (sma
         sym (ap (settled w) (near-none poly first parity w
         (λ c N. omega (arith, count-is poly P first parity w small bw s f l Y F c N, N .near))))
 
-    -- with the flags e₁ of its roots, the errors e₂ there, and the syndromes s₃ that are left
-    module _ (e₀ e₁ e₂ s₃ : List ℕ) (E₁ : Each (λ d x. zeroFlag (locatorAt poly f l d)) (length w) e₀ e₁) (E₂ : Errors poly first s f l (length w) e₁ e₂)
+    -- with its values e₁, the errors e₂ where they are zero, and the syndromes s₃ that are left
+    module _ (e₁ e₂ s₃ : List ℕ) (E₁ : Located poly f l (length w) e₁) (E₂ : Errors poly first s f l (length w) e₁ e₂)
         (E₃ : Each (withoutAll poly first (length w) e₂ (length w)) parity s s₃) where
       found : ℕ → ℕ
       found i = seq e₂ (degree (length w) i)
@@ -81,21 +81,18 @@ module _ (poly : ℕ) (P : Passes poly) (first parity : ℕ) (w : List ℕ) (sma
       below-length k h = omega arith
 
       off-root : (k : ℕ) → k < length w → R k ≢ 0 → found k ≡ 0
-      unfolding zeroFlag found
+      unfolding found
       off-root k h d =
           let b = below-length k h in
-          E₂ .done (degree (length w) k) b .none (E₁ .done (degree (length w) k) b ∙ simp (ne-eqb (R k) 0 d))
+          E₂ .done (degree (length w) k) b .none (omega (arith, E₁ .are (degree (length w) k) b, d))
 
-      flag-set : (k : ℕ) → k < length w → R k ≡ 0 → 0 < seq e₁ (degree (length w) k)
-      unfolding zeroFlag
-      flag-set k h z =
-          let q : seq e₁ (degree (length w) k) ≡ 1 = E₁ .done (degree (length w) k) (below-length k h) ∙ simp (eq-eqb (R k) 0 z) in
-          omega arith
+      value-zero : (k : ℕ) → k < length w → R k ≡ 0 → seq e₁ (degree (length w) k) ≡ 0
+      value-zero k h z = E₁ .are (degree (length w) k) (below-length k h) ∙ z
 
       found-lt : (k : ℕ) → k < length w → found k < 256
       unfolding found
       found-lt k h = elim (ℕ-discrete (R k) 0) [
-        | yes z ↦ E₂ .done (degree (length w) k) (below-length k h) .some (flag-set k h z) .byte
+        | yes z ↦ E₂ .done (degree (length w) k) (below-length k h) .some (value-zero k h z) .byte
         | no z ↦ omega (arith, off-root k h z)
       ]
 
@@ -110,7 +107,7 @@ module _ (poly : ℕ) (P : Passes poly) (first parity : ℕ) (w : List ℕ) (sma
         unfolding found
         found-is k h = elim (ℕ-discrete (R k) 0) [
           | yes z ↦ error-is poly P first parity w small bw s f l Y F c N k h z (seq e₂ (degree (length w) k))
-              (E₂ .done (degree (length w) k) (below-length k h) .some (flag-set k h z))
+              (E₂ .done (degree (length w) k) (below-length k h) .some (value-zero k h z))
           | no z ↦ off-root k h z ∙ elim (ℕ-discrete (difference w c k) 0) [
             | yes q ↦ sym q
             | no q ↦ absurd (z (root-at poly P first parity w small bw s f l Y F c N k h q))

@@ -73,9 +73,20 @@ pub record Shortest (poly : ℕ) (s : List ℕ) (n : ℕ) (f : List ℕ) (l : �
 
 -- ---- its roots
 
--- a term of a locator of length l from one place to the next: times its own power of α
-abbrev pub carried : ℕ → ℕ → ℕ → ℕ → ℕ
-carried poly l i x = mul poly x (power poly (l - i))
+-- a term k places further, where it is multiplied by α^n from each place to the next
+abbrev pub shifted : ℕ → ℕ → ℕ → ℕ → ℕ
+shifted poly n k x = mul poly x (power poly (k * n))
+
+-- the term i of a locator of length l, k places further
+abbrev pub carried : ℕ → ℕ → ℕ → ℕ → ℕ → ℕ
+carried poly l k i x = shifted poly (l - i) k x
+
+-- the sums of the first i terms, at their own place and at the next three
+pub record Sums (poly l : ℕ) (terms : List ℕ) (i a b c d : ℕ) : Type 0 where
+  pub at : a ≡ sum (seq terms) i
+  pub one : b ≡ sum (λ j. carried poly l 1 j (seq terms j)) i
+  pub two : c ≡ sum (λ j. carried poly l 2 j (seq terms j)) i
+  pub three : d ≡ sum (λ j. carried poly l 3 j (seq terms j)) i
 
 -- the terms of the locator f of length l at α^d
 pub record Terms (poly : ℕ) (f : List ℕ) (l d : ℕ) (terms : List ℕ) : Type 0 where
@@ -86,13 +97,10 @@ pub record Terms (poly : ℕ) (f : List ℕ) (l d : ℕ) (terms : List ℕ) : Ty
 abbrev pub locatorAt : ℕ → List ℕ → ℕ → ℕ → ℕ
 locatorAt poly f l d = horner poly (seq f) (power poly d) (suc l)
 
-abbrev pub flagOf : Bool → ℕ
-flagOf true = 1
-flagOf false = 0
-
--- 1 where v is zero
-unfoldable pub zeroFlag : ℕ → ℕ
-zeroFlag v = flagOf (eqb v 0)
+-- the values of the locator f of length l at the degrees below n
+pub record Located (poly : ℕ) (f : List ℕ) (l n : ℕ) (e : List ℕ) : Type 0 where
+  pub size : length e ≡ 256
+  pub are : (d : ℕ) → d < n → seq e d ≡ locatorAt poly f l d
 
 -- ---- the errors
 
@@ -113,12 +121,12 @@ pub record Magnitude (poly first : ℕ) (s f : List ℕ) (l d y : ℕ) : Type 0 
   pub is : 0 < denominator poly f l d → mul poly (mul poly y (power poly (d * first))) (denominator poly f l d) ≡ numerator poly s f l d
   pub none : denominator poly f l d ≡ 0 → y ≡ 0
 
--- the error at degree d if its flag is set, and 0 if not
-pub record ErrorAt (poly first : ℕ) (s f : List ℕ) (l d flag y : ℕ) : Type 0 where
-  pub some : 0 < flag → Magnitude poly first s f l d y
-  pub none : flag ≡ 0 → y ≡ 0
+-- the error at degree d if the locator's value is zero there, and 0 if not
+pub record ErrorAt (poly first : ℕ) (s f : List ℕ) (l d value y : ℕ) : Type 0 where
+  pub some : value ≡ 0 → Magnitude poly first s f l d y
+  pub none : 0 < value → y ≡ 0
 
--- the flags e of the degrees below n replaced by the errors there
+-- the locator's values e at the degrees below n replaced by the errors there
 pub record Errors (poly first : ℕ) (s f : List ℕ) (l n : ℕ) (e e′ : List ℕ) : Type 0 where
   pub size : length e′ ≡ length e
   pub done : (d : ℕ) → d < n → ErrorAt poly first s f l d (seq e d) (seq e′ d)

@@ -1,45 +1,82 @@
 // Where the errors are and what they are (001: `solve`, `magnitudes`). An error stands at its degree: 0 for the last place of the block.
 ghost use mathlib.Core.Path.{_≡_};
 ghost use Prim.Native.Nat.{ℕ, suc, _+_, _≤_, _<_};
-ghost use lib.ListN.{length};
+ghost use lib.ListN.{length, set};
 ghost use Rattle.field.specs.Table.{Field, polyOf};
-ghost use Rattle.algebra.specs.Sum.{seq, sum};
-ghost use Rattle.reed_solomon.specs.Inner.{Each, carried, locatorAt, zeroFlag, numerator, denominator, Magnitude, ErrorAt, Errors, without, withoutAll, repaired};
+ghost use Rattle.algebra.specs.Sum.{_⊕_, seq};
+ghost use Rattle.reed_solomon.specs.Inner.{Each, shifted, carried, Sums, Located, numerator, denominator, Magnitude, ErrorAt, Errors, without, withoutAll, repaired};
+use crate::syndromes::reduced;
 
-// One place further: the sum of the terms of a locator of length l, and each term times its own power of α.
-fn step(field: &[u16; 1280], terms: &mut [u8], l: usize) -> u8
+// The values of a locator at four places, one after the other.
+pub struct Four {
+    pub a: u8,
+    pub b: u8,
+    pub c: u8,
+    pub d: u8,
+}
+
+// The sums v of four places with a term t more, which from each place to the next is multiplied by α^n. All four go out from the same
+// logarithm, so that none waits for another.
+fn add_term(field: &[u16; 1280], v: Four, t: u8, n: usize) -> Four
     requires { ⌜ Field (now field) ⌝ }
-    requires { ⌜ (l ≤ 255) × (l < length (now terms)) ⌝ }
-    ensures { λ v. ⌜ (v ≡ sum (seq (now (terms .entry))) (suc l)) × Each (carried (polyOf (now (field .entry))) l) (suc l) (now (terms .entry)) (now (terms .exit)) ⌝ }
+    requires { ⌜ n ≤ 127 ⌝ }
+    ensures { λ r. ⌜ (r .a ≡ v .a ⊕ t) × (r .b ≡ v .b ⊕ shifted (polyOf (now (field .entry))) n 1 t) × (r .c ≡ v .c ⊕ shifted (polyOf (now (field .entry))) n 2 t) × (r .d ≡ v .d ⊕ shifted (polyOf (now (field .entry))) n 3 t) ⌝ }
 {
-    let mut v = 0;
+    let b = field::raised(field, t, n);
+    let c = field::raised(field, t, 2 * n);
+    let d = field::raised(field, t, reduced(3 * n));
+    Four {
+        a: v.a ^ t,
+        b: v.b ^ b,
+        c: v.c ^ c,
+        d: v.d ^ d,
+    }
+}
+
+// The values at four places of a locator of length l with these terms at the first of them, and the terms four places further.
+fn step(field: &[u16; 1280], terms: &mut [u8], l: usize) -> Four
+    requires { ⌜ Field (now field) ⌝ }
+    requires { ⌜ (l ≤ 127) × (l < length (now terms)) ⌝ }
+    ensures { λ v. ⌜ Sums (polyOf (now (field .entry))) l (now (terms .entry)) (suc l) (v .a) (v .b) (v .c) (v .d) × Each (carried (polyOf (now (field .entry))) l 4) (suc l) (now (terms .entry)) (now (terms .exit)) ⌝ }
+{
+    let mut v = Four {
+        a: 0,
+        b: 0,
+        c: 0,
+        d: 0,
+    };
     let mut i = 0;
     while i <= l {
         let t = terms[i];
-        v ^= t;
-        terms[i] = field::raised(field, t, l - i);
+        v = add_term(field, v, t, l - i);
+        terms[i] = field::raised(field, t, reduced(4 * (l - i)));
         i += 1;
     }
     v
 }
 
-fn flag(v: u8) -> u8
-    ensures { λ r. ⌜ r ≡ zeroFlag v ⌝ }
+fn put(e: &mut [u8], d: usize, v: Four)
+    requires { ⌜ d + 4 ≤ length (now e) ⌝ }
+    ensures { λ _. ⌜ now (e .exit) ≡ set (set (set (set (now (e .entry)) d (v .a)) (d + 1) (v .b)) (d + 2) (v .c)) (d + 3) (v .d) ⌝ }
 {
-    if v == 0 { 1 } else { 0 }
+    e[d] = v.a;
+    e[d + 1] = v.b;
+    e[d + 2] = v.c;
+    e[d + 3] = v.d;
 }
 
-// At each degree below n, 1 if the locator f of length l is zero there, and 0 if not.
+// The values of the locator f of length l at the degrees below n. Those behind n, up to a multiple of four, are set too.
 pub fn roots(field: &[u16; 1280], f: &[u8; 256], l: usize, e: &mut [u8], n: usize)
     requires { ⌜ Field (now field) ⌝ }
-    requires { ⌜ (l ≤ 255) × (length (now f) ≡ 256) × ((i : ℕ) → seq (now f) i < 256) × (n ≤ length (now e)) ⌝ }
-    ensures { λ _. ⌜ Each (λ d x. zeroFlag (locatorAt (polyOf (now (field .entry))) (now (f .entry)) l d)) n (now (e .entry)) (now (e .exit)) ⌝ }
+    requires { ⌜ (l ≤ 127) × (length (now f) ≡ 256) × ((i : ℕ) → seq (now f) i < 256) × (n ≤ 256) × (length (now e) ≡ 256) ⌝ }
+    ensures { λ _. ⌜ Located (polyOf (now (field .entry))) (now (f .entry)) l n (now (e .exit)) ⌝ }
 {
     let mut terms = *f;
     let mut d = 0;
     while d < n {
-        e[d] = flag(step(field, &mut terms, l));
-        d += 1;
+        let v = step(field, &mut terms, l);
+        put(e, d, v);
+        d += 4;
     }
 }
 
@@ -81,7 +118,7 @@ fn magnitude(field: &[u16; 1280], first: usize, s: &[u8], f: &[u8], l: usize, d:
     field::raised(field, z, 255 - d * first % 255)
 }
 
-// The error at degree d where the flag is set, and 0 where it is not.
+// The error at degree d where the locator's value is zero, and 0 where it is not.
 fn error_at(
     field: &[u16; 1280],
     first: usize,
@@ -89,19 +126,19 @@ fn error_at(
     f: &[u8],
     l: usize,
     d: usize,
-    flag: u8,
+    value: u8,
 ) -> u8
     requires { ⌜ Field (now field) ⌝ }
     requires { ⌜ (l ≤ length (now s)) × (l ≤ length (now f)) × (d ≤ 255) × (first ≤ 255) ⌝ }
-    ensures { λ y. ⌜ ErrorAt (polyOf (now (field .entry))) first (now (s .entry)) (now (f .entry)) l d flag y ⌝ }
+    ensures { λ y. ⌜ ErrorAt (polyOf (now (field .entry))) first (now (s .entry)) (now (f .entry)) l d value y ⌝ }
 {
-    if flag == 0 {
+    if value != 0 {
         return 0;
     }
     magnitude(field, first, s, f, l, d)
 }
 
-// The errors at the degrees below n whose flags are set in e, in place of the flags.
+// The errors at the degrees below n, in place of the values e of the locator there.
 pub fn magnitudes(
     field: &[u16; 1280],
     first: usize,
@@ -132,11 +169,11 @@ fn take_off(field: &[u16; 1280], first: usize, s: &mut [u8], parity: usize, y: u
     if y == 0 {
         return;
     }
-    let mut n = crate::syndromes::reduced(field::log(field, y) + d * first % 255);
+    let mut n = reduced(field::log(field, y) + d * first % 255);
     let mut j = 0;
     while j < parity {
         s[j] ^= field::power(field, n);
-        n = crate::syndromes::reduced(n + d);
+        n = reduced(n + d);
         j += 1;
     }
 }

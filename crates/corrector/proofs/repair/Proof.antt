@@ -38,7 +38,7 @@ roots-requires : tie.Need-roots-requires
 roots-requires c κs =
     let start = c .before .before .before .before .before .before .before .before .before in
     let locator = c .before .before .before .before .locator in
-    (start .pre .0, (omega (arith, locator .ensures .within), locator .ensures .size, locator .ensures .bytes, omega arith))
+    (start .pre .0, (omega (arith, c .before .before .if1 .left, start .pre .1 .0 .1), locator .ensures .size, locator .ensures .bytes, omega arith, refl))
 
 slice-aggregate-magnitudes : tie.Need-slice-aggregate-magnitudes
 slice-aggregate-magnitudes c = search needs
@@ -92,7 +92,7 @@ returns-2 c =
     let clean = c .before .before .before .before .before .before .clean in
     let if2 = c .before .before .before .before .before .if2 in
     repaired-settled _ (the-field _ (start .pre .0)) _ _ _ (start .pre .1 .0 .2) (λ i. omega (arith, slice-known .given i)) _ (start .pre .1 .1)
-    _ _ (locator .ensures) _ _ _ _ (roots .ensures) (magnitudes .ensures) (take-off-all .ensures)
+    _ _ (locator .ensures) _ _ _ (roots .ensures) (magnitudes .ensures) (take-off-all .ensures)
     (omega (arith, if1 .left)) (sym (if2 .taken) ∙ clean .ensures) _ (c .before .before .add .ensures)
 
 same-length-4 : tie.Need-same-length-4
@@ -108,7 +108,7 @@ returns-3 c =
     let magnitudes = c .before .before .before .before .before .before .before .before .before .magnitudes in
     let take-off-all = c .before .before .before .before .before .take-off-all in
     left-settled _ (the-field _ (start .pre .0)) _ _ _ (start .pre .1 .0 .2) (λ i. omega (arith, slice-known .given i)) _ (start .pre .1 .1)
-    _ _ (locator .ensures) _ _ _ _ (roots .ensures) (magnitudes .ensures) (take-off-all .ensures)
+    _ _ (locator .ensures) _ _ _ (roots .ensures) (magnitudes .ensures) (take-off-all .ensures)
     (sym (c .if2 .left) ∙ c .before .clean .ensures)
 
 pub repair-spec : {M : Type 1} → statement M

@@ -1,18 +1,18 @@
--- `errors::roots` meets its contract: the terms are carried from degree to degree. Assumes nothing.
-use mathlib.Core.Path.{sym, ap, _∙_}
-use Prim.Native.Nat.{_≤_, _-_}
+-- `errors::roots` meets its contract: the terms are carried from four degrees to the next four. Assumes nothing.
+use mathlib.Core.Path.{_≡_, sym}
+use Prim.Native.Nat.{_-_, _%_}
 use Rattle.field.specs.Table.{polyOf}
 use Rattle.field.proofs.Entries.{the-field}
-use Rattle.reed_solomon.specs.Inner.{Each, Terms, locatorAt, zeroFlag}
-use Rattle.reed_solomon.proofs.Each.{each-start, each-next, each-end}
-use Rattle.reed_solomon.proofs.Terms.{terms-start, terms-next, terms-value}
+use Rattle.reed_solomon.specs.Inner.{Each, Terms, locatorAt}
+use Rattle.reed_solomon.proofs.Each.{each-start}
+use Rattle.reed_solomon.proofs.Terms.{terms-start, terms-next, values-next, values-end}
 use native.Mathlib.Omega.{arith}
 use borrow.Author.Needs.{needs}
 use Rattle.reed_solomon.proofs.errors.roots.Statement.{statement}
 use Rattle.reed_solomon.proofs.errors.roots.Tie as tie
 
 abbrev Inv-loop : tie.InvT-loop
-Inv-loop field f l e₀ n terms₀ d₀ e terms d = Terms (polyOf field) f l d terms × Each (λ d x. zeroFlag (locatorAt (polyOf field) f l d)) d e₀ e × (d ≤ n)
+Inv-loop field f l e₀ n terms₀ d₀ e terms d = Terms (polyOf field) f l d terms × Each (λ d x. locatorAt (polyOf field) f l d) d e₀ e × (d % 4 ≡ 0)
 
 abbrev μ-loop : tie.MeasureT-loop
 μ-loop field f l e₀ n terms₀ d₀ e terms d = n - d
@@ -30,49 +30,32 @@ step-requires c κs =
     let start = c .before .before .before .before .before in
     (start .pre .0, (start .pre .1 .0, omega (arith, c .before .before .loop .inv .0 .size)))
 
-flag-requires : tie.Need-flag-requires Inv-loop μ-loop
-flag-requires c κs = search needs
-
-slice-write-e : tie.Need-slice-write-e Inv-loop μ-loop
-slice-write-e c = omega (arith, c .before .before .before .before .before .loop .inv .1 .size)
-
-add-d : tie.Need-add-d Inv-loop μ-loop
-add-d c = search needs
-
-loop-less : tie.Need-loop-less Inv-loop μ-loop
-loop-less c = search needs
+put-requires : tie.Need-put-requires Inv-loop μ-loop
+put-requires c κs =
+    let start = c .before .before .before .before .before .before .before .before in
+    let loop = c .before .before .before .before .before .loop in
+    omega (arith, loop .inv .1 .size, loop .inv .2, start .pre .1 .3, start .pre .1 .4)
 
 loop-again : tie.Need-loop-again Inv-loop μ-loop
 loop-again c =
-    let start = c .before .before .before .before .before .before .before .before in
-    let loop = c .before .before .before .before .before .loop in
-    let step = c .before .before .step in (
-      terms-next _ (the-field _ (start .pre .0)) _ _ (start .pre .1 .2) _ _ _ (loop .inv .0) (step .ensures .1),
-      each-next _ _ _ _ _ (loop .inv .1) (omega arith)
-          (c .flag .ensures
-          ∙ ap zeroFlag (step .ensures .0 ∙ terms-value _ (the-field _ (start .pre .0)) _ _ (start .pre .1 .2) _ _ (loop .inv .0))),
-      omega arith,
+    let start = c .before .before .before .before .before .before .before .before .before .before .before in
+    let P = the-field _ (start .pre .0) in
+    let loop = c .before .before .before .before .before .before .before .before .loop in
+    let step = c .before .before .before .before .before .step in (
+      terms-next _ P _ _ (start .pre .1 .2) _ 4 _ _ (loop .inv .0) (step .ensures .1),
+      values-next _ P _ _ (start .pre .1 .2) _ _ _ _ _ _ _ _ _ (loop .inv .0) (step .ensures .0) (omega (arith, loop .inv .2, start .pre .1 .3, start .pre .1 .4)) (loop .inv .1) (c .before .before .put .ensures),
+      omega (arith, loop .inv .2),
     )
 
 same-length : tie.Need-same-length Inv-loop μ-loop
 same-length c = c .before .loop .inv .1 .size
 
 returns : tie.Need-returns Inv-loop μ-loop
-returns c = each-end _ _ _ _ _ (c .before .loop .inv .1) (c .before .loop .inv .2) (omega arith)
+returns c =
+    let start = c .before .before .before .before in
+    values-end _ (the-field _ (start .pre .0)) _ _ (start .pre .1 .2) _ _ _ _ (c .before .loop .inv .1) (omega arith) (start .pre .1 .4)
 
 pub roots-spec : {M : Type 1} → statement M
 roots-spec =
     tie.close
-    (tie.spec
-    Inv-loop
-    μ-loop
-    loop-holds
-    slice-aggregate-step
-    step-requires
-    flag-requires
-    slice-write-e
-    add-d
-    loop-less
-    loop-again
-    same-length
-    returns)
+    (tie.spec Inv-loop μ-loop loop-holds slice-aggregate-step step-requires put-requires (λ c. search needs) (λ c. search needs) loop-again same-length returns)

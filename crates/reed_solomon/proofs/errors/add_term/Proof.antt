@@ -1,0 +1,23 @@
+-- `errors::add_term` meets its contract. Assumes nothing.
+use mathlib.Core.Path.{refl, ap}
+use Rattle.field.proofs.Entries.{the-field}
+use Rattle.algebra.specs.Sum.{_⊕_}
+use Rattle.reed_solomon.proofs.Terms.{by-one, by-reduced}
+use borrow.Author.Needs.{needs}
+use Rattle.reed_solomon.proofs.errors.add_term.Statement.{statement}
+use Rattle.reed_solomon.proofs.errors.add_term.Tie as tie
+
+returns : tie.Need-returns
+returns c =
+    let start = c .before .before .before .before .before .before .before .before in
+    let v = start .args .v in (
+      refl,
+      ap (λ x. v .b ⊕ x) (by-one _ _ _ _ (c .before .before .before .before .before .before .before .raised .ensures)),
+      ap (λ x. v .c ⊕ x) (c .before .before .before .before .before .before .raised2 .ensures),
+      ap (λ x. v .d ⊕ x) (by-reduced _ (the-field _ (start .pre .0)) _ 3 _ _ _ (c .before .before .before .before .before .reduced .ensures .1) (c .before .before .before .before .raised3 .ensures)),
+    )
+
+pub add-term-spec : {M : Type 1} → statement M
+add-term-spec =
+    tie.close
+    (tie.spec (λ c κs. search needs) (λ c. search needs) (λ c κs. search needs) (λ c. search needs) (λ c κs. search needs) (λ c κs. search needs) returns)
