@@ -89,3 +89,7 @@ readingIn m t p s = readingOf (t .number) (receiptIn m t) p s
 unfoldable pub bodyOr1 : Mark → List ℕ → List ℕ → List ℕ → Reading
 bodyOr1 m sq p s =
     cond (hasBlocks (m .version) (m .level)) (bodyOf (m .version) (m .level) (m .mask) (m .distance) sq p s) (refused 1 p s)
+
+-- a buffer holds the layout of any version whose squares have this one's size
+pub record Roomy (sq ks : List ℕ) : Type 0 where
+  pub room : (v : ℕ) → v ≤ 84 → length sq ≡ sideOf v * sideOf v → sideOf v * sideOf v ≤ length ks

@@ -11,7 +11,7 @@ ghost use Rattle.segments.specs.FromData.{fromData};
 ghost use Rattle.codewords.specs.Codewords.{maskBit, streamIn, dataBits};
 ghost use Rattle.placement.specs.Walk.{Legible};
 ghost use Rattle.squares.specs.Read.{firstRefusal, unless, areModules, bodyOf, readingOf, readOf, readKnownOf};
-ghost use Rattle.reader.specs.Inner.{Greater, Greatest, receiptIn, Small, Refuses, Answers, Tells, Fitting, Nearest, Drawn, readingIn, bodyOr1};
+ghost use Rattle.reader.specs.Inner.{Greater, Greatest, receiptIn, Small, Refuses, Answers, Tells, Fitting, Nearest, Drawn, readingIn, bodyOr1, Roomy};
 ghost use Rattle.squares.specs.Receipt.{receiptOf, refusalReceipt};
 use blockwise::Blocks;
 use information::InfoBits;
@@ -254,38 +254,6 @@ fn finish_in(
     number
 }
 
-// The same for a version up to 10: to clear a buffer for any layout would take longer than to read such a mark.
-fn finish_small(
-    square: &[u8],
-    m: Mark,
-    payload: &mut [u8],
-    script: &mut [u8],
-    receipt: &mut [u8],
-) -> usize
-    requires { ⌜ Fitting m (now square) × (length (now receipt) ≡ 12) × (m .version ≤ 10) ⌝ }
-    ensures { λ r. ⌜ readingOf r (now (receipt .exit)) (now (payload .exit)) (now (script .exit)) ≡ bodyOr1 m (now (square .entry)) (now (payload .entry)) (now (script .entry)) ⌝ }
-{
-    let mut kinds = [0u8; 1681];
-    finish_in(&mut kinds, square, m, payload, script, receipt)
-}
-
-fn finish(
-    square: &[u8],
-    m: Mark,
-    payload: &mut [u8],
-    script: &mut [u8],
-    receipt: &mut [u8],
-) -> usize
-    requires { ⌜ Fitting m (now square) × (length (now receipt) ≡ 12) ⌝ }
-    ensures { λ r. ⌜ readingOf r (now (receipt .exit)) (now (payload .exit)) (now (script .exit)) ≡ bodyOr1 m (now (square .entry)) (now (payload .entry)) (now (script .entry)) ⌝ }
-{
-    if m.version <= 10 {
-        return finish_small(square, m, payload, script, receipt);
-    }
-    let mut kinds = [0u8; 35721];
-    finish_in(&mut kinds, square, m, payload, script, receipt)
-}
-
 // A refusal with its receipt.
 fn refuse(receipt: &mut [u8], number: usize) -> usize
     requires { ⌜ (length (now receipt) ≡ 12) × (number < 256) ⌝ }
@@ -324,14 +292,16 @@ fn mark_in(square: &[u8], version: usize) -> Mark
     }
 }
 
-// Read a square: its version is its side's, level and mask are the nearest.
-pub fn read_square(
+// Read a square, its layout drawn into a lent buffer: its version is its side's, level and mask are the nearest.
+fn read_square_in(
+    kinds: &mut [u8],
     square: &[u8],
     side: usize,
     payload: &mut [u8],
     script: &mut [u8],
     receipt: &mut [u8],
 ) -> usize
+    requires { ⌜ Roomy (now square) (now kinds) ⌝ }
     ensures { λ r. ⌜ readingOf r (now (receipt .exit)) (now (payload .exit)) (now (script .exit)) ≡ readOf (now (square .entry)) side (now (payload .entry)) (now (script .entry)) (now (receipt .entry)) ⌝ }
 {
     if receipt.len() != 12 {
@@ -348,11 +318,12 @@ pub fn read_square(
     if 10 < m.distance {
         return refuse(receipt, 4);
     }
-    finish(square, m, payload, script, receipt)
+    finish_in(kinds, square, m, payload, script, receipt)
 }
 
-// Read with known version, level, mask: the information modules are not looked at.
-pub fn read_known(
+// Read with known version, level, mask, likewise: the information modules are not looked at.
+fn read_known_in(
+    kinds: &mut [u8],
     square: &[u8],
     version: usize,
     level: usize,
@@ -361,6 +332,7 @@ pub fn read_known(
     script: &mut [u8],
     receipt: &mut [u8],
 ) -> usize
+    requires { ⌜ Roomy (now square) (now kinds) ⌝ }
     ensures { λ r. ⌜ readingOf r (now (receipt .exit)) (now (payload .exit)) (now (script .exit)) ≡ readKnownOf (now (square .entry)) version level mask (now (payload .entry)) (now (script .entry)) (now (receipt .entry)) ⌝ }
 {
     if receipt.len() != 12 {
@@ -379,5 +351,62 @@ pub fn read_known(
         mask: mask,
         distance: 0,
     };
-    finish(square, m, payload, script, receipt)
+    finish_in(kinds, square, m, payload, script, receipt)
+}
+
+// Read a square. A small one has a small buffer for its layout: to clear one for any layout takes longer than to read a small mark. The
+// buffer stands before all refusals, so that no path through this function does without it.
+pub fn read_square(
+    square: &[u8],
+    side: usize,
+    payload: &mut [u8],
+    script: &mut [u8],
+    receipt: &mut [u8],
+) -> usize
+    ensures { λ r. ⌜ readingOf r (now (receipt .exit)) (now (payload .exit)) (now (script .exit)) ≡ readOf (now (square .entry)) side (now (payload .entry)) (now (script .entry)) (now (receipt .entry)) ⌝ }
+{
+    if square.len() <= 1681 {
+        let mut kinds = [0u8; 1681];
+        return read_square_in(&mut kinds, square, side, payload, script, receipt);
+    }
+    let mut kinds = [0u8; 35721];
+    read_square_in(&mut kinds, square, side, payload, script, receipt)
+}
+
+// Read with known version, level, mask, likewise.
+pub fn read_known(
+    square: &[u8],
+    version: usize,
+    level: usize,
+    mask: usize,
+    payload: &mut [u8],
+    script: &mut [u8],
+    receipt: &mut [u8],
+) -> usize
+    ensures { λ r. ⌜ readingOf r (now (receipt .exit)) (now (payload .exit)) (now (script .exit)) ≡ readKnownOf (now (square .entry)) version level mask (now (payload .entry)) (now (script .entry)) (now (receipt .entry)) ⌝ }
+{
+    if square.len() <= 1681 {
+        let mut kinds = [0u8; 1681];
+        return read_known_in(
+            &mut kinds,
+            square,
+            version,
+            level,
+            mask,
+            payload,
+            script,
+            receipt,
+        );
+    }
+    let mut kinds = [0u8; 35721];
+    read_known_in(
+        &mut kinds,
+        square,
+        version,
+        level,
+        mask,
+        payload,
+        script,
+        receipt,
+    )
 }

@@ -131,32 +131,34 @@ fn write_ready(square: &mut [u8], kinds: &[u8], m: Mark, script: &[u8], payload:
     0
 }
 
-// The same, the layout drawn into a lent buffer.
-fn write_in(kinds: &mut [u8], square: &mut [u8], m: Mark, script: &[u8], payload: &[u8]) -> usize
-    requires { ⌜ Ranged m × (sideOf (m .version) * sideOf (m .version) ≤ length (now kinds)) ⌝ }
-    ensures { λ r. ⌜ writingOf r (now (square .exit)) ≡ writeOf (m .version) (m .level) (m .mask) (now (script .entry)) (now (payload .entry)) (now (square .entry)) ⌝ }
+// Write a square, its layout drawn into a lent buffer.
+fn write_in(
+    kinds: &mut [u8],
+    version: usize,
+    level: usize,
+    mask: usize,
+    script: &[u8],
+    payload: &[u8],
+    square: &mut [u8],
+) -> usize
+    requires { ⌜ (version ≤ 84 → sideOf version * sideOf version ≤ length (now kinds)) ⌝ }
+    ensures { λ r. ⌜ writingOf r (now (square .exit)) ≡ writeOf version level mask (now (script .entry)) (now (payload .entry)) (now (square .entry)) ⌝ }
 {
-    symbol::layout(m.version, kinds);
+    let InfoBits::Word(word) = information::info_bits(version, level, mask) else {
+        return 1;
+    };
+    symbol::layout(version, kinds);
+    let m = Mark {
+        version: version,
+        level: level,
+        mask: mask,
+        word: word,
+    };
     write_ready(square, kinds, m, script, payload)
 }
 
-// The same for a version up to 10: to clear a buffer for any layout would take longer than to write such a mark.
-fn write_small(square: &mut [u8], m: Mark, script: &[u8], payload: &[u8]) -> usize
-    requires { ⌜ Ranged m × (m .version ≤ 10) ⌝ }
-    ensures { λ r. ⌜ writingOf r (now (square .exit)) ≡ writeOf (m .version) (m .level) (m .mask) (now (script .entry)) (now (payload .entry)) (now (square .entry)) ⌝ }
-{
-    let mut kinds = [0u8; 1681];
-    write_in(&mut kinds, square, m, script, payload)
-}
-
-fn write_any(square: &mut [u8], m: Mark, script: &[u8], payload: &[u8]) -> usize
-    requires { ⌜ Ranged m ⌝ }
-    ensures { λ r. ⌜ writingOf r (now (square .exit)) ≡ writeOf (m .version) (m .level) (m .mask) (now (script .entry)) (now (payload .entry)) (now (square .entry)) ⌝ }
-{
-    let mut kinds = [0u8; 35721];
-    write_in(&mut kinds, square, m, script, payload)
-}
-
+// Write a square. A small mark has a small buffer for its layout: to clear one for any layout takes longer than to write a small mark. The
+// buffer stands before all refusals, so that no path through this function does without it.
 pub fn write_square(
     version: usize,
     level: usize,
@@ -167,17 +169,10 @@ pub fn write_square(
 ) -> usize
     ensures { λ r. ⌜ writingOf r (now (square .exit)) ≡ writeOf version level mask (now (script .entry)) (now (payload .entry)) (now (square .entry)) ⌝ }
 {
-    let InfoBits::Word(word) = information::info_bits(version, level, mask) else {
-        return 1;
-    };
-    let m = Mark {
-        version: version,
-        level: level,
-        mask: mask,
-        word: word,
-    };
     if version <= 10 {
-        return write_small(square, m, script, payload);
+        let mut kinds = [0u8; 1681];
+        return write_in(&mut kinds, version, level, mask, script, payload, square);
     }
-    write_any(square, m, script, payload)
+    let mut kinds = [0u8; 35721];
+    write_in(&mut kinds, version, level, mask, script, payload, square)
 }
