@@ -12,7 +12,8 @@ use Rattle.field.specs.Field.{raised, power, mul}
 use Rattle.field.proofs.Field.{Passes, mul-lt, mul-assoc, mul-one, mul-power, power-period}
 use Rattle.algebra.specs.Sum.{_⊕_, seq, sum, horner, degree}
 use Rattle.algebra.proofs.Sum.{sum-next}
-use Rattle.reed_solomon.specs.Inner.{dividedAt, numerator, denominator, Magnitude, ErrorAt, Errors}
+use Rattle.reed_solomon.specs.Inner.{Reduced, stepped, SteppedTwo, dividedAt, numerator, denominator, Magnitude, ErrorAt, Errors}
+use Rattle.reed_solomon.proofs.Values.{two-at-once}
 
 -- ---- the locator divided by x + α^d
 
@@ -45,6 +46,26 @@ module _ (poly : ℕ) (s f : List ℕ) (l d j m num den a b p : ℕ) (D : Dividi
         ∙ ap (horner poly (dividedAt poly f d) (power poly d)) (sym (add-one j));
   }
 
+pub dividing-two : (poly : ℕ) (s f : List ℕ) (l d j m num den m′ num′ den′ : ℕ) → Dividing poly s f l d j m num den
+    → SteppedTwo poly d (seq f j) (seq f (j + 1)) (seq s (l - 1 - j)) (seq s (l - 1 - (j + 1))) m num den m′ num′ den′ → Dividing poly s f l d (j + 2) m′ num′ den′
+dividing-two poly s f l d j m num den m′ num′ den′ D S =
+    let D₁ = dividing-next poly s f l d j m num den _ _ _ D refl refl refl in
+    let D₂ = dividing-next poly s f l d (j + 1) _ _ _ _ _ _ D₁ refl refl refl in
+    let e : j + 1 + 1 ≡ j + 2 = omega arith in
+    record {
+      next = S .next ∙ D₂ .next ∙ ap (horner poly (seq f) (power poly d)) e;
+      over = S .over ∙ D₂ .over ∙ ap (sum (λ i. mul poly (dividedAt poly f d i) (seq s (degree l i)))) e;
+      value = S .value ∙ D₂ .value ∙ ap (horner poly (dividedAt poly f d) (power poly d)) e;
+    }
+
+-- two steps of Horner's rule by two products that do not wait for each other
+pub two-steps : (poly : ℕ) → Passes poly → (d r a b x u v : ℕ) → Reduced (d + d) r → u ≡ mul poly x (power poly r) → v ≡ mul poly a (power poly d)
+    → u ⊕ (v ⊕ b) ≡ stepped poly d b (stepped poly d a x)
+two-steps poly P d r a b x u v R eu ev =
+    let e : d + 0 ≡ d = omega arith in
+    subst (λ (n : ℕ). Reduced (n + n) r → v ≡ mul poly a (power poly n) → u ⊕ (v ⊕ b) ≡ stepped poly n b (stepped poly n a x)) e
+    (λ R ev. two-at-once poly P d 0 r a b x u v R eu ev) R ev
+
 pub dividing-end : (poly : ℕ) (s f : List ℕ) (l d j m num den : ℕ) → Dividing poly s f l d j m num den → j ≤ l → l ≤ j
     → (num ≡ numerator poly s f l d) × (den ≡ denominator poly f l d)
 unfolding numerator denominator
@@ -53,6 +74,31 @@ dividing-end poly s f l d j m num den D h k =
       D .over ∙ ap (sum (λ i. mul poly (dividedAt poly f d i) (seq s (degree l i)))) e,
       D .value ∙ ap (horner poly (dividedAt poly f d) (power poly d)) e,
     )
+
+pub dividing-last : (poly : ℕ) (s f : List ℕ) (l d j m num den x y : ℕ) → Dividing poly s f l d j m num den → j + 1 ≡ l
+    → x ≡ num ⊕ mul poly (stepped poly d (seq f j) m) (seq s (l - 1 - j)) → y ≡ stepped poly d (stepped poly d (seq f j) m) den
+    → (x ≡ numerator poly s f l d) × (y ≡ denominator poly f l d)
+dividing-last poly s f l d j m num den x y D h ex ey =
+    let E = dividing-end poly s f l d (j + 1) _ _ _ (dividing-next poly s f l d j m num den _ _ _ D refl refl refl) (omega arith) (omega arith) in
+    (ex ∙ E .0, ey ∙ E .1)
+
+pub last-is : (poly d a s m num den u v p : ℕ) → u ≡ mul poly m (power poly d) → v ≡ mul poly den (power poly d) → p ≡ mul poly (u ⊕ a) s
+    → (num ⊕ p ≡ num ⊕ mul poly (stepped poly d a m) s) × (v ⊕ (u ⊕ a) ≡ stepped poly d (stepped poly d a m) den)
+last-is poly d a s m num den u v p eu ev ep =
+    (ap (λ (x : ℕ). num ⊕ x) (ep ∙ ap (λ (x : ℕ). mul poly (x ⊕ a) s) eu), ap₂ _⊕_ ev (ap (λ (x : ℕ). x ⊕ a) eu))
+
+pub two-are : (poly : ℕ) → Passes poly → (d n a b s t m num den u v w y z p q : ℕ) → Reduced (d + d) n → u ≡ mul poly m (power poly d)
+    → v ≡ mul poly m (power poly n) → w ≡ mul poly a (power poly d) → y ≡ mul poly den (power poly n) → z ≡ mul poly (u ⊕ a) (power poly d)
+    → p ≡ mul poly (u ⊕ a) s → q ≡ mul poly (v ⊕ (w ⊕ b)) t
+    → SteppedTwo poly d a b s t m num den (v ⊕ (w ⊕ b)) ((num ⊕ p) ⊕ q) (y ⊕ (z ⊕ (v ⊕ (w ⊕ b))))
+two-are poly P d n a b s t m num den u v w y z p q R eu ev ew ey ez ep eq =
+    let ex = ap (λ (x : ℕ). x ⊕ a) eu in
+    let em = two-steps poly P d n a b m v w R ev ew in
+    record {
+      next = em;
+      over = ap₂ (λ (x y : ℕ). (num ⊕ x) ⊕ y) (ep ∙ ap (λ (x : ℕ). mul poly x s) ex) (eq ∙ ap (λ (x : ℕ). mul poly x t) em);
+      value = two-steps poly P d n (u ⊕ a) (v ⊕ (w ⊕ b)) den y z R ey ez ∙ ap₂ (λ (x y : ℕ). stepped poly d y (stepped poly d x den)) ex em;
+    }
 
 -- ---- the error of the fraction
 

@@ -108,6 +108,16 @@ pub record Located (poly : ℕ) (f : List ℕ) (l n : ℕ) (e : List ℕ) : Type
 abbrev pub dividedAt : ℕ → List ℕ → ℕ → ℕ → ℕ
 dividedAt poly f d j = horner poly (seq f) (power poly d) (suc j)
 
+-- one step of Horner's rule at α^d
+abbrev pub stepped : ℕ → ℕ → ℕ → ℕ → ℕ
+stepped poly d a x = mul poly x (power poly d) ⊕ a
+
+-- the division after two coefficients more
+pub record SteppedTwo (poly d a b s t m num den m′ num′ den′ : ℕ) : Type 0 where
+  pub next : m′ ≡ stepped poly d b (stepped poly d a m)
+  pub over : num′ ≡ (num ⊕ mul poly (stepped poly d a m) s) ⊕ mul poly (stepped poly d b (stepped poly d a m)) t
+  pub value : den′ ≡ stepped poly d (stepped poly d b (stepped poly d a m)) (stepped poly d (stepped poly d a m) den)
+
 -- over the syndromes it gives this, and at α^d itself that
 unfoldable pub numerator : ℕ → List ℕ → List ℕ → ℕ → ℕ → ℕ
 numerator poly s f l d = sum (λ j. mul poly (dividedAt poly f d j) (seq s (degree l j))) l

@@ -2,9 +2,10 @@
 ghost use mathlib.Core.Path.{_≡_};
 ghost use Prim.Native.Nat.{ℕ, suc, _+_, _≤_, _<_};
 ghost use lib.ListN.{length, set};
+ghost use Rattle.field.specs.Field.{mul};
 ghost use Rattle.field.specs.Table.{Field, polyOf};
 ghost use Rattle.algebra.specs.Sum.{_⊕_, seq};
-ghost use Rattle.reed_solomon.specs.Inner.{Each, shifted, carried, Sums, Located, numerator, denominator, Magnitude, ErrorAt, Errors, without, withoutAll, repaired};
+ghost use Rattle.reed_solomon.specs.Inner.{Each, shifted, carried, Sums, Located, stepped, SteppedTwo, numerator, denominator, Magnitude, ErrorAt, Errors, without, withoutAll, repaired};
 use crate::syndromes::reduced;
 
 // The values of a locator at four places, one after the other.
@@ -85,23 +86,70 @@ pub struct Fraction {
     pub den: u8,
 }
 
+// The locator divided by x + α^d so far: the last coefficient, the sum over the syndromes and the value at α^d.
+pub struct Quotient {
+    pub m: u8,
+    pub num: u8,
+    pub den: u8,
+}
+
+// The next coefficient, where it is the last.
+fn last(field: &[u16; 1280], q: Quotient, a: u8, s: u8, d: usize) -> Fraction
+    requires { ⌜ Field (now field) ⌝ }
+    requires { ⌜ d ≤ 255 ⌝ }
+    ensures { λ r. ⌜ (r .num ≡ q .num ⊕ mul (polyOf (now (field .entry))) (stepped (polyOf (now (field .entry))) d a (q .m)) s) × (r .den ≡ stepped (polyOf (now (field .entry))) d (stepped (polyOf (now (field .entry))) d a (q .m)) (q .den)) ⌝ }
+{
+    let m = field::raised(field, q.m, d) ^ a;
+    let den = field::raised(field, q.den, d) ^ m;
+    let num = q.num ^ field::mul(field, m, s);
+    Fraction { num, den }
+}
+
+// The next two coefficients. The second goes out from the same logarithm as the first, so that a turn waits for one product and not for two.
+fn next_two(field: &[u16; 1280], q: Quotient, a: u8, b: u8, s: u8, t: u8, d: usize) -> Quotient
+    requires { ⌜ Field (now field) ⌝ }
+    requires { ⌜ d ≤ 255 ⌝ }
+    ensures { λ r. ⌜ SteppedTwo (polyOf (now (field .entry))) d a b s t (q .m) (q .num) (q .den) (r .m) (r .num) (r .den) ⌝ }
+{
+    let n = reduced(d + d);
+    let x = field::raised(field, q.m, d) ^ a;
+    let m = field::raised(field, q.m, n) ^ (field::raised(field, a, d) ^ b);
+    let den = field::raised(field, q.den, n) ^ (field::raised(field, x, d) ^ m);
+    let num = q.num ^ field::mul(field, x, s) ^ field::mul(field, m, t);
+    Quotient { m, num, den }
+}
+
 // The locator divided by x + α^d, over the syndromes and at α^d.
 fn divided(field: &[u16; 1280], s: &[u8], f: &[u8], l: usize, d: usize) -> Fraction
     requires { ⌜ Field (now field) ⌝ }
     requires { ⌜ (l ≤ length (now s)) × (l ≤ length (now f)) × (d ≤ 255) ⌝ }
     ensures { λ r. ⌜ (r .num ≡ numerator (polyOf (now (field .entry))) (now (s .entry)) (now (f .entry)) l d) × (r .den ≡ denominator (polyOf (now (field .entry))) (now (f .entry)) l d) ⌝ }
 {
-    let mut m = 0;
-    let mut num = 0;
-    let mut den = 0;
+    let mut q = Quotient {
+        m: 0,
+        num: 0,
+        den: 0,
+    };
     let mut j = 0;
-    while j < l {
-        m = field::raised(field, m, d) ^ f[j];
-        den = field::raised(field, den, d) ^ m;
-        num ^= field::mul(field, m, s[l - 1 - j]);
-        j += 1;
+    while j < l / 2 * 2 {
+        q = next_two(
+            field,
+            q,
+            f[j],
+            f[j + 1],
+            s[l - 1 - j],
+            s[l - 1 - (j + 1)],
+            d,
+        );
+        j += 2;
     }
-    Fraction { num, den }
+    if l <= j {
+        return Fraction {
+            num: q.num,
+            den: q.den,
+        };
+    }
+    last(field, q, f[j], s[l - 1 - j], d)
 }
 
 // The error at degree d, where the locator is zero.
