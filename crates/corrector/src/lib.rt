@@ -122,11 +122,14 @@ pub fn correct_with(
     repair(field, 1, block, parity, &mut s)
 }
 
-// Document 01's Correct a block: GF(256) under 163 hex, first root α^1.
+// Document 01's Correct a block: GF(256) under 163 hex, first root α^1. A table for one short block costs more than it saves.
 pub fn correct(block: &mut [u8], parity: usize) -> Correction
     ensures { λ r. ⌜ outcome r (now (block .exit)) ≡ correctOf 0x163 1 parity (now (block .entry)) ⌝ }
 {
     let field = field::han_xin();
+    if block.len() < 40 {
+        return correct_over(&field, 1, block, parity);
+    }
     let rows = remainder::prepare(parity);
     correct_with(&field, &rows, block, parity)
 }
