@@ -67,7 +67,8 @@ fn correct_batch(
     }
     let info = number(row, 3 * k + 1);
     let parity = number(row, 3 * k + 2);
-    let rows = remainder::prepare(parity);
+    let mut rows = [0u64; 512];
+    remainder::prepare(&mut rows, parity);
     let mut n: usize = 0;
     let mut at = from;
     let mut i: usize = 0;
@@ -223,7 +224,8 @@ fn write_batch(field: &[u16; 1280], stream: &mut [u8], data: &[u8], row: &[u8], 
     }
     let info = number(row, 3 * k + 1);
     let parity = number(row, 3 * k + 2);
-    let rows = remainder::prepare(parity);
+    let mut rows = [0u64; 512];
+    remainder::prepare(&mut rows, parity);
     let mut at = data_before(row, k);
     let mut from = length_before(row, k);
     let mut i: usize = 0;

@@ -130,6 +130,7 @@ pub fn correct(block: &mut [u8], parity: usize) -> Correction
     if block.len() < 40 {
         return correct_over(&field, 1, block, parity);
     }
-    let rows = remainder::prepare(parity);
+    let mut rows = [0u64; 512];
+    remainder::prepare(&mut rows, parity);
     correct_with(&field, &rows, block, parity)
 }

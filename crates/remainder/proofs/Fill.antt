@@ -9,13 +9,12 @@ use native.Mathlib.Decide.{decLt}
 use native.Mathlib.Nat.{add-zero}
 use native.Mathlib.Numerals.{add-one}
 use lib.Dec.{T, eqb, leb, eqb→eq}
-use lib.ListN.{length, getD, replicate, length-replicate}
+use lib.ListN.{length, getD}
 use lib.Pow.{pow-pos, pow-add}
 use lib.Bits.{bitXor, xor-self, xor-block, xor-shifted, xor-comm}
 use Rattle.field.specs.Field.{below, timesAlpha}
 use Rattle.field.proofs.Field.{Passes, passes, below-at}
 use Rattle.field.proofs.Instances.{passes-163}
-use Rattle.reed_solomon.proofs.Massey.{zeros}
 use Rattle.remainder.specs.declared.Register.{Register}
 use Rattle.remainder.specs.Words.{digits, behind, Zero, rowAt, sumOf, doubleOf, doubledOf, none, Rows, Put, Extended, Filling, Bytewise, Shifts, Filled}
 use Rattle.remainder.proofs.Digits.{digits-sum, behind-sum, digits-none}
@@ -138,12 +137,12 @@ bytewise k r n n′ t t₁ t₂ h F G = record {
         let e : 4 * (2 * k + 1) ≡ 4 + 4 * (2 * k) = omega arith in
         rw (e, pow-add 2 4 (4 * (2 * k))) (F .next x z (omega arith))
 
-pub filled-start : (g : Register) → Filled 0 g (replicate 512 0) g
-filled-start g = record {
-  size = length-replicate {A = ℕ} 512 0;
-  rows = λ x z i f h. absurd (omega arith);
-  free = λ m h. register-eq (zeros 512 (4 * m)) (zeros 512 (4 * m + 1)) (zeros 512 (4 * m + 2)) (zeros 512 (4 * m + 3));
-  next = λ x z h. z;
+pub filled-start : (g : Register) (t : List ℕ) → length t ≡ 512 → ((i : ℕ) → getD t i 0 ≡ 0) → Filled 0 g t g
+filled-start g t size z = record {
+  size = size;
+  rows = λ x y i f h. absurd (omega arith);
+  free = λ m h. register-eq (z (4 * m)) (z (4 * m + 1)) (z (4 * m + 2)) (z (4 * m + 3));
+  next = λ x y h. y;
 }
 
 pub filled-next : (k : ℕ) (g r n : Register) (t t′ : List ℕ) → Filled k g t r → k < 4 → Bytewise k r t t′ → Shifts t′ r n → Filled (k + 1) g t′ n

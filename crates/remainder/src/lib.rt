@@ -246,19 +246,18 @@ fn shifted(t: &[u64], r: Register) -> Register
     add_digit(t, add_digit(t, moved(r), y, 0), y, 1)
 }
 
-// The table of the generator g, which is the row of 1.
-fn rows(g: Register) -> [u64; 512]
-    ensures { λ t. ⌜ (length t ≡ 512) × ((x : ℕ) → Zero 0x163 x 1 g → Rows 0x163 x t) ⌝ }
+// The table of the generator g, which is the row of 1, in place of zeros.
+fn fill_rows(t: &mut [u64], g: Register)
+    requires { ⌜ (length (now t) ≡ 512) × ((i : ℕ) → getD (now t) i 0 ≡ 0) ⌝ }
+    ensures { λ _. ⌜ (length (now (t .exit)) ≡ 512) × ((x : ℕ) → Zero 0x163 x 1 g → Rows 0x163 x (now (t .exit))) ⌝ }
 {
-    let mut t = [0u64; 512];
     let mut r = g;
     let mut k: usize = 0;
     while k < 4 {
-        fill_byte(&mut t, k, r);
-        r = shifted(&t, r);
+        fill_byte(t, k, r);
+        r = shifted(t, r);
         k += 1;
     }
-    t
 }
 
 // The generator of a parity, and nothing where the parity is not tabled.
@@ -285,11 +284,12 @@ fn generator(parity: usize) -> Register
     row_at(&t, parity / 2 - 1)
 }
 
-// The table for a parity.
-pub fn prepare(parity: usize) -> [u64; 512]
-    ensures { λ t. ⌜ Prepared parity t ⌝ }
+// The table for a parity, in place of zeros: it is lent, since a copy of it would cost more than its rows.
+pub fn prepare(t: &mut [u64], parity: usize)
+    requires { ⌜ (length (now t) ≡ 512) × ((i : ℕ) → getD (now t) i 0 ≡ 0) ⌝ }
+    ensures { λ _. ⌜ Prepared parity (now (t .exit)) ⌝ }
 {
-    rows(generator(parity))
+    fill_rows(t, generator(parity));
 }
 
 // The word k of a register.

@@ -4,6 +4,7 @@ use mathlib.Core.List.{List}
 use Prim.Native.Nat.{ℕ, _+_, _-_, _*_, _≤_}
 use native.Mathlib.Omega.{arith}
 use lib.ListN.{length, drop}
+use Rattle.reed_solomon.proofs.Massey.{zeros}
 use Rattle.blocks.specs.Blocks.{Shape, batch, totalSize}
 use Rattle.blockwise.specs.Blockwise.{corrected, refusalOf}
 use Rattle.blockwise.specs.Inner.{Done}
@@ -19,6 +20,9 @@ Inv-loop field stream₀ from row k count info parity rows n₀ at₀ i₀ strea
 abbrev μ-loop : tie.MeasureT-loop
 μ-loop field stream₀ from row k count info parity rows n₀ at₀ i₀ stream n at i = count - i
 
+prepare-requires : tie.Need-prepare-requires Inv-loop μ-loop
+prepare-requires c κs = (refl, zeros 512)
+
 returns : tie.Need-returns Inv-loop μ-loop
 unfolding batch
 returns c =
@@ -26,7 +30,7 @@ returns c =
     batch-end _ (c .before .number .result) _ _ (batch-is (start .args .row .now) (start .args .k) _ _ _ (c .before .number .ensures .0) refl refl) 0 _ _ _ 0 (omega arith) (omega (arith, c .if1 .taken)) (done-none _ _)
 
 slice-aggregate-correct-block : tie.Need-slice-aggregate-correct-block Inv-loop μ-loop
-slice-aggregate-correct-block c = sym (c .before .before .before .prepare .ensures .size)
+slice-aggregate-correct-block c = sym (c .before .before .before .before .prepare .ensures .size)
 
 loop-holds : tie.Need-loop-holds Inv-loop μ-loop
 unfolding batch
@@ -34,20 +38,20 @@ loop-holds c = (omega arith, omega arith, refl, done-none _ _)
 
 correct-block-requires : tie.Need-correct-block-requires Inv-loop μ-loop
 correct-block-requires c κs =
-    let start = c .before .before .before .before .before .before .before .before .before .before .before in
-    let number = c .before .before .before .before .before .before .before .before .number in
-    let number2 = c .before .before .before .before .before .before .number2 in
-    let number3 = c .before .before .before .before .before .number3 in
+    let start = c .before .before .before .before .before .before .before .before .before .before .before .before .before in
+    let number = c .before .before .before .before .before .before .before .before .before .before .number in
+    let number2 = c .before .before .before .before .before .before .before .before .number2 in
+    let number3 = c .before .before .before .before .before .before .before .number3 in
     let loop = c .before .before .before .loop in
     let q = numbers-fit (start .args .row .now) (start .args .k) (number .result) (number2 .result) (number3 .result) (number .ensures .0) (number2 .ensures .0) (number3 .ensures .0) (start .pre .1 .2) (omega arith) in
-    ((start .pre .0 .0, start .pre .0 .1, c .before .before .before .before .prepare .ensures), (q .0, q .1, q .2, omega (arith, loop .inv .2, block-in (number2 .result) (number3 .result) (start .args .from) (number .result) (start .args .stream .now) (omega (arith, start .pre .1 .3, ap totalSize (batch-is (start .args .row .now) (start .args .k) _ _ _ (number .ensures .0) (number2 .ensures .0) (number3 .ensures .0)))) (loop .i) (loop .at) (loop .n) (loop .stream) (c .before .before .loop-test .taken) (loop .inv .1) (loop .inv .3))))
+    ((start .pre .0 .0, start .pre .0 .1, c .before .before .before .before .before .prepare .ensures), (q .0, q .1, q .2, omega (arith, loop .inv .2, block-in (number2 .result) (number3 .result) (start .args .from) (number .result) (start .args .stream .now) (omega (arith, start .pre .1 .3, ap totalSize (batch-is (start .args .row .now) (start .args .k) _ _ _ (number .ensures .0) (number2 .ensures .0) (number3 .ensures .0)))) (loop .i) (loop .at) (loop .n) (loop .stream) (c .before .before .loop-test .taken) (loop .inv .1) (loop .inv .3))))
 
 returns-2 : tie.Need-returns-2 Inv-loop μ-loop
 returns-2 c =
-    let start = c .before .before .before .before .before .before .before .before .before .before .before .before .before .before .before .before in
-    let number = c .before .before .before .before .before .before .before .before .before .before .before .before .before .number in
-    let number2 = c .before .before .before .before .before .before .before .before .before .before .before .number2 in
-    let number3 = c .before .before .before .before .before .before .before .before .before .before .number3 in
+    let start = c .before .before .before .before .before .before .before .before .before .before .before .before .before .before .before .before .before .before in
+    let number = c .before .before .before .before .before .before .before .before .before .before .before .before .before .before .before .number in
+    let number2 = c .before .before .before .before .before .before .before .before .before .before .before .before .before .number2 in
+    let number3 = c .before .before .before .before .before .before .before .before .before .before .before .before .number3 in
     let loop = c .before .before .before .before .before .before .before .before .loop in
     let loop-test = c .before .before .before .before .before .before .before .loop-test in
     let correct-block = c .before .before .before .before .correct-block in
@@ -56,10 +60,10 @@ returns-2 c =
 
 add-n : tie.Need-add-n Inv-loop μ-loop
 add-n c =
-    let start = c .before .before .before .before .before .before .before .before .before .before .before .before .before .before .before .before .before in
-    let number = c .before .before .before .before .before .before .before .before .before .before .before .before .before .before .number in
-    let number2 = c .before .before .before .before .before .before .before .before .before .before .before .before .number2 in
-    let number3 = c .before .before .before .before .before .before .before .before .before .before .before .number3 in
+    let start = c .before .before .before .before .before .before .before .before .before .before .before .before .before .before .before .before .before .before .before in
+    let number = c .before .before .before .before .before .before .before .before .before .before .before .before .before .before .before .before .number in
+    let number2 = c .before .before .before .before .before .before .before .before .before .before .before .before .before .before .number2 in
+    let number3 = c .before .before .before .before .before .before .before .before .before .before .before .before .before .number3 in
     let loop = c .before .before .before .before .before .before .before .before .before .loop in
     let loop-test = c .before .before .before .before .before .before .before .before .loop-test in
     let correct-block = c .before .before .before .before .before .correct-block in
@@ -67,30 +71,30 @@ add-n c =
 
 add-at : tie.Need-add-at Inv-loop μ-loop
 add-at c =
-    let start = c .before .before .before .before .before .before .before .before .before .before .before .before .before .before .before .before .before in
-    let number = c .before .before .before .before .before .before .before .before .before .before .before .before .before .before .number in
-    let number2 = c .before .before .before .before .before .before .before .before .before .before .before .before .number2 in
-    let number3 = c .before .before .before .before .before .before .before .before .before .before .before .number3 in
+    let start = c .before .before .before .before .before .before .before .before .before .before .before .before .before .before .before .before .before .before .before in
+    let number = c .before .before .before .before .before .before .before .before .before .before .before .before .before .before .before .before .number in
+    let number2 = c .before .before .before .before .before .before .before .before .before .before .before .before .before .before .number2 in
+    let number3 = c .before .before .before .before .before .before .before .before .before .before .before .before .before .number3 in
     let loop = c .before .before .before .before .before .before .before .before .before .loop in
     let loop-test = c .before .before .before .before .before .before .before .before .loop-test in
     omega (arith, block-in (number2 .result) (number3 .result) (start .args .from) (number .result) (start .args .stream .now) (omega (arith, start .pre .1 .3, ap totalSize (batch-is (start .args .row .now) (start .args .k) _ _ _ (number .ensures .0) (number2 .ensures .0) (number3 .ensures .0)))) (loop .i) (loop .at) (loop .n) (loop .stream) (loop-test .taken) (loop .inv .1) (loop .inv .3))
 
 add-at-2 : tie.Need-add-at-2 Inv-loop μ-loop
 add-at-2 c =
-    let start = c .before .before .before .before .before .before .before .before .before .before .before .before .before .before .before .before .before in
-    let number = c .before .before .before .before .before .before .before .before .before .before .before .before .before .before .number in
-    let number2 = c .before .before .before .before .before .before .before .before .before .before .before .before .number2 in
-    let number3 = c .before .before .before .before .before .before .before .before .before .before .before .number3 in
+    let start = c .before .before .before .before .before .before .before .before .before .before .before .before .before .before .before .before .before .before .before in
+    let number = c .before .before .before .before .before .before .before .before .before .before .before .before .before .before .before .before .number in
+    let number2 = c .before .before .before .before .before .before .before .before .before .before .before .before .before .before .number2 in
+    let number3 = c .before .before .before .before .before .before .before .before .before .before .before .before .before .number3 in
     let loop = c .before .before .before .before .before .before .before .before .before .loop in
     let loop-test = c .before .before .before .before .before .before .before .before .loop-test in
     omega (arith, block-in (number2 .result) (number3 .result) (start .args .from) (number .result) (start .args .stream .now) (omega (arith, start .pre .1 .3, ap totalSize (batch-is (start .args .row .now) (start .args .k) _ _ _ (number .ensures .0) (number2 .ensures .0) (number3 .ensures .0)))) (loop .i) (loop .at) (loop .n) (loop .stream) (loop-test .taken) (loop .inv .1) (loop .inv .3))
 
 loop-again : tie.Need-loop-again Inv-loop μ-loop
 loop-again c =
-    let start = c .before .before .before .before .before .before .before .before .before .before .before .before .before .before .before .before .before in
-    let number = c .before .before .before .before .before .before .before .before .before .before .before .before .before .before .number in
-    let number2 = c .before .before .before .before .before .before .before .before .before .before .before .before .number2 in
-    let number3 = c .before .before .before .before .before .before .before .before .before .before .before .number3 in
+    let start = c .before .before .before .before .before .before .before .before .before .before .before .before .before .before .before .before .before .before .before in
+    let number = c .before .before .before .before .before .before .before .before .before .before .before .before .before .before .before .before .number in
+    let number2 = c .before .before .before .before .before .before .before .before .before .before .before .before .before .before .number2 in
+    let number3 = c .before .before .before .before .before .before .before .before .before .before .before .before .before .number3 in
     let loop = c .before .before .before .before .before .before .before .before .before .loop in
     let loop-test = c .before .before .before .before .before .before .before .before .loop-test in
     let correct-block = c .before .before .before .before .before .correct-block in (
@@ -105,14 +109,14 @@ same-length-2 c = c .before .loop .inv .2
 
 returns-3 : tie.Need-returns-3 Inv-loop μ-loop
 returns-3 c =
-    let start = c .before .before .before .before .before .before .before .before .before in
-    let number = c .before .before .before .before .before .before .number in
+    let start = c .before .before .before .before .before .before .before .before .before .before .before in
+    let number = c .before .before .before .before .before .before .before .before .number in
     let loop = c .before .loop in
-    batch-end _ _ _ _ (batch-is (start .args .row .now) (start .args .k) _ _ _ (number .ensures .0) (c .before .before .before .before .number2 .ensures .0) (c .before .before .before .number3 .ensures .0)) _ _ _ _ _ (loop .inv .0) (omega arith) (loop .inv .3)
+    batch-end _ _ _ _ (batch-is (start .args .row .now) (start .args .k) _ _ _ (number .ensures .0) (c .before .before .before .before .before .before .number2 .ensures .0) (c .before .before .before .before .before .number3 .ensures .0)) _ _ _ _ _ (loop .inv .0) (omega arith) (loop .inv .3)
 
 pub correct-batch-spec : {M : Type 1} → statement M
 correct-batch-spec =
     tie.close
     (tie.spec Inv-loop μ-loop (λ c. search needs) (λ c κs. search needs) returns (λ c. search needs) (λ c. search needs) (λ c κs. search needs) (λ c. search needs) (λ c. search needs)
-    (λ c κs. search needs) (λ c κs. search needs) loop-holds slice-aggregate-correct-block correct-block-requires (λ c. search needs) (λ c. search needs) (λ c. search needs) returns-2 add-n add-at add-at-2
-    (λ c. search needs) (λ c. search needs) loop-again same-length-2 returns-3)
+    (λ c κs. search needs) (λ c. search needs) prepare-requires loop-holds slice-aggregate-correct-block correct-block-requires (λ c. search needs) (λ c. search needs) (λ c. search needs) returns-2 add-n
+    add-at add-at-2 (λ c. search needs) (λ c. search needs) loop-again same-length-2 returns-3)

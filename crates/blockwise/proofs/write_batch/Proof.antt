@@ -3,6 +3,7 @@ use mathlib.Core.Path.{_≡_, refl, sym, ap₂, _∙_}
 use Prim.Native.Nat.{ℕ, _+_, _-_, _*_, _≤_, _<_}
 use native.Mathlib.Omega.{arith}
 use lib.ListN.{length, take, drop}
+use Rattle.reed_solomon.proofs.Massey.{zeros}
 use Rattle.blocks.specs.Blocks.{batch, totalSize, totalData}
 use Rattle.blockwise.specs.Inner.{batches, Writes}
 use Rattle.blockwise.proofs.Batches.{batch-is, numbers-fit, row-batch}
@@ -46,14 +47,17 @@ add-number-2 c = search needs
 number-requires-3 : tie.Need-number-requires-3 Inv-loop μ-loop
 number-requires-3 c κs = search needs
 
+prepare-requires : tie.Need-prepare-requires Inv-loop μ-loop
+prepare-requires c κs = (refl, zeros 512)
+
 data-before-requires : tie.Need-data-before-requires Inv-loop μ-loop
 data-before-requires c κs =
-    let start = c .before .before .before .before .before .before .before .before in
+    let start = c .before .before .before .before .before .before .before .before .before .before in
     (start .pre .1 .0, omega (arith, start .pre .1 .1))
 
 length-before-requires : tie.Need-length-before-requires Inv-loop μ-loop
 length-before-requires c κs =
-    let start = c .before .before .before .before .before .before .before .before .before in
+    let start = c .before .before .before .before .before .before .before .before .before .before .before in
     (start .pre .1 .0, omega (arith, start .pre .1 .1))
 
 loop-holds : tie.Need-loop-holds Inv-loop μ-loop
@@ -61,17 +65,17 @@ unfolding batch
 loop-holds c = (omega arith, omega (arith, c .before .data-before .ensures), omega (arith, c .length-before .ensures), writes-none _ _ _)
 
 slice-aggregate-write-block : tie.Need-slice-aggregate-write-block Inv-loop μ-loop
-slice-aggregate-write-block c = sym (c .before .before .before .before .before .prepare .ensures .size)
+slice-aggregate-write-block c = sym (c .before .before .before .before .before .before .prepare .ensures .size)
 
 add-write-block : tie.Need-add-write-block Inv-loop μ-loop
 add-write-block c = search needs
 
 add-write-block-2 : tie.Need-add-write-block-2 Inv-loop μ-loop
 add-write-block-2 c =
-    let start = c .before .before .before .before .before .before .before .before .before .before .before .before .before in
-    let number = c .before .before .before .before .before .before .before .before .before .number in
-    let number2 = c .before .before .before .before .before .before .before .number2 in
-    let number3 = c .before .before .before .before .before .before .number3 in
+    let start = c .before .before .before .before .before .before .before .before .before .before .before .before .before .before .before in
+    let number = c .before .before .before .before .before .before .before .before .before .before .before .number in
+    let number2 = c .before .before .before .before .before .before .before .before .before .number2 in
+    let number3 = c .before .before .before .before .before .before .before .before .number3 in
     let loop = c .before .before .loop in
     omega (arith, loop .inv .2, loop .inv .3 .size, start .pre .1 .3, stream-room (start .args .row .now) (start .args .k) (number .result) (number2 .result) (number3 .result) (start .pre .1 .1) (number .ensures .0) (number2 .ensures .0) (number3 .ensures .0) (loop .i) (c .before .loop-test .taken))
 
@@ -80,28 +84,28 @@ sub-write-block c = search needs
 
 part-write-block-start : tie.Need-part-write-block-start Inv-loop μ-loop
 part-write-block-start c =
-    let start = c .before .before .before .before .before .before .before .before .before .before .before .before .before in
-    let number = c .before .before .before .before .before .before .before .before .before .number in
-    let number2 = c .before .before .before .before .before .before .before .number2 in
-    let number3 = c .before .before .before .before .before .before .number3 in
+    let start = c .before .before .before .before .before .before .before .before .before .before .before .before .before .before .before in
+    let number = c .before .before .before .before .before .before .before .before .before .before .before .number in
+    let number2 = c .before .before .before .before .before .before .before .before .before .number2 in
+    let number3 = c .before .before .before .before .before .before .before .before .number3 in
     let loop = c .before .before .loop in
     omega (arith, loop .inv .2, loop .inv .3 .size, start .pre .1 .3, stream-room (start .args .row .now) (start .args .k) (number .result) (number2 .result) (number3 .result) (start .pre .1 .1) (number .ensures .0) (number2 .ensures .0) (number3 .ensures .0) (loop .i) (c .before .loop-test .taken))
 
 part-write-block-end : tie.Need-part-write-block-end Inv-loop μ-loop
 part-write-block-end c =
-    let start = c .before .before .before .before .before .before .before .before .before .before .before .before .before in
-    let number = c .before .before .before .before .before .before .before .before .before .number in
-    let number2 = c .before .before .before .before .before .before .before .number2 in
-    let number3 = c .before .before .before .before .before .before .number3 in
+    let start = c .before .before .before .before .before .before .before .before .before .before .before .before .before .before .before in
+    let number = c .before .before .before .before .before .before .before .before .before .before .before .number in
+    let number2 = c .before .before .before .before .before .before .before .before .before .number2 in
+    let number3 = c .before .before .before .before .before .before .before .before .number3 in
     let loop = c .before .before .loop in
     omega (arith, loop .inv .2, loop .inv .3 .size, start .pre .1 .3, stream-room (start .args .row .now) (start .args .k) (number .result) (number2 .result) (number3 .result) (start .pre .1 .1) (number .ensures .0) (number2 .ensures .0) (number3 .ensures .0) (loop .i) (c .before .loop-test .taken))
 
 add-write-block-3 : tie.Need-add-write-block-3 Inv-loop μ-loop
 add-write-block-3 c =
-    let start = c .before .before .before .before .before .before .before .before .before .before .before .before .before .before in
-    let number = c .before .before .before .before .before .before .before .before .before .before .number in
-    let number2 = c .before .before .before .before .before .before .before .before .number2 in
-    let number3 = c .before .before .before .before .before .before .before .number3 in
+    let start = c .before .before .before .before .before .before .before .before .before .before .before .before .before .before .before .before in
+    let number = c .before .before .before .before .before .before .before .before .before .before .before .before .number in
+    let number2 = c .before .before .before .before .before .before .before .before .before .before .number2 in
+    let number3 = c .before .before .before .before .before .before .before .before .before .number3 in
     let loop = c .before .before .before .loop in
     omega (arith, loop .inv .1, start .pre .1 .4, data-room (start .args .row .now) (start .args .k) (number .result) (number2 .result) (number3 .result) (start .pre .1 .1) (number .ensures .0) (number2 .ensures .0) (number3 .ensures .0) (loop .i) (c .before .before .loop-test .taken))
 
@@ -110,29 +114,29 @@ sub-write-block-2 c = search needs
 
 part-write-block-start-2 : tie.Need-part-write-block-start-2 Inv-loop μ-loop
 part-write-block-start-2 c =
-    let start = c .before .before .before .before .before .before .before .before .before .before .before .before .before .before in
-    let number = c .before .before .before .before .before .before .before .before .before .before .number in
-    let number2 = c .before .before .before .before .before .before .before .before .number2 in
-    let number3 = c .before .before .before .before .before .before .before .number3 in
+    let start = c .before .before .before .before .before .before .before .before .before .before .before .before .before .before .before .before in
+    let number = c .before .before .before .before .before .before .before .before .before .before .before .before .number in
+    let number2 = c .before .before .before .before .before .before .before .before .before .before .number2 in
+    let number3 = c .before .before .before .before .before .before .before .before .before .number3 in
     let loop = c .before .before .before .loop in
     omega (arith, loop .inv .1, start .pre .1 .4, data-room (start .args .row .now) (start .args .k) (number .result) (number2 .result) (number3 .result) (start .pre .1 .1) (number .ensures .0) (number2 .ensures .0) (number3 .ensures .0) (loop .i) (c .before .before .loop-test .taken))
 
 part-write-block-end-2 : tie.Need-part-write-block-end-2 Inv-loop μ-loop
 part-write-block-end-2 c =
-    let start = c .before .before .before .before .before .before .before .before .before .before .before .before .before .before in
-    let number = c .before .before .before .before .before .before .before .before .before .before .number in
-    let number2 = c .before .before .before .before .before .before .before .before .number2 in
-    let number3 = c .before .before .before .before .before .before .before .number3 in
+    let start = c .before .before .before .before .before .before .before .before .before .before .before .before .before .before .before .before in
+    let number = c .before .before .before .before .before .before .before .before .before .before .before .before .number in
+    let number2 = c .before .before .before .before .before .before .before .before .before .before .number2 in
+    let number3 = c .before .before .before .before .before .before .before .before .before .number3 in
     let loop = c .before .before .before .loop in
     omega (arith, loop .inv .1, start .pre .1 .4, data-room (start .args .row .now) (start .args .k) (number .result) (number2 .result) (number3 .result) (start .pre .1 .1) (number .ensures .0) (number2 .ensures .0) (number3 .ensures .0) (loop .i) (c .before .before .loop-test .taken))
 
 write-block-requires : tie.Need-write-block-requires Inv-loop μ-loop
 write-block-requires c κs =
-    let start = c .before .before .before .before .before .before .before .before .before .before .before .before .before .before .before in
-    let number = c .before .before .before .before .before .before .before .before .before .before .before .number in
-    let number2 = c .before .before .before .before .before .before .before .before .before .number2 in
-    let number3 = c .before .before .before .before .before .before .before .before .number3 in
-    let prepare = c .before .before .before .before .before .before .before .prepare in
+    let start = c .before .before .before .before .before .before .before .before .before .before .before .before .before .before .before .before .before in
+    let number = c .before .before .before .before .before .before .before .before .before .before .before .before .before .number in
+    let number2 = c .before .before .before .before .before .before .before .before .before .before .before .number2 in
+    let number3 = c .before .before .before .before .before .before .before .before .before .before .number3 in
+    let prepare = c .before .before .before .before .before .before .before .before .prepare in
     let loop = c .before .before .before .before .loop in
     let loop-test = c .before .before .before .loop-test in
     let d = number2 .result in
@@ -146,30 +150,30 @@ write-block-requires c κs =
 
 add-at : tie.Need-add-at Inv-loop μ-loop
 add-at c =
-    let start = c .before .before .before .before .before .before .before .before .before .before .before .before .before .before .before .before .before .before in
-    let number = c .before .before .before .before .before .before .before .before .before .before .before .before .before .before .number in
-    let number2 = c .before .before .before .before .before .before .before .before .before .before .before .before .number2 in
-    let number3 = c .before .before .before .before .before .before .before .before .before .before .before .number3 in
+    let start = c .before .before .before .before .before .before .before .before .before .before .before .before .before .before .before .before .before .before .before .before in
+    let number = c .before .before .before .before .before .before .before .before .before .before .before .before .before .before .before .before .number in
+    let number2 = c .before .before .before .before .before .before .before .before .before .before .before .before .before .before .number2 in
+    let number3 = c .before .before .before .before .before .before .before .before .before .before .before .before .before .number3 in
     let loop = c .before .before .before .before .before .before .before .loop in
     let loop-test = c .before .before .before .before .before .before .loop-test in
     omega (arith, loop .inv .1, start .pre .1 .4, data-room (start .args .row .now) (start .args .k) (number .result) (number2 .result) (number3 .result) (start .pre .1 .1) (number .ensures .0) (number2 .ensures .0) (number3 .ensures .0) (loop .i) (loop-test .taken))
 
 add-from : tie.Need-add-from Inv-loop μ-loop
 add-from c =
-    let start = c .before .before .before .before .before .before .before .before .before .before .before .before .before .before .before .before .before .before in
-    let number = c .before .before .before .before .before .before .before .before .before .before .before .before .before .before .number in
-    let number2 = c .before .before .before .before .before .before .before .before .before .before .before .before .number2 in
-    let number3 = c .before .before .before .before .before .before .before .before .before .before .before .number3 in
+    let start = c .before .before .before .before .before .before .before .before .before .before .before .before .before .before .before .before .before .before .before .before in
+    let number = c .before .before .before .before .before .before .before .before .before .before .before .before .before .before .before .before .number in
+    let number2 = c .before .before .before .before .before .before .before .before .before .before .before .before .before .before .number2 in
+    let number3 = c .before .before .before .before .before .before .before .before .before .before .before .before .before .number3 in
     let loop = c .before .before .before .before .before .before .before .loop in
     let loop-test = c .before .before .before .before .before .before .loop-test in
     omega (arith, loop .inv .2, loop .inv .3 .size, start .pre .1 .3, stream-room (start .args .row .now) (start .args .k) (number .result) (number2 .result) (number3 .result) (start .pre .1 .1) (number .ensures .0) (number2 .ensures .0) (number3 .ensures .0) (loop .i) (loop-test .taken))
 
 add-from-2 : tie.Need-add-from-2 Inv-loop μ-loop
 add-from-2 c =
-    let start = c .before .before .before .before .before .before .before .before .before .before .before .before .before .before .before .before .before .before in
-    let number = c .before .before .before .before .before .before .before .before .before .before .before .before .before .before .number in
-    let number2 = c .before .before .before .before .before .before .before .before .before .before .before .before .number2 in
-    let number3 = c .before .before .before .before .before .before .before .before .before .before .before .number3 in
+    let start = c .before .before .before .before .before .before .before .before .before .before .before .before .before .before .before .before .before .before .before .before in
+    let number = c .before .before .before .before .before .before .before .before .before .before .before .before .before .before .before .before .number in
+    let number2 = c .before .before .before .before .before .before .before .before .before .before .before .before .before .before .number2 in
+    let number3 = c .before .before .before .before .before .before .before .before .before .before .before .before .before .number3 in
     let loop = c .before .before .before .before .before .before .before .loop in
     let loop-test = c .before .before .before .before .before .before .loop-test in
     omega (arith, loop .inv .2, loop .inv .3 .size, start .pre .1 .3, stream-room (start .args .row .now) (start .args .k) (number .result) (number2 .result) (number3 .result) (start .pre .1 .1) (number .ensures .0) (number2 .ensures .0) (number3 .ensures .0) (loop .i) (loop-test .taken))
@@ -182,10 +186,10 @@ loop-less c = search needs
 
 loop-again : tie.Need-loop-again Inv-loop μ-loop
 loop-again c =
-    let start = c .before .before .before .before .before .before .before .before .before .before .before .before .before .before .before .before .before .before in
-    let number = c .before .before .before .before .before .before .before .before .before .before .before .before .before .before .number in
-    let number2 = c .before .before .before .before .before .before .before .before .before .before .before .before .number2 in
-    let number3 = c .before .before .before .before .before .before .before .before .before .before .before .number3 in
+    let start = c .before .before .before .before .before .before .before .before .before .before .before .before .before .before .before .before .before .before .before .before in
+    let number = c .before .before .before .before .before .before .before .before .before .before .before .before .before .before .before .before .number in
+    let number2 = c .before .before .before .before .before .before .before .before .before .before .before .before .before .before .number2 in
+    let number3 = c .before .before .before .before .before .before .before .before .before .before .before .before .before .number3 in
     let loop = c .before .before .before .before .before .before .before .loop in
     let loop-test = c .before .before .before .before .before .before .loop-test in
     let write-block = c .before .before .write-block in (
@@ -201,10 +205,10 @@ same-length c = c .before .loop .inv .3 .size
 
 returns-2 : tie.Need-returns-2 Inv-loop μ-loop
 returns-2 c =
-    let start = c .before .before .before .before .before .before .before .before .before .before .before .before in
-    let number = c .before .before .before .before .before .before .before .before .number in
-    let number2 = c .before .before .before .before .before .before .number2 in
-    let number3 = c .before .before .before .before .before .number3 in
+    let start = c .before .before .before .before .before .before .before .before .before .before .before .before .before .before in
+    let number = c .before .before .before .before .before .before .before .before .before .before .number in
+    let number2 = c .before .before .before .before .before .before .before .before .number2 in
+    let number3 = c .before .before .before .before .before .before .before .number3 in
     let loop = c .before .loop in
     writes-end (number2 .result) (number3 .result) (loop .i) _ (totalData (batches (start .args .k) (start .args .row .now))) (start .args .«data» .now) (number .result) _ (batch-is (start .args .row .now) (start .args .k) _ _ _ (number .ensures .0) (number2 .ensures .0) (number3 .ensures .0)) (loop .inv .0) (omega arith) _ _ (loop .inv .3)
 
@@ -223,7 +227,8 @@ write-batch-spec =
     mul-number-3
     add-number-2
     number-requires-3
-    (λ c κs. search needs)
+    (λ c. search needs)
+    prepare-requires
     data-before-requires
     length-before-requires
     loop-holds

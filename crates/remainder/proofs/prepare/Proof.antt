@@ -1,5 +1,4 @@
 -- `prepare` meets its contract. Assumes nothing.
-use mathlib.Core.Path.{sym}
 use borrow.Author.Needs.{needs}
 use Rattle.field.specs.Field.{power}
 use Rattle.remainder.proofs.Generators.{generator-zero}
@@ -8,12 +7,13 @@ use Rattle.remainder.proofs.prepare.Tie as tie
 
 returns : tie.Need-returns
 returns c =
-    let parity = c .before .before .args .parity in
+    let parity = c .before .before .before .before .before .before .args .parity in
+    let fill-rows = c .before .before .fill-rows in
     record {
-      size = c .rows .ensures .0;
-      rows = λ tabled j h. c .rows .ensures .1 (power 0x163 _)
-          (rw (c .before .generator .ensures (tabled .0) (tabled .1)) (generator-zero parity j (tabled .0) (tabled .1) (tabled .2) h));
+      size = fill-rows .ensures .0;
+      rows = λ tabled j h. fill-rows .ensures .1 (power 0x163 _)
+          (rw (c .before .before .before .generator .ensures (tabled .0) (tabled .1)) (generator-zero parity j (tabled .0) (tabled .1) (tabled .2) h));
     }
 
 pub prepare-spec : {M : Type 1} → statement M
-prepare-spec = tie.close (tie.spec (λ c κs. search needs) (λ c κs. search needs) returns)
+prepare-spec = tie.close (tie.spec (λ c κs. search needs) (λ c κs. search needs) (λ c. search needs) returns)
