@@ -78,8 +78,8 @@ tells n a t d p₀ s₀ p s m h k k′ A e =
       };
     }
 
--- n data in front of a buffer that had n zeros at least
-pub gathered : (n : ℕ) (d buffer : List ℕ) → buffer ≡ d ++ drop n (replicate 3886 0) → n ≤ 3886 → length buffer ≡ 3886 → (length d ≡ n) × (take n buffer ≡ d)
-gathered n d buffer e h k =
-    let l : length d ≡ n = omega (arith, ap length e, length-append d (drop n (replicate 3886 0)), length-drop {A = ℕ} n (replicate 3886 0), length-replicate {A = ℕ} 3886 0) in
-    (l, ap (take n) e ∙ take-at d (drop n (replicate 3886 0)) n l)
+-- n data at the front of a buffer
+pub gathered : (n : ℕ) (d was buffer : List ℕ) → buffer ≡ d ++ drop n was → n ≤ length was → length buffer ≡ length was → (length d ≡ n) × (take n buffer ≡ d)
+gathered n d was buffer e h k =
+    let l : length d ≡ n = omega (arith, ap length e, length-append d (drop n was), length-drop n was) in
+    (l, ap (take n) e ∙ take-at d (drop n was) n l)

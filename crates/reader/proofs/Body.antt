@@ -31,7 +31,7 @@ use Rattle.squares.proofs.Modules.{stream-length}
 use Rattle.squares.proofs.Starts.{layout-front, has-blocks, no-blocks, row-total, row-small}
 use Rattle.reader.specs.declared.Mark.{Mark}
 use Rattle.reader.specs.declared.Told.{Told}
-use Rattle.reader.specs.Inner.{receiptIn, Small, Refuses, Tells, Fitting, Drawn, readingIn, bodyOr1}
+use Rattle.reader.specs.Inner.{receiptIn, Small, Refuses, Tells, Fitting, Ranged, Drawn, Streamed, Body, readingIn, bodyOr1}
 use Rattle.reader.proofs.Receipts.{in-accepted, in-refused}
 
 -- ---- what is told, as a reading
@@ -82,9 +82,6 @@ module _ (m : Mark) (sq ks : List ℕ) (F : Fitting m sq) (D : Drawn (m .version
   abbrev v : ℕ
   v = m .version
 
-  abbrev stream : List ℕ
-  stream = streamFrom v (m .mask) sq
-
   front-is : take (length sq) ks ≡ layoutOf v
   front-is = ap (λ (n : ℕ). take n ks) (F .size) ∙ D .front
 
@@ -97,12 +94,14 @@ module _ (m : Mark) (sq ks : List ℕ) (F : Fitting m sq) (D : Drawn (m .version
   pub enough-bits : (f : ℕ → ℕ) (total : ℕ) → total ≡ totalOf v → 8 * totalOf v ≤ dataModules (layoutOf v) → 8 * total ≤ length (dataBits f 0 ks sq)
   enough-bits f total e h = omega (arith, length-data f 0 ks sq, ap dataModules front-is)
 
-  pub stream-is : (side total : ℕ) (st rest : List ℕ) → side ≡ sideOf v → total ≡ totalOf v → st ≡ streamIn total (maskBit side (m .mask)) ks sq ++ rest → st ≡ stream ++ rest
+  pub stream-is : (side total : ℕ) (st rest : List ℕ) → side ≡ sideOf v → total ≡ totalOf v → st ≡ streamOf (codewordsOf total (dataBits (maskBit side (m .mask)) 0 ks sq)) ++ rest → Streamed m sq st
   unfolding streamIn streamFrom
-  stream-is side total st rest e f g =
-      g
-      ∙ (λ i. streamOf (codewordsOf (f i) (dataBits (maskBit (e i) (m .mask)) 0 ks sq)) ++ rest)
-      ∙ ap (λ (bs : List ℕ). streamOf (codewordsOf (totalOf v) bs) ++ rest) (bits-are (maskBit (sideOf v) (m .mask)))
+  stream-is side total st rest e f g = record {
+    rest = rest;
+    is = g
+        ∙ (λ i. streamOf (codewordsOf (f i) (dataBits (maskBit (e i) (m .mask)) 0 ks sq)) ++ rest)
+        ∙ ap (λ (bs : List ℕ). streamOf (codewordsOf (totalOf v) bs) ++ rest) (bits-are (maskBit (sideOf v) (m .mask)));
+  }
 
   -- ---- whether there are enough data modules
 
@@ -122,71 +121,81 @@ module _ (m : Mark) (sq ks : List ℕ) (F : Fitting m sq) (D : Drawn (m .version
     unfolding bodyOr1
     with-blocks h r e = e ∙ sym (simp (has-blocks v (m .level) (F .low) (F .high) (F .level) (enough h)))
 
-  -- ---- its row
+-- ---- the blocks of a stream, corrected
 
-  module _ (row : List ℕ) (e : row ≡ rowOf v (m .level)) where
-    abbrev bs : List Shape
-    bs = shapes row
+pub ranged : (m : Mark) (sq : List ℕ) → Fitting m sq → Ranged m
+ranged m sq F = record { low = F .low; high = F .high; level = F .level }
 
-    length-is : rowLength row ≡ totalOf v
-    length-is = row-total v (m .level) (F .low) (F .high) (F .level) row e
+module _ (m : Mark) (R : Ranged m) (row : List ℕ) (e : row ≡ rowOf (m .version) (m .level)) where
+  abbrev bs : List Shape
+  bs = shapes row
 
-    sound : Sound bs
-    unfolding shapesOf
-    sound = subst (λ (r : List ℕ). Sound (shapes r)) (sym e) (shapes-sound v (m .level) (F .low) (F .high) (F .level))
+  length-is : rowLength row ≡ totalOf (m .version)
+  length-is = row-total (m .version) (m .level) (R .low) (R .high) (R .level) row e
+
+  sound : Sound bs
+  unfolding shapesOf
+  sound = subst (λ (r : List ℕ). Sound (shapes r)) (sym e) (shapes-sound (m .version) (m .level) (R .low) (R .high) (R .level))
+
+  pub count-small : (r : Blocks) (n : ℕ) (st : List ℕ) → r ≡ Corrected n → (numberOf r ≡ 0 → correctionsOf r ≡ countOf (corrected bs st)) → n < 65536
+  unfolding numberOf correctionsOf
+  count-small r n st a c =
+      let k : n ≡ countOf (corrected bs st) = sym (ap correctionsOf a) ∙ c (ap numberOf a) in
+      omega (arith, count-le bs st, total-shapes row, row-small (m .version) (m .level) (R .low) (R .high) (R .level) row e)
+
+  module _ (st p s sq : List ℕ) (S : Streamed m sq st) where
+    abbrev stream : List ℕ
+    stream = streamFrom (m .version) (m .mask) sq
 
     size : length stream ≡ totalSize bs
-    size = stream-length v (m .mask) sq ∙ sym length-is ∙ sym (total-shapes row)
+    size = stream-length (m .version) (m .mask) sq ∙ sym length-is ∙ sym (total-shapes row)
 
-    pub count-small : (r : Blocks) (n : ℕ) (st : List ℕ) → r ≡ Corrected n → (numberOf r ≡ 0 → correctionsOf r ≡ countOf (corrected bs st)) → n < 65536
+    taken : take (rowLength row) st ≡ stream
+    taken = ap (take (rowLength row)) (S .is) ∙ take-at stream (S .rest) (rowLength row) (stream-length (m .version) (m .mask) sq ∙ sym length-is)
+
+    -- the reading by a row's blocks
+    abbrev reading : List Shape → Reading
+    reading cs =
+        cond (eqb (refusalOf (corrected cs stream)) 0)
+        (told (m .version) (m .level) (m .mask) (m .distance) (countOf (corrected cs stream)) (fromData (dataOf cs stream) p s))
+        (refused (refusalOf (corrected cs stream)) p s)
+
+    reading-is : reading bs ≡ bodyOf (m .version) (m .level) (m .mask) (m .distance) sq p s
+    unfolding bodyOf shapesOf
+    reading-is = ap (λ (r : List ℕ). reading (shapes r)) e
+
+    refused-is : (r : Blocks) (t : Told) → r ≡ Refused → numberOf r ≡ refusalOf (corrected bs (take (rowLength row) st)) → Refuses 6 t
+        → readingIn m t p s ≡ bodyOf (m .version) (m .level) (m .mask) (m .distance) sq p s
+    unfolding numberOf
+    refused-is r t a b R6 =
+        let six : refusalOf (corrected bs stream) ≡ 6 = ap (λ (x : List ℕ). refusalOf (corrected bs x)) (sym taken) ∙ sym b ∙ ap numberOf a in
+        refuses-reading m 6 t p s (λ z. omega arith) R6
+        ∙ sym (ap (λ (x : ℕ). cond (eqb x 0) (told (m .version) (m .level) (m .mask) (m .distance) (countOf (corrected bs stream)) (fromData (dataOf bs stream) p s)) (refused x p s)) six)
+        ∙ reading-is
+
+    told-is : (r : Blocks) (n : ℕ) (st′ rest′ : List ℕ) (t : Told) (p′ s′ : List ℕ) → r ≡ Corrected n
+        → numberOf r ≡ refusalOf (corrected bs (take (rowLength row) st))
+        → (numberOf r ≡ 0 → (correctionsOf r ≡ countOf (corrected bs (take (rowLength row) st))) × (st′ ≡ joined (blocksOf (corrected bs (take (rowLength row) st))) ++ rest′))
+        → Tells n (fromData (dataParts bs (cut bs st′)) p s) t p′ s′
+        → readingIn m t p′ s′ ≡ bodyOf (m .version) (m .level) (m .mask) (m .distance) sq p s
     unfolding numberOf correctionsOf
-    count-small r n st a c =
-        let k : n ≡ countOf (corrected bs st) = sym (ap correctionsOf a) ∙ c (ap numberOf a) in
-        omega (arith, count-le bs st, total-shapes row, row-small v (m .level) (F .low) (F .high) (F .level) row e)
+    told-is r n st′ rest′ t p′ s′ a b c W =
+        let zero : refusalOf (corrected bs stream) ≡ 0 = ap (λ (x : List ℕ). refusalOf (corrected bs x)) (sym taken) ∙ sym b ∙ ap numberOf a in
+        let k = c (ap numberOf a) in
+        let count : n ≡ countOf (corrected bs stream) = sym (ap correctionsOf a) ∙ k .0 ∙ ap (λ (x : List ℕ). countOf (corrected bs x)) taken in
+        let left : st′ ≡ joined (blocksOf (corrected bs stream)) ++ rest′ = k .1 ∙ ap (λ (x : List ℕ). joined (blocksOf (corrected bs x)) ++ rest′) taken in
+        let parts : dataParts bs (cut bs st′) ≡ dataOf bs stream = ap (λ (x : List ℕ). dataParts bs (cut bs x)) left ∙ data-left bs sound stream size rest′ in
+        tells-reading m n _ t p′ s′ W
+        ∙ (λ i. told (m .version) (m .level) (m .mask) (m .distance) (count i) (fromData (parts i) p s))
+        ∙ sym (ap (λ (x : ℕ). cond (eqb x 0) (told (m .version) (m .level) (m .mask) (m .distance) (countOf (corrected bs stream)) (fromData (dataOf bs stream) p s)) (refused x p s)) zero)
+        ∙ reading-is
 
-    -- ---- its blocks, corrected
+  pub blocks-refused : (st p s : List ℕ) (r : Blocks) (t : Told) → r ≡ Refused → numberOf r ≡ refusalOf (corrected bs (take (rowLength row) st)) → Refuses 6 t → Body m st p s t p s
+  blocks-refused st p s r t a b R6 = record { reading = λ sq S. refused-is st p s sq S r t a b R6; small = refuses-small 6 t (omega arith) R6 }
 
-    module _ (st rest p s : List ℕ) (f : st ≡ stream ++ rest) where
-      taken : take (rowLength row) st ≡ stream
-      taken = ap (take (rowLength row)) f ∙ take-at stream rest (rowLength row) (stream-length v (m .mask) sq ∙ sym length-is)
-
-      -- the reading by a row's blocks
-      abbrev reading : List Shape → Reading
-      reading cs =
-          cond (eqb (refusalOf (corrected cs stream)) 0)
-          (told v (m .level) (m .mask) (m .distance) (countOf (corrected cs stream)) (fromData (dataOf cs stream) p s))
-          (refused (refusalOf (corrected cs stream)) p s)
-
-      reading-is : reading bs ≡ bodyOf v (m .level) (m .mask) (m .distance) sq p s
-      unfolding bodyOf shapesOf
-      reading-is = ap (λ (r : List ℕ). reading (shapes r)) e
-
-      pub blocks-refused : (r : Blocks) (t : Told) → r ≡ Refused → numberOf r ≡ refusalOf (corrected bs (take (rowLength row) st)) → Refuses 6 t
-          → (readingIn m t p s ≡ bodyOf v (m .level) (m .mask) (m .distance) sq p s) × Small t
-      unfolding numberOf
-      blocks-refused r t a b R =
-          let six : refusalOf (corrected bs stream) ≡ 6 = ap (λ (x : List ℕ). refusalOf (corrected bs x)) (sym taken) ∙ sym b ∙ ap numberOf a in (
-            refuses-reading m 6 t p s (λ z. omega arith) R
-                ∙ sym (ap (λ (x : ℕ). cond (eqb x 0) (told v (m .level) (m .mask) (m .distance) (countOf (corrected bs stream)) (fromData (dataOf bs stream) p s)) (refused x p s)) six)
-                ∙ reading-is,
-            refuses-small 6 t (omega arith) R,
-          )
-
-      pub blocks-told : (r : Blocks) (n : ℕ) (st′ rest′ : List ℕ) (t : Told) (p′ s′ : List ℕ) → r ≡ Corrected n
-          → numberOf r ≡ refusalOf (corrected bs (take (rowLength row) st))
-          → (numberOf r ≡ 0 → (correctionsOf r ≡ countOf (corrected bs (take (rowLength row) st))) × (st′ ≡ joined (blocksOf (corrected bs (take (rowLength row) st))) ++ rest′))
-          → Tells n (fromData (dataParts bs (cut bs st′)) p s) t p′ s′
-          → (readingIn m t p′ s′ ≡ bodyOf v (m .level) (m .mask) (m .distance) sq p s) × Small t
-      unfolding numberOf correctionsOf
-      blocks-told r n st′ rest′ t p′ s′ a b c W =
-          let zero : refusalOf (corrected bs stream) ≡ 0 = ap (λ (x : List ℕ). refusalOf (corrected bs x)) (sym taken) ∙ sym b ∙ ap numberOf a in
-          let k = c (ap numberOf a) in
-          let count : n ≡ countOf (corrected bs stream) = sym (ap correctionsOf a) ∙ k .0 ∙ ap (λ (x : List ℕ). countOf (corrected bs x)) taken in
-          let left : st′ ≡ joined (blocksOf (corrected bs stream)) ++ rest′ = k .1 ∙ ap (λ (x : List ℕ). joined (blocksOf (corrected bs x)) ++ rest′) taken in
-          let parts : dataParts bs (cut bs st′) ≡ dataOf bs stream = ap (λ (x : List ℕ). dataParts bs (cut bs x)) left ∙ data-left bs sound stream size rest′ in (
-            tells-reading m n _ t p′ s′ W
-                ∙ (λ i. told v (m .level) (m .mask) (m .distance) (count i) (fromData (parts i) p s))
-                ∙ sym (ap (λ (x : ℕ). cond (eqb x 0) (told v (m .level) (m .mask) (m .distance) (countOf (corrected bs stream)) (fromData (dataOf bs stream) p s)) (refused x p s)) zero)
-                ∙ reading-is,
-            W .small,
-          )
+  pub blocks-told : (st p s : List ℕ) (r : Blocks) (n : ℕ) (st′ rest′ : List ℕ) (t : Told) (p′ s′ : List ℕ) → r ≡ Corrected n
+      → numberOf r ≡ refusalOf (corrected bs (take (rowLength row) st))
+      → (numberOf r ≡ 0 → (correctionsOf r ≡ countOf (corrected bs (take (rowLength row) st))) × (st′ ≡ joined (blocksOf (corrected bs (take (rowLength row) st))) ++ rest′))
+      → Tells n (fromData (dataParts bs (cut bs st′)) p s) t p′ s′
+      → Body m st p s t p′ s′
+  blocks-told st p s r n st′ rest′ t p′ s′ a b c W = record { reading = λ sq S. told-is st p s sq S r n st′ rest′ t p′ s′ a b c W; small = W .small }

@@ -2,7 +2,7 @@
 use mathlib.Core.Path.{_≡_}
 use mathlib.Core.Bool.{cond}
 use mathlib.Core.Logic.{_⊎_}
-use mathlib.Core.List.{List}
+use mathlib.Core.List.{List, _++_}
 use Prim.Native.Nat.{ℕ, _*_, _<_, _≤_}
 use lib.Dec.{eqb}
 use lib.ListN.{length, getD, take}
@@ -11,7 +11,7 @@ use Rattle.symbol.specs.Layout.{layoutOf}
 use Rattle.blocks.specs.Blocks.{hasBlocks}
 use Rattle.segments.specs.declared.Answer.{Answer}
 use Rattle.segments.specs.FromData.{Outcome, refusalOf, payloadLengthOf, scriptLengthOf}
-use Rattle.squares.specs.Read.{Reading, readingOf, refused, levelIn, maskIn, distanceIn, bodyOf}
+use Rattle.squares.specs.Read.{Reading, readingOf, refused, levelIn, maskIn, distanceIn, streamFrom, bodyOf}
 use Rattle.squares.specs.Receipt.{receiptOf, refusalReceipt}
 use Rattle.reader.specs.declared.Mark.{Mark}
 use Rattle.reader.specs.declared.Told.{Told}
@@ -69,6 +69,12 @@ pub record Fitting (m : Mark) (sq : List ℕ) : Type 0 where
   pub size : length sq ≡ sideOf (m .version) * sideOf (m .version)
   pub bits : (i : ℕ) → getD sq i 0 < 2
 
+-- a version and level of the table
+pub record Ranged (m : Mark) : Type 0 where
+  pub low : 1 ≤ m .version
+  pub high : m .version ≤ 84
+  pub level : m .level ≤ 3
+
 -- the nearest level and mask of a square of version v
 pub record Nearest (v : ℕ) (sq : List ℕ) (m : Mark) : Type 0 where
   pub version : m .version ≡ v
@@ -81,9 +87,19 @@ pub record Drawn (v : ℕ) (ks : List ℕ) : Type 0 where
   pub room : sideOf v * sideOf v ≤ length ks
   pub front : take (sideOf v * sideOf v) ks ≡ layoutOf v
 
+-- the stream of a square read with m at the front of a buffer
+pub record Streamed (m : Mark) (sq st : List ℕ) : Type 0 where
+  pub rest : List ℕ
+  pub is : st ≡ streamFrom (m .version) (m .mask) sq ++ rest
+
 -- what a square read with m gives, if t is told of it
 unfoldable pub readingIn : Mark → Told → List ℕ → List ℕ → Reading
 readingIn m t p s = readingOf (t .number) (receiptIn m t) p s
+
+-- t is told of a stream: it is what each square with this stream gives, p′ and s′ being payload and script afterwards
+pub record Body (m : Mark) (st p s : List ℕ) (t : Told) (p′ s′ : List ℕ) : Type 0 where
+  pub reading : (sq : List ℕ) → Streamed m sq st → readingIn m t p′ s′ ≡ bodyOf (m .version) (m .level) (m .mask) (m .distance) sq p s
+  pub small : Small t
 
 -- what the square gives, or 1 for a version and level without blocks
 unfoldable pub bodyOr1 : Mark → List ℕ → List ℕ → List ℕ → Reading

@@ -11,7 +11,7 @@ ghost use Rattle.segments.specs.FromData.{fromData};
 ghost use Rattle.codewords.specs.Codewords.{maskBit, streamIn, dataBits};
 ghost use Rattle.placement.specs.Walk.{Legible};
 ghost use Rattle.squares.specs.Read.{firstRefusal, unless, areModules, bodyOf, readingOf, readOf, readKnownOf};
-ghost use Rattle.reader.specs.Inner.{Greater, Greatest, receiptIn, Small, Refuses, Answers, Tells, Fitting, Nearest, Drawn, readingIn, bodyOr1, Roomy};
+ghost use Rattle.reader.specs.Inner.{Greater, Greatest, receiptIn, Small, Refuses, Answers, Tells, Fitting, Ranged, Nearest, Drawn, Streamed, Body, readingIn, bodyOr1, Roomy};
 ghost use Rattle.squares.specs.Receipt.{receiptOf, refusalReceipt};
 use blockwise::Blocks;
 use information::InfoBits;
@@ -69,22 +69,16 @@ fn square_refusal(square: &[u8], side: usize) -> usize
     0
 }
 
-// The stream of a square.
-fn read_stream(
-    stream: &mut [u8],
-    kinds: &[u8],
-    square: &[u8],
-    side: usize,
-    mask: usize,
-    total: usize,
-)
-    requires { ⌜ Legible (now kinds) (now square) × (0 < side) × (side ≤ 189) × (length (now square) ≡ side * side) ⌝ }
-    requires { ⌜ (total ≤ 3886) × (total ≤ length (now stream)) × (8 * total ≤ length (dataBits (maskBit side mask) 0 (now kinds) (now square))) ⌝ }
-    ensures { λ _. ⌜ now (stream .exit) ≡ streamIn total (maskBit side mask) (now (kinds .entry)) (now (square .entry)) ++ drop total (now (stream .entry)) ⌝ }
+// The stream of a square whose layout is drawn. The codewords are found in a lent buffer first.
+fn read_stream(stream: &mut [u8], found: &mut [u8], kinds: &[u8], square: &[u8], m: Mark)
+    requires { ⌜ Fitting m (now square) × Drawn (m .version) (now kinds) × (8 * totalOf (m .version) ≤ dataModules (layoutOf (m .version))) ⌝ }
+    requires { ⌜ (totalOf (m .version) ≤ length (now stream)) × (totalOf (m .version) ≤ length (now found)) ⌝ }
+    ensures { λ _. ⌜ Streamed m (now (square .entry)) (now (stream .exit)) ⌝ }
 {
-    let mut found = [0u8; 3886];
-    placement::read_codewords(&mut found, total, kinds, square, side, mask);
-    codewords::to_stream(stream, &found, total);
+    let side = Version { number: m.version }.side();
+    let total = blocks::total_codewords(m.version);
+    placement::read_codewords(found, total, kinds, square, side, m.mask);
+    codewords::to_stream(stream, found, total);
 }
 
 fn low(n: usize) -> u8
@@ -180,28 +174,56 @@ fn told_of(answer: Answer, count: usize) -> Told
     }
 }
 
-// Script and payload of the corrected blocks, of which `count` codewords were changed. Buffers that are not needed any more, the stream and
-// another, are what the segments are decoded into first.
+// Script and payload of the corrected blocks, of which `count` codewords were changed. The data are gathered in a lent buffer; the stream
+// and another, which are not needed any more, are what the segments are decoded into first.
 fn tell_segments(
     stream: &mut [u8],
+    data: &mut [u8],
     spare: &mut [u8],
     row: &[u8],
     count: usize,
     payload: &mut [u8],
     script: &mut [u8],
 ) -> Told
-    requires { ⌜ (length (now row) ≡ 9) × (rowLength (now row) ≤ length (now stream)) × (totalData (shapes (now row)) ≤ 3886) × (count < 65536) ⌝ }
+    requires { ⌜ (length (now row) ≡ 9) × (rowLength (now row) ≤ length (now stream)) × (totalData (shapes (now row)) ≤ length (now «data»)) × (totalData (shapes (now row)) ≤ 3886) × (count < 65536) ⌝ }
     ensures { λ r. ⌜ Tells count (fromData (dataParts (shapes (now (row .entry))) (cut (shapes (now (row .entry))) (now (stream .entry)))) (now (payload .entry)) (now (script .entry))) r (now (payload .exit)) (now (script .exit)) ⌝ }
 {
-    let mut data = [0u8; 3886];
-    let n = blockwise::gather_data(&mut data, stream, row);
+    let n = blockwise::gather_data(data, stream, row);
     told_of(
         segments::from_data_with(&data[..n], payload, script, spare, stream),
         count,
     )
 }
 
-// The stream of a square corrected, and its segments.
+// A stream corrected, and its segments. What is told holds of every square with this stream.
+fn tell_stream(
+    stream: &mut [u8],
+    data: &mut [u8],
+    spare: &mut [u8],
+    m: Mark,
+    payload: &mut [u8],
+    script: &mut [u8],
+) -> Told
+    requires { ⌜ Ranged m × (totalOf (m .version) ≤ length (now stream)) × (totalOf (m .version) ≤ length (now «data»)) ⌝ }
+    ensures { λ r. ⌜ Body m (now (stream .entry)) (now (payload .entry)) (now (script .entry)) r (now (payload .exit)) (now (script .exit)) ⌝ }
+{
+    let field = field::han_xin();
+    let row = blocks::block_row(m.version, m.level);
+    match blockwise::correct_blocks(&field, stream, &row) {
+        Blocks::Corrected(count) => tell_segments(
+            stream,
+            data,
+            spare,
+            &row,
+            count,
+            payload,
+            script,
+        ),
+        Blocks::Refused => refused(6),
+    }
+}
+
+// What is told of a square whose layout is drawn.
 fn tell_blocks(
     kinds: &mut [u8],
     square: &[u8],
@@ -213,15 +235,9 @@ fn tell_blocks(
     ensures { λ r. ⌜ (readingIn m r (now (payload .exit)) (now (script .exit)) ≡ bodyOf (m .version) (m .level) (m .mask) (m .distance) (now (square .entry)) (now (payload .entry)) (now (script .entry))) × Small r ⌝ }
 {
     let mut stream = [0u8; 3886];
-    let side = Version { number: m.version }.side();
-    let total = blocks::total_codewords(m.version);
-    read_stream(&mut stream, kinds, square, side, m.mask, total);
-    let field = field::han_xin();
-    let row = blocks::block_row(m.version, m.level);
-    match blockwise::correct_blocks(&field, &mut stream, &row) {
-        Blocks::Corrected(count) => tell_segments(&mut stream, kinds, &row, count, payload, script),
-        Blocks::Refused => refused(6),
-    }
+    let mut found = [0u8; 3886];
+    read_stream(&mut stream, &mut found, kinds, square, m);
+    tell_stream(&mut stream, &mut found, kinds, m, payload, script)
 }
 
 // The same, or 1 for a version with too few data modules: the rows of the table hold their rule.

@@ -11,19 +11,16 @@ use borrow.Author.Needs.{needs}
 use Rattle.reader.proofs.tell_segments.Statement.{statement}
 use Rattle.reader.proofs.tell_segments.Tie as tie
 
-slice-aggregate-gather-data : tie.Need-slice-aggregate-gather-data
-slice-aggregate-gather-data c = search needs
-
 gather-data-requires : tie.Need-gather-data-requires
 gather-data-requires c κs = search needs
 
-array-share-prefix-data : tie.Need-array-share-prefix-data
-array-share-prefix-data c = search needs
+slice-reshare-prefix-from-data-with : tie.Need-slice-reshare-prefix-from-data-with
+slice-reshare-prefix-from-data-with c = search needs
 
 slice-aggregate-from-data-with : tie.Need-slice-aggregate-from-data-with
 slice-aggregate-from-data-with c =
-    let g = c .before .before .gather-data in
-    sym (length-take-le (g .result) (g .last .0) (omega (arith, g .ensures .0, c .before .before .before .before .before .before .before .before .before .before .pre)))
+    let g = c .before .before .before .gather-data in
+    sym (length-take-le (g .result) (g .last .0) (omega (arith, g .ensures .0, c .before .before .before .before .before .before .before .before .before .before .before .before .pre)))
 
 from-data-with-requires : tie.Need-from-data-with-requires
 from-data-with-requires c κs = search needs
@@ -37,32 +34,31 @@ same-length c = search needs
 same-length-2 : tie.Need-same-length-2
 same-length-2 c = search needs
 
-returns : tie.Need-returns
-returns c =
-    let before = c .before .before .before .before .before .before .before .before .before .before .before .before .before .before .before .before .before .before .before .before .before .before .before .before in
-    let gather-data = c .before .before .before .before .before .before .before .before .before .before .before .before .before .before .before .before .gather-data in
-    let from-data = c .before .before .before .before .before .before .before .before .before .from-data-with in
-    let q = from-data in
-    let g = gather-data in
-    let a = before in
-    let d = dataParts (shapes (a .args .row .now)) (cut (shapes (a .args .row .now)) (a .args .stream .now)) in
-    let f = gathered (g .result) d (g .last .0) (g .ensures .1) (omega (arith, g .ensures .0, a .pre .2)) (omega arith) in
-    tells (a .args .count) (q .result) _ d (a .args .payload .now) (a .args .script .now) _ _ (g .result) (a .pre .3) (f .0) (omega (arith, g .ensures .0, a .pre .2)) (c .told-of .ensures)
-    (q .ensures ∙ ap (λ (x : List ℕ). fromData x (a .args .payload .now) (a .args .script .now)) (f .1))
-
 same-length-3 : tie.Need-same-length-3
 same-length-3 c = search needs
 
 same-length-4 : tie.Need-same-length-4
 same-length-4 c = search needs
 
+same-length-5 : tie.Need-same-length-5
+same-length-5 c = search needs
+
+returns : tie.Need-returns
+returns c =
+    let a = c .before .before .before .before .before .before .before .before .before .before .before .before .before .before .before .before .before .before .before .before .before .before .before .before .before .before in
+    let g = c .before .before .before .before .before .before .before .before .before .before .before .before .before .before .before .before .before .gather-data in
+    let q = c .before .before .before .before .before .before .before .before .before .from-data-with in
+    let d = dataParts (shapes (a .args .row .now)) (cut (shapes (a .args .row .now)) (a .args .stream .now)) in
+    let f = gathered (g .result) d (a .args .«data» .now) (g .last .0) (g .ensures .1) (omega (arith, g .ensures .0, a .pre .2)) (omega arith) in
+    tells (a .args .count) (q .result) _ d (a .args .payload .now) (a .args .script .now) _ _ (g .result) (a .pre .4) (f .0) (omega (arith, g .ensures .0, a .pre .3)) (c .told-of .ensures)
+    (q .ensures ∙ ap (λ (x : List ℕ). fromData x (a .args .payload .now) (a .args .script .now)) (f .1))
+
 pub tell-segments-spec : {M : Type 1} → statement M
 tell-segments-spec =
     tie.close
     (tie.spec
-    slice-aggregate-gather-data
     gather-data-requires
-    array-share-prefix-data
+    slice-reshare-prefix-from-data-with
     slice-aggregate-from-data-with
     from-data-with-requires
     told-of-requires
@@ -70,4 +66,5 @@ tell-segments-spec =
     same-length-2
     same-length-3
     same-length-4
+    same-length-5
     returns)
