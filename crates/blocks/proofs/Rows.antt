@@ -60,6 +60,15 @@ pub total-small : (v : ℕ) → 1 ≤ v → v ≤ 84 → totalOf v ≤ 3886
 unfolding totalOf
 total-small v lo hi = leb→le _ _ (every (λ n. leb (getD totals n 0) 3886) 84 totals-small (v - 1) (omega arith))
 
+-- those of the versions without alignment patterns still more so
+totals-open : T (upTo (λ n. leb (getD totals n 0) 50) 3)
+unfolding totals
+totals-open = tt
+
+pub total-open : (v : ℕ) → 1 ≤ v → v < 4 → totalOf v ≤ 50
+unfolding totalOf
+total-open v lo hi = leb→le _ _ (every (λ n. leb (getD totals n 0) 50) 3 totals-open (v - 1) (omega arith))
+
 -- a number of a row, in the table
 row-number : (v level n : ℕ) → n < 9 → getD blocks ((4 * (v - 1) + level) * 9 + n) 0 ≡ getD (rowOf v level) n 0
 unfolding rowOf rowAt

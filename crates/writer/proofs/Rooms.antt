@@ -6,20 +6,25 @@ use native.Mathlib.Omega.{arith}
 use lib.ListN.{length, take}
 use lib.Seq.{length-take-le}
 use Rattle.symbol.specs.Version.{sideOf}
-use Rattle.blocks.specs.Blocks.{rowOf, shapes, shapesOf, totalData}
+use Rattle.blocks.specs.Blocks.{totalOf, rowOf, shapes, shapesOf, totalData}
 use Rattle.encoding.specs.Fits.{Fits}
 use Rattle.squares.specs.Write.{roomOf, writeRefusal}
 use Rattle.squares.proofs.Marks.{no-refusal}
-use Rattle.squares.proofs.Starts.{row-data}
+use Rattle.blocks.proofs.Rows.{total-shapes}
+use Rattle.squares.proofs.Demand.{data-le}
+use Rattle.squares.proofs.Starts.{row-total, row-data}
 use Rattle.writer.specs.declared.Mark.{Mark}
 use Rattle.writer.specs.Inner.{Ranged}
 
--- r is the row of the mark's version and level: it has their data codewords, no more than a buffer has bytes
+-- r is the row of the mark's version and level: it has their data codewords, no more than a buffer has bytes and no more than codewords
 pub room-is : {m : Mark} (R : Ranged m) (r : List ℕ) → r ≡ rowOf (m .version) (m .level) → (n : ℕ) → n ≡ totalData (shapes r)
-    → (n ≡ roomOf (m .version) (m .level)) × (n ≤ 3886)
+    → (n ≡ roomOf (m .version) (m .level)) × (n ≤ 3886) × (n ≤ totalOf (m .version))
 unfolding shapesOf
-room-is {m} R r is n e =
-    (e ∙ ap (λ (x : List ℕ). totalData (shapes x)) is, omega (arith, row-data (m .version) (m .level) (R .low) (R .high) (R .level) r is))
+room-is {m} R r is n e = (
+  e ∙ ap (λ (x : List ℕ). totalData (shapes x)) is,
+  omega (arith, row-data (m .version) (m .level) (R .low) (R .high) (R .level) r is),
+  omega (arith, data-le (shapes r), total-shapes r, row-total (m .version) (m .level) (R .low) (R .high) (R .level) r is),
+)
 
 -- script and payload that fit, where the first n bytes of a buffer are lent for the data codewords
 pub fits-lent : (s p xs : List ℕ) (n room : ℕ) → n ≡ room → n ≤ length xs → Fits s p room → Fits s p (length (take n xs))

@@ -78,40 +78,62 @@ fn encode_stream(stream: &mut [u8], data: &mut [u8], row: &[u8], script: &[u8], 
     blockwise::write_blocks(&field, stream, data, row);
 }
 
-// The same for the row of a version and level.
-fn write_stream(stream: &mut [u8], m: Mark, script: &[u8], payload: &[u8])
-    requires { ⌜ Ranged m × (3886 ≤ length (now stream)) ⌝ }
+// The same for the row of a version and level. The data codewords are made in a lent buffer.
+fn write_stream(stream: &mut [u8], data: &mut [u8], m: Mark, script: &[u8], payload: &[u8])
+    requires { ⌜ Ranged m × (totalOf (m .version) ≤ length (now stream)) × (totalOf (m .version) ≤ length (now «data»)) ⌝ }
     requires { ⌜ Fits (now script) (now payload) (roomOf (m .version) (m .level)) ⌝ }
     ensures { λ _. ⌜ take (totalOf (m .version)) (now (stream .exit)) ≡ streamOf (shapesOf (m .version) (m .level)) (encoded (roomOf (m .version) (m .level)) (commandsOf (now (script .entry)) (now (payload .entry)))) ⌝ }
 {
     let row = blocks::block_row(m.version, m.level);
     let room = blockwise::data_length(&row);
-    let mut data = [0u8; 3886];
     encode_stream(stream, &mut data[..room], &row, script, payload);
 }
 
-// A stream in the data modules of a square; the information modules are light.
-fn place_stream(square: &mut [u8], kinds: &[u8], m: Mark, stream: &[u8])
-    requires { ⌜ Ready m (now kinds) × (length (now square) ≡ sideOf (m .version) * sideOf (m .version)) × (3886 ≤ length (now stream)) ⌝ }
+// A stream in the data modules of a square; the information modules are light. The codewords are put in order in a lent buffer.
+fn place_stream(square: &mut [u8], kinds: &[u8], m: Mark, stream: &[u8], found: &mut [u8])
+    requires { ⌜ Ready m (now kinds) × (length (now square) ≡ sideOf (m .version) * sideOf (m .version)) × (totalOf (m .version) ≤ length (now stream)) × (totalOf (m .version) ≤ length (now found)) ⌝ }
     ensures { λ _. ⌜ now (square .exit) ≡ squareOf (maskBit (sideOf (m .version)) (m .mask)) (layoutOf (m .version)) (take (totalOf (m .version)) (now (stream .entry))) ⌝ }
 {
     let total = blocks::total_codewords(m.version);
     let side = Version { number: m.version }.side();
-    let mut found = [0u8; 3886];
-    codewords::from_stream(&mut found, stream, total);
-    placement::place_codewords(square, kinds, &found, total, side, m.mask);
+    codewords::from_stream(found, stream, total);
+    placement::place_codewords(square, kinds, found, total, side, m.mask);
 }
 
-// The mark, in all modules of a square.
+// The mark, in all modules of a square. Two buffers are lent for its codewords.
+fn write_mark_in(
+    square: &mut [u8],
+    kinds: &[u8],
+    m: Mark,
+    script: &[u8],
+    payload: &[u8],
+    stream: &mut [u8],
+    spare: &mut [u8],
+)
+    requires { ⌜ Ready m (now kinds) × (writeRefusal (m .version) (m .level) (m .mask) (now script) (now payload) (now square) ≡ 0) ⌝ }
+    requires { ⌜ (totalOf (m .version) ≤ length (now stream)) × (totalOf (m .version) ≤ length (now spare)) ⌝ }
+    ensures { λ _. ⌜ now (square .exit) ≡ markOf (m .version) (m .level) (m .mask) (now (script .entry)) (now (payload .entry)) ⌝ }
+{
+    let side = Version { number: m.version }.side();
+    write_stream(stream, spare, m, script, payload);
+    place_stream(square, kinds, m, stream, spare);
+    information::write_info(square, side, m.word);
+}
+
+// The same. A small mark has small buffers, which are sooner cleared.
 fn write_mark(square: &mut [u8], kinds: &[u8], m: Mark, script: &[u8], payload: &[u8])
     requires { ⌜ Ready m (now kinds) × (writeRefusal (m .version) (m .level) (m .mask) (now script) (now payload) (now square) ≡ 0) ⌝ }
     ensures { λ _. ⌜ now (square .exit) ≡ markOf (m .version) (m .level) (m .mask) (now (script .entry)) (now (payload .entry)) ⌝ }
 {
-    let side = Version { number: m.version }.side();
+    if m.version < 4 {
+        let mut stream = [0u8; 50];
+        let mut spare = [0u8; 50];
+        write_mark_in(square, kinds, m, script, payload, &mut stream, &mut spare);
+        return;
+    }
     let mut stream = [0u8; 3886];
-    write_stream(&mut stream, m, script, payload);
-    place_stream(square, kinds, m, &stream);
-    information::write_info(square, side, m.word);
+    let mut spare = [0u8; 3886];
+    write_mark_in(square, kinds, m, script, payload, &mut stream, &mut spare);
 }
 
 // The mark and 0, or the first refusal behind that of version, level and mask.

@@ -1,62 +1,57 @@
--- `write_mark` meets its contract: the stream, its square, and the word in it. Assumes nothing.
-use mathlib.Core.Path.{ap}
-use Prim.Native.Nat.{ℕ, _*_}
+-- `write_mark` meets its contract. Assumes nothing.
 use native.Mathlib.Omega.{arith}
-use Rattle.writer.proofs.Rooms.{fits, size}
-use Rattle.writer.proofs.Fronts.{mark-made}
+use Rattle.blocks.proofs.Rows.{total-small, total-open}
 use borrow.Author.Needs.{needs}
 use Rattle.writer.proofs.write_mark.Statement.{statement}
 use Rattle.writer.proofs.write_mark.Tie as tie
 
-side-requires : tie.Need-side-requires
-side-requires c κs = search needs
+slice-aggregate-write-mark-in : tie.Need-slice-aggregate-write-mark-in
+slice-aggregate-write-mark-in c = search needs
 
-slice-aggregate-write-stream : tie.Need-slice-aggregate-write-stream
-slice-aggregate-write-stream c = search needs
+slice-aggregate-write-mark-in-2 : tie.Need-slice-aggregate-write-mark-in-2
+slice-aggregate-write-mark-in-2 c = search needs
 
-write-stream-requires : tie.Need-write-stream-requires
-write-stream-requires c κs =
-    let o = c .before .before .before .before .before .before in
-    ((o .pre .0 .ranged, omega arith), fits _ _ _ (o .args .script .now) (o .args .payload .now) (o .args .square .now) (o .pre .1))
-
-slice-aggregate-place-stream : tie.Need-slice-aggregate-place-stream
-slice-aggregate-place-stream c = search needs
-
-place-stream-requires : tie.Need-place-stream-requires
-place-stream-requires c κs =
-    let before = c .before .before .before .before .before .before .before .before .before .before in
-    let o = before in
-    (o .pre .0, size _ _ _ (o .args .script .now) (o .args .payload .now) (o .args .square .now) (o .pre .1), omega (arith, c .before .before .before .write-stream .kept))
-
-write-info-requires : tie.Need-write-info-requires
-write-info-requires c κs =
-    let before = c .before .before .before .before .before .before .before .before .before .before .before .before .before .before in
-    let side = c .before .before .before .before .before .before .before .before .before .side in
-    let o = before in
-    let e = side .ensures in
-    (omega (arith, e), omega (arith, e, o .pre .0 .ranged .high), omega (arith, c .before .before .before .place-stream .kept, ap (λ (n : ℕ). n * n) e, size _ _ _ (o .args .script .now) (o .args .payload .now) (o .args .square .now) (o .pre .1)))
+write-mark-in-requires : tie.Need-write-mark-in-requires
+write-mark-in-requires c κs =
+    let o = c .before .before .before .before .before .before .before .before .before .pre in
+    let t = total-open _ (o .0 .ranged .low) (c .before .before .before .if1 .taken) in
+    (o, (omega (arith, t), omega (arith, t)))
 
 same-length : tie.Need-same-length
 same-length c = search needs
 
 returns : tie.Need-returns
-returns c =
-    let before = c .before .before .before .before .before .before .before .before .before .before .before .before .before .before .before .before .before in
-    let side = c .before .before .before .before .before .before .before .before .before .before .before .before .side in
-    let write-stream = c .before .before .before .before .before .before .before .before .before .before .write-stream in
-    let place-stream = c .before .before .before .before .before .before .place-stream in
-    let o = before in
-    mark-made _ (o .args .script .now) (o .args .payload .now) _ _ _ _ (o .pre .0 .ranged) (side .ensures) (write-stream .ensures) (place-stream .ensures) (c .before .before .write-info .ensures)
+returns c = search needs
+
+slice-aggregate-write-mark-in-3 : tie.Need-slice-aggregate-write-mark-in-3
+slice-aggregate-write-mark-in-3 c = search needs
+
+slice-aggregate-write-mark-in-4 : tie.Need-slice-aggregate-write-mark-in-4
+slice-aggregate-write-mark-in-4 c = search needs
+
+write-mark-in-requires-2 : tie.Need-write-mark-in-requires-2
+write-mark-in-requires-2 c κs =
+    let o = c .before .before .before .before .before .before .before .before .before .pre in
+    let t = total-small _ (o .0 .ranged .low) (o .0 .ranged .high) in
+    (o, (omega (arith, t), omega (arith, t)))
+
+same-length-2 : tie.Need-same-length-2
+same-length-2 c = search needs
+
+returns-2 : tie.Need-returns-2
+returns-2 c = search needs
 
 pub write-mark-spec : {M : Type 1} → statement M
 write-mark-spec =
     tie.close
     (tie.spec
-    side-requires
-    slice-aggregate-write-stream
-    write-stream-requires
-    slice-aggregate-place-stream
-    place-stream-requires
-    write-info-requires
+    slice-aggregate-write-mark-in
+    slice-aggregate-write-mark-in-2
+    write-mark-in-requires
     same-length
-    returns)
+    returns
+    slice-aggregate-write-mark-in-3
+    slice-aggregate-write-mark-in-4
+    write-mark-in-requires-2
+    same-length-2
+    returns-2)
