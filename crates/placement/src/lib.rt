@@ -185,7 +185,7 @@ fn read_rows(out: &mut [u8], kinds: &[u8], square: &[u8], side: usize, mask: usi
     };
     let mut i = 0;
     while i < side {
-        masks::mask_row(&mut row, &table, columns, mask, i);
+        masks::mask_row(&mut row, &table, mask, i, 0, columns);
         let at = i * side;
         let end = at + side;
         let first = Run {
@@ -268,8 +268,9 @@ fn read_open_rows(out: &mut [u8], square: &[u8], version: usize, mask: usize)
     };
     let mut i = 0;
     while i < side {
-        masks::mask_row(&mut row, &table, columns, mask, i);
         let m = margin(side, i);
+        let to = side - m;
+        masks::mask_row(&mut row, &table, mask, i, m / 8 * 8, (to + 7) / 8 * 8);
         let at = i * side;
         let end = at + side;
         let first = Run {
@@ -278,7 +279,7 @@ fn read_open_rows(out: &mut [u8], square: &[u8], version: usize, mask: usize)
             value: r.value,
             bits: r.bits,
         };
-        r = read_span(out, &square[at..end], &row, side - m, first);
+        r = read_span(out, &square[at..end], &row, to, first);
         i += 1;
     }
 }
@@ -449,7 +450,7 @@ fn place_rows(square: &mut [u8], kinds: &[u8], codewords: &[u8], side: usize, ma
     let mut bit = 0;
     let mut i = 0;
     while i < side {
-        masks::mask_row(&mut row, &table, columns, mask, i);
+        masks::mask_row(&mut row, &table, mask, i, 0, columns);
         let at = i * side;
         let end = at + side;
         bit = put_row(&mut square[at..end], &kinds[at..end], &row, codewords, bit);
