@@ -14,6 +14,9 @@ use Rattle.masks.specs.Columns.{inverse, rest, Column, Columns, Row}
 pub columns-start : {mask : ℕ} {table : List ℕ} → length table ≡ 576 → Columns mask 0 table
 columns-start e = record { size = e; column = λ p c h. absurd (omega arith) }
 
+pub columns-fewer : {mask n m : ℕ} {table : List ℕ} → m ≤ n → Columns mask n table → Columns mask m table
+columns-fewer h u = record { size = u .size; column = λ p c l. u .column p c (omega arith) }
+
 pub columns-none : {mask n : ℕ} {table : List ℕ} → mask ≡ 0 → length table ≡ 576 → Columns mask n table
 columns-none z e = record { size = e; column = λ p c h. absurd (omega arith) }
 
@@ -78,16 +81,16 @@ inverts-two mask i c a b m e f = thirds a b ∙ ap₂ (λ (x y : ℕ). 1 - ((x +
     thirds : (x y : ℕ) → (1 + x + y / 3 + (x + y) / 3) % 2 ≡ 1 - ((x + y) % 3 + y % 3) % 2
     thirds x y = omega arith
 
--- a row filled from the left
-pub record Filling (mask i n : ℕ) (row : List ℕ) : Type 0 where
+-- a row filled from a column on
+pub record Filling (mask i from n : ℕ) (row : List ℕ) : Type 0 where
   pub row-is : Row mask row
-  pub done : (c : ℕ) → c < n → getD row c 0 ≡ maskAt mask (i + 1) (c + 1)
+  pub done : (c : ℕ) → from ≤ c → c < n → getD row c 0 ≡ maskAt mask (i + 1) (c + 1)
 
-pub filling-start : {mask i : ℕ} {row : List ℕ} → Row mask row → Filling mask i 0 row
-filling-start r = record { row-is = r; done = λ c h. absurd (omega arith) }
+pub filling-start : {mask i from : ℕ} {row : List ℕ} → Row mask row → Filling mask i from from row
+filling-start r = record { row-is = r; done = λ c a h. absurd (omega arith) }
 
-pub filling-next : {mask i n : ℕ} {row : List ℕ} (x : ℕ) → Filling mask i n row → 0 < mask → n < 192 → x ≡ maskAt mask (i + 1) (n + 1) → x < 2 → Filling mask i (n + 1) (set row n x)
-filling-next {mask} {i} {n} {row} x u p h e l =
+pub filling-next : {mask i from n : ℕ} {row : List ℕ} (x : ℕ) → Filling mask i from n row → 0 < mask → n < 192 → x ≡ maskAt mask (i + 1) (n + 1) → x < 2 → Filling mask i from (n + 1) (set row n x)
+filling-next {mask} {i} {from} {n} {row} x u p h e l =
     let same : getD (set row n x) n 0 ≡ x = getD-set-same row n x 0 (omega (arith, u .row-is .size)) in
     record {
       row-is = record {
@@ -98,9 +101,9 @@ filling-next {mask} {i} {n} {row} x u p h e l =
         ];
         none = λ z. absurd (omega arith);
       };
-      done = λ c k. elim (ℕ-discrete c n) [
+      done = λ c a k. elim (ℕ-discrete c n) [
         | yes z ↦ ap (λ (j : ℕ). getD (set row n x) j 0) z ∙ same ∙ e ∙ sym (ap (λ (j : ℕ). maskAt mask (i + 1) (j + 1)) z)
-        | no z ↦ getD-set-other row n c x 0 z ∙ u .done c (omega arith)
+        | no z ↦ getD-set-other row n c x 0 z ∙ u .done c a (omega arith)
       ];
     }
 
@@ -111,5 +114,5 @@ row-new = record { size = length-replicate {A = ℕ} 192 0; small = λ k. omega 
     zero-at k = elim (decLt k 192) [ yes l ↦ getD-replicate 192 k 0 0 l | no l ↦ List·getD-eq-default (replicate 192 0) 0 {n = k} (omega (arith, length-replicate {A = ℕ} 192 0)) ]
 
 -- mask 0
-pub row-none : {mask n : ℕ} {row : List ℕ} (i : ℕ) → Row mask row → mask ≡ 0 → (c : ℕ) → c < n → getD row c 0 ≡ maskAt mask (i + 1) (c + 1)
-row-none {mask} i r z c h = r .none z c ∙ mask-zero mask (i + 1) (c + 1) z
+pub row-none : {mask : ℕ} {row : List ℕ} (i : ℕ) → Row mask row → mask ≡ 0 → (c : ℕ) → getD row c 0 ≡ maskAt mask (i + 1) (c + 1)
+row-none {mask} i r z c = r .none z c ∙ mask-zero mask (i + 1) (c + 1) z

@@ -84,16 +84,17 @@ fn inverts(table: &[u16], mask: usize, i: usize, c: usize) -> u8
     inverts_three(table, i, c)
 }
 
-// The mask of row i in the first n columns. A row of mask 0 is zero from the start and stays so.
-pub fn mask_row(row: &mut [u8], table: &[u16], n: usize, mask: usize, i: usize)
-    requires { ⌜ (n ≤ 192) × (i < n) × Columns mask n (now table) × Row mask (now row) ⌝ }
-    ensures { λ _. ⌜ Row mask (now (row .exit)) × ((c : ℕ) → c < n → getD (now (row .exit)) c 0 ≡ maskAt mask (i + 1) (c + 1)) ⌝ }
+// The mask of row i from one column on and before another; what the other columns hold is not said. A row of mask 0 is zero from the start
+// and stays so.
+pub fn mask_row(row: &mut [u8], table: &[u16], mask: usize, i: usize, from: usize, to: usize)
+    requires { ⌜ (i < 192) × (to ≤ 192) × Columns mask (i + 1) (now table) × Columns mask to (now table) × Row mask (now row) ⌝ }
+    ensures { λ _. ⌜ Row mask (now (row .exit)) × ((c : ℕ) → from ≤ c → c < to → getD (now (row .exit)) c 0 ≡ maskAt mask (i + 1) (c + 1)) ⌝ }
 {
     if mask == 0 {
         return;
     }
-    let mut c = 0;
-    while c < n {
+    let mut c = from;
+    while c < to {
         row[c] = inverts(table, mask, i, c);
         c += 1;
     }

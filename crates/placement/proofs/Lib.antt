@@ -3,3 +3,4 @@ pub mod Walk
 pub mod Rows
 pub mod Puts
 pub mod Squares
+pub mod Open

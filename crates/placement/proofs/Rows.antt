@@ -7,14 +7,14 @@ use native.Mathlib.Omega.{arith}
 use lib.Arith.{digits-div, digits-mod}
 use lib.ListN.{length, getD, take, drop, length-append, length-drop, take-append-drop, drop-of-length-le}
 use lib.Pow.{pow-pos}
-use lib.Seq.{length-take-le, take-all, drop-drop, getD-drop}
+use lib.Seq.{length-take-le, take-all, drop-drop, getD-drop, getD-take}
 use lib.Bits.{bitXor}
 use Rattle.bits.specs.Bits.{lowBits, firstWords}
 use Rattle.bits.proofs.Words.{length-low}
 use Rattle.bits.proofs.Bytes.{take-small}
 use Rattle.codewords.specs.Codewords.{maskAt, maskBit, codewordsOf, dataBits}
 use Rattle.masks.specs.Columns.{Row}
-use Rattle.placement.specs.Walk.{bitsFrom, Legible, Pending, Words, Walk, Aligned, rowBits, Goes}
+use Rattle.placement.specs.Walk.{bitsFrom, Legible, Pending, Words, Walk, Masked, Aligned, rowBits, Goes}
 use Rattle.placement.specs.declared.Run.{Run}
 
 -- Parts of a list.
@@ -31,6 +31,9 @@ part-front at end l h =
 pub part-length : (at side : ℕ) (l : List ℕ) → at + side ≤ length l → length (part at (at + side) l) ≡ side
 part-length at side l h = length-take-le (at + side - at) (drop at l) (omega (arith, length-drop at l)) ∙ omega arith
 
+pub part-at : (at side k : ℕ) (l : List ℕ) → k < side → getD (part at (at + side) l) k 0 ≡ getD l (at + k) 0
+part-at at side k l h = getD-take (at + side - at) (drop at l) k 0 (omega arith) ∙ getD-drop at l k 0
+
 part-small : (at end : ℕ) (l : List ℕ) → ((k : ℕ) → getD l k 0 < 2) → (k : ℕ) → getD (part at end l) k 0 < 2
 part-small at end l h = take-small (end - at) (drop at l) (λ k. subst (λ (x : ℕ). x < 2) (sym (getD-drop at l k 0)) (h (at + k)))
 
@@ -46,11 +49,14 @@ pub row-mask : (mask i s c : ℕ) → c < s → maskAt mask (i + 1) (c + 1) ≡ 
 unfolding maskBit
 row-mask mask i s c h = sym (ap₂ (λ (x y : ℕ). maskAt mask (x + 1) (y + 1)) (digits-div i h) (digits-mod i h))
 
+pub masked : {mask : ℕ} {row : List ℕ} (sq : List ℕ) (at side : ℕ) → ((k : ℕ) → getD sq k 0 < 2) → Row mask row → side ≤ 189 → at + side ≤ length sq → Masked (part at (at + side) sq) row
+masked {mask} {row} sq at side g r s h = record { side = omega (arith, part-length at side sq h); room = r .size; modules = part-small at (at + side) sq g; masks = r .small }
+
 pub aligned : {mask : ℕ} {ks sq row : List ℕ} (at side : ℕ) → Legible ks sq → Row mask row → side ≤ 189 → at + side ≤ length sq → Aligned (part at (at + side) ks) (part at (at + side) sq) row
 aligned {mask} {ks} {sq} {row} at side g r s h =
     let k : length (part at (at + side) ks) ≡ side = part-length at side ks (omega (arith, g .kinds)) in
     let l : length (part at (at + side) sq) ≡ side = part-length at side sq h in
-    record { side = omega arith; size = l ∙ sym k; room = r .size; modules = part-small at (at + side) sq (g .bits); masks = r .small }
+    record { masked = masked sq at side (g .bits) r s h; size = l ∙ sym k }
 
 -- The data bits of a square are those of its rows.
 
@@ -66,25 +72,28 @@ data-append m i (suc u ∷ us) vs (x ∷ xs) ys e =
     let f : suc i + length us ≡ i + suc (length us) = omega arith in
     data-append m (suc i) us vs xs ys (omega arith) ∙ ap (λ (j : ℕ). dataBits m (suc i) us xs ++ dataBits m j vs ys) f
 
--- masks that are the same from two places on
-pub agree-first : (m n : ℕ → ℕ) (i j l : ℕ) → ((k : ℕ) → k < suc l → m (i + k) ≡ n (j + k)) → m i ≡ n j
-agree-first m n i j l h =
+-- masks that are the same at the data modules from two places on
+abbrev pub Agree : List ℕ → (ℕ → ℕ) → (ℕ → ℕ) → ℕ → ℕ → Type 0
+Agree us m n i j = (k : ℕ) → k < length us → getD us k 0 ≡ 0 → m (i + k) ≡ n (j + k)
+
+pub agree-first : (m n : ℕ → ℕ) (i j : ℕ) (us : List ℕ) → Agree (0 ∷ us) m n i j → m i ≡ n j
+agree-first m n i j us h =
     let a : i ≡ i + 0 = omega arith in
-    let b : j + 0 ≡ j = omega arith in ap m a ∙ h 0 (omega arith) ∙ ap n b
+    let b : j + 0 ≡ j = omega arith in ap m a ∙ h 0 (omega arith) refl ∙ ap n b
 
-pub agree-later : (m n : ℕ → ℕ) (i j l : ℕ) → ((k : ℕ) → k < suc l → m (i + k) ≡ n (j + k)) → (k : ℕ) → k < l → m (suc i + k) ≡ n (suc j + k)
-agree-later m n i j l h k q =
+pub agree-later : (m n : ℕ → ℕ) (i j u : ℕ) (us : List ℕ) → Agree (u ∷ us) m n i j → Agree us m n (suc i) (suc j)
+agree-later m n i j u us h k q z =
     let a : suc i + k ≡ i + suc k = omega arith in
-    let b : j + suc k ≡ suc j + k = omega arith in ap m a ∙ h (suc k) (omega arith) ∙ ap n b
+    let b : j + suc k ≡ suc j + k = omega arith in ap m a ∙ h (suc k) (omega arith) z ∙ ap n b
 
-data-masks : (m n : ℕ → ℕ) (i j : ℕ) (us xs : List ℕ) → ((k : ℕ) → k < length us → m (i + k) ≡ n (j + k)) → dataBits m i us xs ≡ dataBits n j us xs
+data-masks : (m n : ℕ → ℕ) (i j : ℕ) (us xs : List ℕ) → Agree us m n i j → dataBits m i us xs ≡ dataBits n j us xs
 unfolding dataBits
 data-masks m n i j [] xs h = refl
 data-masks m n i j (u ∷ us) [] h = refl
-data-masks m n i j (zero ∷ us) (x ∷ xs) h = ap₂ (λ (y : ℕ) (l : List ℕ). bitXor x y ∷ l) (agree-first m n i j (length us) h) (data-masks m n (suc i) (suc j) us xs (agree-later m n i j (length us) h))
-data-masks m n i j (suc u ∷ us) (x ∷ xs) h = data-masks m n (suc i) (suc j) us xs (agree-later m n i j (length us) h)
+data-masks m n i j (zero ∷ us) (x ∷ xs) h = ap₂ (λ (y : ℕ) (l : List ℕ). bitXor x y ∷ l) (agree-first m n i j us h) (data-masks m n (suc i) (suc j) us xs (agree-later m n i j 0 us h))
+data-masks m n i j (suc u ∷ us) (x ∷ xs) h = data-masks m n (suc i) (suc j) us xs (agree-later m n i j (suc u) us h)
 
-row-split : (m : ℕ → ℕ) (ks sq row : List ℕ) (at side : ℕ) → length sq ≤ length ks → at + side ≤ length sq → ((c : ℕ) → c < side → getD row c 0 ≡ m (at + c))
+row-split : (m : ℕ → ℕ) (ks sq row : List ℕ) (at side : ℕ) → length sq ≤ length ks → at + side ≤ length sq → ((c : ℕ) → c < side → getD (part at (at + side) ks) c 0 ≡ 0 → getD row c 0 ≡ m (at + c))
     → bitsFrom m ks sq at ≡ rowBits (part at (at + side) ks) (part at (at + side) sq) row 0 ++ bitsFrom m ks sq (at + side)
 row-split m ks sq row at side g h e =
     let us = part at (at + side) ks in
@@ -94,9 +103,9 @@ row-split m ks sq row at side g h e =
     ap₂ (dataBits m at) (part-front at (at + side) ks (omega arith)) (part-front at (at + side) sq (omega arith))
     ∙ data-append m at us (drop (at + side) ks) xs (drop (at + side) sq) (k ∙ sym l)
     ∙ ap₂ (λ (b : List ℕ) (n : ℕ). b ++ dataBits m (at + n) (drop (at + side) ks) (drop (at + side) sq))
-    (data-masks m (λ c. getD row c 0) at 0 us xs (λ c q. sym (e c (omega arith)) ∙ (let z : c ≡ 0 + c = omega arith in ap (λ (i : ℕ). getD row i 0) z))) k
+    (data-masks m (λ c. getD row c 0) at 0 us xs (λ c q d. sym (e c (omega arith) d) ∙ (let z : c ≡ 0 + c = omega arith in ap (λ (i : ℕ). getD row i 0) z))) k
 
-bits-none : (m : ℕ → ℕ) (ks sq : List ℕ) (i : ℕ) → length sq ≤ i → bitsFrom m ks sq i ≡ []
+pub bits-none : (m : ℕ → ℕ) (ks sq : List ℕ) (i : ℕ) → length sq ≤ i → bitsFrom m ks sq i ≡ []
 unfolding dataBits
 bits-none m ks sq i h = ap (dataBits m i (drop i ks)) (drop-of-length-le sq {i = i} h) ∙ empty (drop i ks)
   where
@@ -123,19 +132,25 @@ rows-begun all out {r} n v b h =
     walk-again {r = record { column = 0; n = 0; value = 0; bits = 0 }} n v b
     (record { words = record { size = refl; few = omega arith; enough = omega arith; is = ap (λ (k : ℕ). codewordsOf k all) e } })
 
-pub rows-turn : {total : ℕ} {all out out′ row : List ℕ} {r s : Run} (m : ℕ → ℕ) (ks sq : List ℕ) (i side : ℕ) → length sq ≤ length ks → i * side + side ≤ length sq
-    → ((c : ℕ) → c < side → getD row c 0 ≡ m (i * side + c)) → r .column ≡ 0 → s .column ≡ length (part (i * side) (i * side + side) ks)
-    → Goes (part (i * side) (i * side + side) ks) (part (i * side) (i * side + side) sq) row out out′ r s
-    → Walk total all out (bitsFrom m ks sq (i * side)) r → Walk total all out′ (bitsFrom m ks sq ((i + 1) * side)) s
-rows-turn {total} {all} {out} {out′} {row} {r} {s} m ks sq i side g h e a b go w =
-    let at = i * side in
-    let us = part (i * side) (i * side + side) ks in
-    let xs = part (i * side) (i * side + side) sq in
-    let rest = bitsFrom m ks sq (i * side + side) in
-    let front = row-split m ks sq row at side g h e ∙ ap (λ (c : ℕ). rowBits us xs row c ++ rest) (sym a) in
-    let l : length (part (i * side) (i * side + side) sq) ≤ s .column = omega (arith, part-length at side sq h, part-length at side ks (omega arith)) in
-    subst (λ (u : List ℕ). Walk total all out′ u s) (ap (λ (u : List ℕ). u ++ rest) (bits-none (λ k. getD row k 0) us xs (s .column) l) ∙ ap (bitsFrom m ks sq) (row-next i side))
-    (go .go total all rest (subst (λ (u : List ℕ). Walk total all out u r) front w))
+-- row i of a square
+abbrev rowIn : ℕ → ℕ → List ℕ → List ℕ
+rowIn i side l = part (i * side) (i * side + side) l
+
+module _ {total : ℕ} {all out out′ row : List ℕ} {r s : Run} (m : ℕ → ℕ) (ks sq : List ℕ) (i side : ℕ) (g : length sq ≤ length ks) (h : i * side + side ≤ length sq) where
+  -- before the first column that is read there are no data, nor from the last one on
+  pub row-turn : ((c : ℕ) → c < side → getD (rowIn i side ks) c 0 ≡ 0 → getD row c 0 ≡ m (i * side + c)) → rowBits (rowIn i side ks) (rowIn i side sq) row (r .column) ≡ rowBits (rowIn i side ks) (rowIn i side sq) row 0 → rowBits (rowIn i side ks) (rowIn i side sq) row (s .column) ≡ []
+      → Goes (rowIn i side ks) (rowIn i side sq) row out out′ r s → Walk total all out (bitsFrom m ks sq (i * side)) r → Walk total all out′ (bitsFrom m ks sq ((i + 1) * side)) s
+  row-turn e a b go w =
+      let rest = bitsFrom m ks sq (i * side + side) in
+      let front = row-split m ks sq row (i * side) side g h e ∙ ap (λ (u : List ℕ). u ++ rest) (sym a) in
+      subst (λ (u : List ℕ). Walk total all out′ u s) (ap (λ (u : List ℕ). u ++ rest) b ∙ ap (bitsFrom m ks sq) (row-next i side))
+      (go .go total all rest (subst (λ (u : List ℕ). Walk total all out u r) front w))
+
+  -- all columns are read
+  pub rows-turn : ((c : ℕ) → c < side → getD row c 0 ≡ m (i * side + c)) → r .column ≡ 0 → s .column ≡ length (rowIn i side ks)
+      → Goes (rowIn i side ks) (rowIn i side sq) row out out′ r s → Walk total all out (bitsFrom m ks sq (i * side)) r → Walk total all out′ (bitsFrom m ks sq ((i + 1) * side)) s
+  rows-turn e a b =
+      row-turn (λ c q d. e c q) (ap (rowBits (rowIn i side ks) (rowIn i side sq) row) a) (bits-none (λ k. getD row k 0) (rowIn i side ks) (rowIn i side sq) (s .column) (omega (arith, part-length (i * side) side sq h, part-length (i * side) side ks (omega arith))))
 
 pub rows-done : {total : ℕ} {all out : List ℕ} {r : Run} (m : ℕ → ℕ) (ks sq : List ℕ) (i : ℕ) → length sq ≤ i → Pending r → Walk total all out (bitsFrom m ks sq i) r → out ≡ codewordsOf total all
 unfolding firstWords
@@ -146,3 +161,7 @@ rows-done {total} {all} {out} {r} m ks sq i h p k =
     let n : r .n ≡ total = omega (arith, w .few, w .enough, z, p .few) in
     let e : total - r .n ≡ 0 = omega arith in
     sym (take-all (r .n) out (omega (arith, w .size))) ∙ sym (append-nil (take (r .n) out)) ∙ sym (ap (λ (j : ℕ). take (r .n) out ++ codewordsOf j (lowBits (r .bits) (r .value) ++ bitsFrom m ks sq i)) e) ∙ w .is
+
+-- The first total codewords in front of what stood behind them.
+pub first-codewords : {out′ : List ℕ} (out all : List ℕ) (total : ℕ) → total ≤ length out → out′ ≡ codewordsOf (length (take total out)) all → out′ ++ drop total out ≡ codewordsOf total all ++ drop total out
+first-codewords out all total h e = ap (λ (o : List ℕ). o ++ drop total out) (e ∙ ap (λ (n : ℕ). codewordsOf n all) (length-take-le total out h))

@@ -12,7 +12,7 @@ use Rattle.codewords.specs.Codewords.{placed}
 use Rattle.masks.specs.Columns.{Row}
 use Rattle.placement.specs.Puts.{patternOf, getD₀, Drawn, Placing, Blank}
 use Rattle.codewords.proofs.Placement.{length-placed}
-use Rattle.placement.proofs.Rows.{part, part-front, part-length, row-next, agree-first, agree-later}
+use Rattle.placement.proofs.Rows.{part, part-front, part-length, part-at, row-next, Agree, agree-first, agree-later}
 
 next : (m : ℕ → ℕ) (i : ℕ) (us vs ds : List ℕ) → placed m (suc i) (us ++ vs) ds ≡ placed m (suc i) us ds ++ placed m (suc i + length us) vs (drop (dataModules us) ds)
     → placed m (suc i) (us ++ vs) ds ≡ placed m (suc i) us ds ++ placed m (i + suc (length us)) vs (drop (dataModules us) ds)
@@ -29,17 +29,14 @@ placed-append m i (suc (suc zero) ∷ us) vs ds = ap (λ (l : List ℕ). 0 ∷ l
 placed-append m i (suc (suc (suc k)) ∷ us) vs ds = ap (λ (l : List ℕ). 1 ∷ l) (next m i us vs ds (placed-append m (suc i) us vs ds))
 
 -- by another mask that is the same there
-placed-masks : (m n : ℕ → ℕ) (i j : ℕ) (us ds : List ℕ) → ((k : ℕ) → k < length us → m (i + k) ≡ n (j + k)) → placed m i us ds ≡ placed n j us ds
+placed-masks : (m n : ℕ → ℕ) (i j : ℕ) (us ds : List ℕ) → Agree us m n i j → placed m i us ds ≡ placed n j us ds
 unfolding placed
 placed-masks m n i j [] ds h = refl
-placed-masks m n i j (zero ∷ us) [] h = ap (λ (l : List ℕ). 0 ∷ l) (placed-masks m n (suc i) (suc j) us [] (agree-later m n i j (length us) h))
-placed-masks m n i j (zero ∷ us) (d ∷ ds) h = ap₂ (λ (y : ℕ) (l : List ℕ). bitXor d y ∷ l) (agree-first m n i j (length us) h) (placed-masks m n (suc i) (suc j) us ds (agree-later m n i j (length us) h))
-placed-masks m n i j (suc zero ∷ us) ds h = ap (λ (l : List ℕ). 0 ∷ l) (placed-masks m n (suc i) (suc j) us ds (agree-later m n i j (length us) h))
-placed-masks m n i j (suc (suc zero) ∷ us) ds h = ap (λ (l : List ℕ). 0 ∷ l) (placed-masks m n (suc i) (suc j) us ds (agree-later m n i j (length us) h))
-placed-masks m n i j (suc (suc (suc k)) ∷ us) ds h = ap (λ (l : List ℕ). 1 ∷ l) (placed-masks m n (suc i) (suc j) us ds (agree-later m n i j (length us) h))
-
-part-at : (at side k : ℕ) (l : List ℕ) → k < side → getD (part at (at + side) l) k 0 ≡ getD l (at + k) 0
-part-at at side k l h = getD-take (at + side - at) (drop at l) k 0 (omega arith) ∙ getD-drop at l k 0
+placed-masks m n i j (zero ∷ us) [] h = ap (λ (l : List ℕ). 0 ∷ l) (placed-masks m n (suc i) (suc j) us [] (agree-later m n i j 0 us h))
+placed-masks m n i j (zero ∷ us) (d ∷ ds) h = ap₂ (λ (y : ℕ) (l : List ℕ). bitXor d y ∷ l) (agree-first m n i j us h) (placed-masks m n (suc i) (suc j) us ds (agree-later m n i j 0 us h))
+placed-masks m n i j (suc zero ∷ us) ds h = ap (λ (l : List ℕ). 0 ∷ l) (placed-masks m n (suc i) (suc j) us ds (agree-later m n i j 1 us h))
+placed-masks m n i j (suc (suc zero) ∷ us) ds h = ap (λ (l : List ℕ). 0 ∷ l) (placed-masks m n (suc i) (suc j) us ds (agree-later m n i j 2 us h))
+placed-masks m n i j (suc (suc (suc k)) ∷ us) ds h = ap (λ (l : List ℕ). 1 ∷ l) (placed-masks m n (suc i) (suc j) us ds (agree-later m n i j (suc (suc (suc k))) us h))
 
 pub row-drawn : {ks sq : List ℕ} (at side : ℕ) → Drawn ks sq at → at + side ≤ length ks → Drawn (part at (at + side) ks) (part at (at + side) sq) 0
 row-drawn {ks} {sq} at side d h = record {
@@ -64,7 +61,7 @@ placing-row {whole} {after} {sq} {sq′} {ds} {ds′} {new} m ks row i side p h 
     let l : length (part (i * side) (i * side + side) ks) ≡ side = part-length at side ks h in
     let whole-row : drop (i * side) ks ≡ part (i * side) (i * side + side) ks ++ drop (i * side + side) ks = part-front at (at + side) ks (omega arith) in
     let same : placed m (i * side) (part (i * side) (i * side + side) ks) ds ≡ new =
-    placed-masks m (getD₀ row) at 0 us ds (λ c k. sym (a c (omega arith)) ∙ (let z : c ≡ 0 + c = omega arith in ap (getD₀ row) z)) ∙ sym e in
+    placed-masks m (getD₀ row) at 0 us ds (λ c k d. sym (a c (omega arith)) ∙ (let z : c ≡ 0 + c = omega arith in ap (getD₀ row) z)) ∙ sym e in
     let both : placed m (i * side) (drop (i * side) ks) ds ≡ new ++ placed m (i * side + side) (drop (i * side + side) ks) ds′ =
     ap (λ (u : List ℕ). placed m at u ds) whole-row ∙ placed-append m at us vs ds ∙ ap₂ (λ (u : List ℕ) (n : ℕ). u ++ placed m (at + n) vs (drop (dataModules us) ds)) same l ∙ ap (λ (u : List ℕ). new ++ placed m (at + side) vs u) (sym f) in
     let n : length new ≡ side = ap length (sym same) ∙ length-placed m at us ds ∙ l in

@@ -15,11 +15,11 @@ use lib.Seq.{take-at, drop-at, drop-cons, take-suc-set}
 use lib.Bits.{bitXor, xor-lt}
 use Rattle.bits.specs.Bits.{lowBits, value, firstWords}
 use Rattle.bits.proofs.Words.{length-low, low-back}
-use Rattle.bits.proofs.Bytes.{low-value}
+use Rattle.bits.proofs.Bytes.{value-add, value-small, low-value}
 use Rattle.codewords.specs.Codewords.{codewordsOf, dataBits}
-use Rattle.placement.specs.Walk.{bitsFrom, byteOf, eightOf, run, behind, Gathered, Pending, Words, Walk, Stored, Pushed, Aligned, Skipped, rowBits, Goes}
+use Rattle.placement.specs.Walk.{bitsFrom, byteOf, eightOf, run, behind, Gathered, Pending, Words, Walk, Stored, Pushed, Masked, Aligned, unmaskedAt, Skipped, rowBits, Goes, Spans}
 use Rattle.placement.specs.declared.Run.{Run}
-use Rattle.placement.proofs.Eights.{eight-zero, xor-eight}
+use Rattle.placement.proofs.Eights.{xor-eight}
 
 -- Bits of a number.
 
@@ -76,6 +76,37 @@ run-low n x b h e = sym (low-value (run n b) (run-small n b h)) ∙ ap₂ lowBit
 pub run-eight : (b : ℕ → ℕ) → value 0 (run 8 b) ≡ byteOf b
 unfolding run value
 run-eight b = omega arith
+
+-- those before a place in front of the others
+run-split : (a b : ℕ) (f : ℕ → ℕ) → run (a + b) f ≡ run a f ++ run b (λ k. f (a + k))
+unfolding run
+run-split zero b f =
+    let e : 0 + b ≡ b = omega arith in
+    let g : (k : ℕ) → k ≡ 0 + k = λ k. omega arith in ap (λ (n : ℕ). run n f) e ∙ run-ext b f (λ k. f (0 + k)) (λ k. ap f (g k))
+run-split (suc a) b f =
+    let e : suc a + b ≡ suc (a + b) = omega arith in
+    let g : (k : ℕ) → suc (a + k) ≡ suc a + k = λ k. omega arith in
+    ap (λ (n : ℕ). run n f) e ∙ ap (λ (l : List ℕ). f 0 ∷ l) (run-split a b (λ k. f (suc k)) ∙ ap (λ (l : List ℕ). run a (λ k. f (suc k)) ++ l) (run-ext b (λ k. f (suc (a + k))) (λ k. f (suc a + k)) (λ k. ap f (g k))))
+
+value-behind : (v : ℕ) (us vs : List ℕ) → value v (us ++ vs) ≡ value (value v us) vs
+unfolding value
+value-behind v [] vs = refl
+value-behind v (u ∷ us) vs = value-behind (v * 2 + u) us vs
+
+module _ (f : ℕ → ℕ) (small : (k : ℕ) → f k < 2) where
+  run-lt : (n : ℕ) (g : ℕ → ℕ) → ((k : ℕ) → g k < 2) → value 0 (run n g) < 2 ^ n
+  run-lt n g h = subst (λ (i : ℕ). value 0 (run n g) < 2 ^ i) (length-run n g) (value-small (run n g) (run-small n g h))
+
+  value-split : (a b : ℕ) → value 0 (run (a + b) f) ≡ value 0 (run a f) * 2 ^ b + value 0 (run b (λ k. f (a + k)))
+  value-split a b =
+      let l = run b (λ k. f (a + k)) in
+      ap (value 0) (run-split a b f) ∙ value-behind 0 (run a f) l ∙ value-add (value 0 (run a f)) l ∙ ap (λ (n : ℕ). value 0 (run a f) * 2 ^ n + value 0 l) (length-run b (λ k. f (a + k)))
+
+  -- w of them with n in front and p behind
+  inner-value : (n w p : ℕ) → value 0 (run (n + w + p) f) / 2 ^ p % 2 ^ w ≡ value 0 (run w (λ k. f (n + k)))
+  inner-value n w p =
+      ap (λ (y : ℕ). y / 2 ^ p % 2 ^ w) (value-split (n + w) p) ∙ ap (λ (y : ℕ). y % 2 ^ w) (high (value 0 (run (n + w) f)) p (run-lt p (λ k. f (n + w + k)) (λ k. small (n + w + k))))
+      ∙ ap (λ (y : ℕ). y % 2 ^ w) (value-split n w) ∙ low (value 0 (run n f)) w (run-lt w (λ k. f (n + k)) (λ k. small (n + k)))
 
 pub run-one : (b : ℕ → ℕ) → value 0 (run 1 b) ≡ b 0
 unfolding run value
@@ -226,18 +257,33 @@ skipped-more {ks} {first} {c} q h z = record {
 pub skipped-from : {ks : List ℕ} {c r : ℕ} → Skipped ks (c + 1) r → getD ks c 0 ≢ 0 → (k : ℕ) → c ≤ k → k < r → getD ks k 0 ≢ 0
 skipped-from {ks} {c} q z k lo hi = elim (decLt c k) [ yes l ↦ q .none k (omega arith) hi | no l ↦ (let e : k ≡ c = omega arith in λ y. z (sym (ap (λ (i : ℕ). getD ks i 0) e) ∙ y)) ]
 
-module _ {ks sq row : List ℕ} (a : Aligned ks sq row) where
-  pub bits-small : (c k : ℕ) → bitXor (getD sq (c + k) 0) (getD row (c + k) 0) < 2
+module _ {sq row : List ℕ} (a : Masked sq row) where
+  bits-small : (c k : ℕ) → unmaskedAt sq row c k < 2
   bits-small c k = xor-lt 1 (getD sq (c + k) 0) (getD row (c + k) 0) (a .modules (c + k)) (a .masks (c + k))
 
+  pub unmasked-is : (at : ℕ) {u v x : ℕ} → u ≡ eightOf (behind sq at) → v ≡ eightOf (behind row at) → Gathered (bitXor u v) x → x ≡ value 0 (run 8 (unmaskedAt sq row at))
+  unmasked-is at eu ev g =
+      let both = xor-eight (behind sq at) (behind row at) (λ k. omega (arith, a .modules (at + k))) (λ k. omega (arith, a .masks (at + k))) in
+      g .is (unmaskedAt sq row at) (bits-small at) (ap₂ bitXor eu ev ∙ both) ∙ sym (run-eight (unmaskedAt sq row at))
+
+  -- the first w of the last `left` of eight bits are the w bits from a column on
+  pub inner-is : (at left w c : ℕ) {g x : ℕ} → w ≤ left → left ≤ 8 → c + left ≡ at + 8 → g ≡ value 0 (run 8 (unmaskedAt sq row at)) → x ≡ g / 2 ^ (left - w) % 2 ^ w → x ≡ value 0 (run w (unmaskedAt sq row c))
+  inner-is at left w c {g} {x} few most e eg ex =
+      let n : 8 ≡ 8 - left + w + (left - w) = omega arith in
+      let i : (k : ℕ) → at + (8 - left + k) ≡ c + k = λ k. omega arith in
+      ex ∙ ap (λ (y : ℕ). y / 2 ^ (left - w) % 2 ^ w) (eg ∙ ap (λ (j : ℕ). value 0 (run j (unmaskedAt sq row at))) n)
+      ∙ inner-value (unmaskedAt sq row at) (bits-small at) (8 - left) w (left - w)
+      ∙ ap (value 0) (run-ext w (λ k. unmaskedAt sq row at (8 - left + k)) (unmaskedAt sq row c) (λ k. ap (λ (j : ℕ). bitXor (getD sq j 0) (getD row j 0)) (i k)))
+
+module _ {ks sq row : List ℕ} (a : Aligned ks sq row) where
   -- n data modules pushed
   pub goes-push : {out out′ : List ℕ} {r s : Run} (n x : ℕ) → r .column + n ≤ length ks → ((k : ℕ) → k < n → getD ks (r .column + k) 0 ≡ 0)
-      → value 0 (run n (λ k. bitXor (getD sq (r .column + k) 0) (getD row (r .column + k) 0))) ≡ x → s .column ≡ r .column + n → Pushed n x out out′ r s → Goes ks sq row out out′ r s
+      → x ≡ value 0 (run n (unmaskedAt sq row (r .column))) → s .column ≡ r .column + n → Pushed n x out out′ r s → Goes ks sq row out out′ r s
   goes-push {out} {out′} {r} {s} n x h z e f q = record {
     go = λ total all rest k.
         let b : rowBits ks sq row (r .column) ≡ lowBits n x ++ rowBits ks sq row (s .column) =
         from-hits (λ k. getD row k 0) ks sq (omega (arith, a .size)) n (r .column) (omega (arith, a .size)) z
-        ∙ ap₂ _++_ (run-low n x (λ k. bitXor (getD sq (r .column + k) 0) (getD row (r .column + k) 0)) (bits-small (r .column)) e) (ap (rowBits ks sq row) (sym f)) in
+        ∙ ap₂ _++_ (run-low n x (unmaskedAt sq row (r .column)) (bits-small (a .masked) (r .column)) (sym e)) (ap (rowBits ks sq row) (sym f)) in
         q .go total all (rowBits ks sq row (s .column) ++ rest)
         (subst (λ (l : List ℕ). Walk total all out l r) (ap (λ (l : List ℕ). l ++ rest) b ∙ append-assoc (lowBits n x) (rowBits ks sq row (s .column)) rest) k);
   }
@@ -247,14 +293,7 @@ module _ {ks sq row : List ℕ} (a : Aligned ks sq row) where
   goes-one {out} {out′} {r} {s} {x} h z e f q =
       let o : r .column + 0 ≡ r .column = omega arith in
       goes-push 1 x (omega arith) (λ k l. let y : r .column + k ≡ r .column = omega arith in ap (λ (i : ℕ). getD ks i 0) y ∙ z)
-      (run-one (λ k. bitXor (getD sq (r .column + k) 0) (getD row (r .column + k) 0)) ∙ ap (λ (i : ℕ). bitXor (getD sq i 0) (getD row i 0)) o ∙ sym e) f q
-
-  pub goes-eight : {out out′ : List ℕ} {r s : Run} {kinds u v x : ℕ} → r .column + 8 ≤ length ks → kinds ≡ eightOf (behind ks (r .column)) → kinds ≡ 0 → u ≡ eightOf (behind sq (r .column)) → v ≡ eightOf (behind row (r .column))
-      → Gathered (bitXor u v) x → s .column ≡ r .column + 8 → Pushed 8 x out out′ r s → Goes ks sq row out out′ r s
-  goes-eight {out} {out′} {r} {s} {kinds} {u} {v} {x} h e z eu ev g f q =
-      let both = xor-eight (behind sq (r .column)) (behind row (r .column)) (λ k. omega (arith, a .modules (r .column + k))) (λ k. omega (arith, a .masks (r .column + k))) in
-      goes-push 8 x h (eight-zero (behind ks (r .column)) (sym e ∙ z))
-      (run-eight (λ k. bitXor (getD sq (r .column + k) 0) (getD row (r .column + k) 0)) ∙ sym (g .is (λ k. bitXor (getD sq (r .column + k) 0) (getD row (r .column + k) 0)) (bits-small (r .column)) (ap₂ bitXor eu ev ∙ both))) f q
+      (e ∙ sym (run-one (unmaskedAt sq row (r .column)) ∙ ap (λ (i : ℕ). bitXor (getD sq i 0) (getD row i 0)) o)) f q
 
   pub goes-skip : {out : List ℕ} {r s : Run} → r .column < length ks → getD ks (r .column) 0 ≢ 0 → Skipped ks (r .column + 1) (s .column)
       → s .n ≡ r .n → s .value ≡ r .value → s .bits ≡ r .bits → Goes ks sq row out out r s
@@ -275,3 +314,19 @@ goes-none = record { go = λ total all rest k. k }
 
 pub goes-on : {ks sq row a b c : List ℕ} {r s t : Run} → Goes ks sq row a b r s → Goes ks sq row b c s t → Goes ks sq row a c r t
 goes-on f g = record { go = λ total all rest k. g .go total all rest (f .go total all rest k) }
+
+-- From column to column where all modules are data.
+
+pub spans-none : {sq row out : List ℕ} {r : Run} → Spans sq row out out r r
+spans-none = record { go = λ ks e z. goes-none }
+
+pub spans-on : {sq row a b c : List ℕ} {r s t : Run} → r .column ≤ s .column → s .column ≤ t .column → Spans sq row a b r s → Spans sq row b c s t → Spans sq row a c r t
+spans-on lo hi f g = record { go = λ ks e z. goes-on (f .go ks e (λ k p q. z k p (omega arith))) (g .go ks e (λ k p q. z k (omega arith) q)) }
+
+pub spans-push : {sq row out out′ : List ℕ} {r s : Run} → Masked sq row → (n x : ℕ) → r .column + n ≤ length sq → x ≡ value 0 (run n (unmaskedAt sq row (r .column))) → s .column ≡ r .column + n
+    → Pushed n x out out′ r s → Spans sq row out out′ r s
+spans-push {r = r} a n x h e f q = record { go = λ ks l z. goes-push (record { masked = a; size = l }) n x (omega arith) (λ k i. z (r .column + k) (omega arith) (omega arith)) e f q }
+
+-- The divisor 2 ^ w as the code has it.
+pub two-power : (w : ℕ) → w ≤ 8 → 1 * 2 ^ w % 18446744073709551616 ≡ 2 ^ w
+two-power w h = let e : 1 * 2 ^ w ≡ 2 ^ w = omega arith in ap (λ (y : ℕ). y % 18446744073709551616) e ∙ mod-eq-of-lt (omega (arith, pow-le-pow-right {n = 2} (lit< tt) {i = w} {j = 8} h))

@@ -1,6 +1,6 @@
 -- What the functions of this crate say of each other. Nobody has to believe it.
 use mathlib.Core.Path.{_≡_}
-use mathlib.Core.Logic.{_≢_}
+use mathlib.Core.Logic.{_≢_, _⊎_}
 use mathlib.Core.List.{List, [], _∷_, _++_}
 use Prim.Native.Nat.{ℕ, zero, suc, _+_, _-_, _*_, _^_, _<_, _≤_}
 use lib.ListN.{length, getD, take, drop, set}
@@ -72,13 +72,21 @@ pub record Stored (n x : ℕ) (out out′ : List ℕ) (r : ℕ) : Type 0 where
 pub record Pushed (w x : ℕ) (out out′ : List ℕ) (r s : Run) : Type 0 where
   pub go : (total : ℕ) (all rest : List ℕ) → Walk total all out (lowBits w x ++ rest) r → Walk total all out′ rest s
 
--- a row of a square, its kinds, and its mask in a buffer
-pub record Aligned (ks sq row : List ℕ) : Type 0 where
-  pub side : length ks ≤ 192
-  pub size : length sq ≡ length ks
+-- a row of a square, and its mask in a buffer
+pub record Masked (sq row : List ℕ) : Type 0 where
+  pub side : length sq ≤ 192
   pub room : length row ≡ 192
   pub modules : (k : ℕ) → getD sq k 0 < 2
   pub masks : (k : ℕ) → getD row k 0 < 2
+
+-- the same with the kinds of the row
+pub record Aligned (ks sq row : List ℕ) : Type 0 where
+  pub masked : Masked sq row
+  pub size : length sq ≡ length ks
+
+-- the bits of a row from a column on, as if all its modules were data
+abbrev pub unmaskedAt : List ℕ → List ℕ → ℕ → ℕ → ℕ
+unmaskedAt sq row at k = bitXor (getD sq (at + k) 0) (getD row (at + k) 0)
 
 -- no data module from one column on and before another
 pub record Skipped (ks : List ℕ) (first r : ℕ) : Type 0 where
@@ -93,3 +101,21 @@ rowBits ks sq row c = bitsFrom (λ k. getD row k 0) ks sq c
 -- from one column of a row to another, whatever is behind the row
 pub record Goes (ks sq row out out′ : List ℕ) (r s : Run) : Type 0 where
   pub go : (total : ℕ) (all rest : List ℕ) → Walk total all out (rowBits ks sq row (r .column) ++ rest) r → Walk total all out′ (rowBits ks sq row (s .column) ++ rest) s
+
+-- the same for all kinds by which the modules from the one column on and before the other are data
+pub record Spans (sq row out out′ : List ℕ) (r s : Run) : Type 0 where
+  pub go : (ks : List ℕ) → length sq ≡ length ks → ((k : ℕ) → r .column ≤ k → k < s .column → getD ks k 0 ≡ 0) → Goes ks sq row out out′ r s
+
+-- Layouts with no alignment patterns.
+
+-- the first nine and the last nine rows have data in the other columns than the first nine and the last nine, all other rows in all columns
+pub record Open (s : ℕ) (ks : List ℕ) : Type 0 where
+  pub size : length ks ≡ s * s
+  pub rows : (r c : ℕ) → 9 ≤ r → r + 9 < s → c < s → getD ks (r * s + c) 0 ≡ 0
+  pub columns : (r c : ℕ) → r < s → 9 ≤ c → c + 9 < s → getD ks (r * s + c) 0 ≡ 0
+  pub corners : (r c : ℕ) → r < s → c < s → (r < 9) ⊎ (s ≤ r + 9) → (c < 9) ⊎ (s ≤ c + 9) → getD ks (r * s + c) 0 ≢ 0
+
+-- how many modules at either end of row r of such a layout are no data
+pub data Margin (s r : ℕ) : ℕ → Type 0 where
+  whole : 9 ≤ r → r + 9 < s → Margin s r 0
+  ends : (r < 9) ⊎ (s ≤ r + 9) → Margin s r 9

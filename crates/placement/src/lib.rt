@@ -2,14 +2,16 @@
 // A square is walked row by row. Where eight data modules stand together they are taken at once, as the bytes of one number.
 ghost use mathlib.Core.Path.{_≡_};
 ghost use mathlib.Core.List.{List, _++_};
-ghost use Prim.Native.Nat.{ℕ, _+_, _*_, _/_, _^_, _≤_, _<_};
+ghost use Prim.Native.Nat.{ℕ, _+_, _-_, _*_, _/_, _%_, _^_, _≤_, _<_};
 ghost use lib.ListN.{length, getD, take, drop};
 ghost use Rattle.bits.specs.Bits.{bitsOf, lowBits, value};
 ghost use Rattle.codewords.specs.Codewords.{maskBit, codewordsOf, dataBits, placed};
 ghost use lib.Seq.{sets};
 ghost use Rattle.blocks.specs.Blocks.{dataModules};
 ghost use Rattle.placement.specs.Puts.{bytesOf, patternOf, getD₀, Drawn, PutBit, PutEight, Blank, Puts, PutsAll};
-ghost use Rattle.placement.specs.Walk.{Legible, fourOf, eightOf, behind, Gathered, Pending, Stored, Pushed, Aligned, Skipped, Goes};
+ghost use Rattle.symbol.specs.Version.{sideOf};
+ghost use Rattle.symbol.specs.Layout.{layoutOf};
+ghost use Rattle.placement.specs.Walk.{Legible, fourOf, eightOf, run, behind, Gathered, Pending, Stored, Pushed, Masked, unmaskedAt, Aligned, Skipped, Goes, Spans, Margin};
 
 // Where a row is read: the column, the codewords so far, and the first bits of the next, which are the lowest of `value`.
 pub struct Run {
@@ -111,6 +113,14 @@ fn one(out: &mut [u8], kinds: &[u8], square: &[u8], row: &[u8], r: Run) -> Run
     }
 }
 
+// The eight bits of a row from a column on.
+fn unmasked(square: &[u8], row: &[u8], at: usize) -> usize
+    requires { ⌜ Masked (now square) (now row) × (at + 8 ≤ length (now square)) ⌝ }
+    ensures { λ r. ⌜ (r ≡ value 0 (run 8 (unmaskedAt (now (square .entry)) (now (row .entry)) at))) × (r < 256) ⌝ }
+{
+    gather(eight(square, at) ^ eight(row, at))
+}
+
 // Eight data modules, or as above.
 fn step(out: &mut [u8], kinds: &[u8], square: &[u8], row: &[u8], r: Run) -> Run
     requires { ⌜ Aligned (now kinds) (now square) (now row) × Pending r × (r .column + 8 ≤ length (now kinds)) ⌝ }
@@ -118,8 +128,7 @@ fn step(out: &mut [u8], kinds: &[u8], square: &[u8], row: &[u8], r: Run) -> Run
 {
     let c = r.column;
     if eight(kinds, c) == 0 {
-        let unmasked = eight(square, c) ^ eight(row, c);
-        return push(out, r, gather(unmasked), 8);
+        return push(out, r, unmasked(square, row, c), 8);
     }
     one(out, kinds, square, row, r)
 }
@@ -176,7 +185,7 @@ fn read_rows(out: &mut [u8], kinds: &[u8], square: &[u8], side: usize, mask: usi
     };
     let mut i = 0;
     while i < side {
-        masks::mask_row(&mut row, &table, columns, mask, i);
+        masks::mask_row(&mut row, &table, mask, i, 0, columns);
         let at = i * side;
         let end = at + side;
         let first = Run {
@@ -204,6 +213,84 @@ pub fn read_codewords(
     ensures { λ _. ⌜ now (out .exit) ≡ codewordsOf total (dataBits (maskBit side mask) 0 (now (kinds .entry)) (now (square .entry))) ++ drop total (now (out .entry)) ⌝ }
 {
     read_rows(&mut out[..total], kinds, square, side, mask);
+}
+
+// Of eight bits the first w of the last `left`.
+fn inner(bits: usize, left: usize, w: usize) -> usize
+    requires { ⌜ (w ≤ left) × (left ≤ 8) ⌝ }
+    ensures { λ r. ⌜ r ≡ bits / 2 ^ (left - w) % 2 ^ w ⌝ }
+{
+    (bits >> (left - w)) % (1 << w)
+}
+
+// All modules from a column on and before another. Those left behind the groups of eight are the last of the eight that end there.
+fn read_span(out: &mut [u8], square: &[u8], row: &[u8], to: usize, first: Run) -> Run
+    requires { ⌜ Masked (now square) (now row) × Pending first × (first .column ≤ to) × (8 ≤ to) × (to ≤ length (now square)) ⌝ }
+    ensures { λ s. ⌜ Pending s × (s .column ≡ to) × Spans (now (square .entry)) (now (row .entry)) (now (out .entry)) (now (out .exit)) first s ⌝ }
+{
+    let mut r = first;
+    while r.column + 8 <= to {
+        r = push(out, r, unmasked(square, row, r.column), 8);
+    }
+    let w = to - r.column;
+    push(out, r, inner(unmasked(square, row, to - 8), w, w), w)
+}
+
+// How many modules at either end of a row are no data, where there are no alignment patterns.
+fn margin(side: usize, row: usize) -> usize
+    requires { ⌜ row < 189 ⌝ }
+    ensures { λ m. ⌜ Margin side row m ⌝ }
+{
+    if row < 9 {
+        return 9;
+    }
+    if side <= row + 9 {
+        return 9;
+    }
+    0
+}
+
+// All rows of a square with no alignment patterns: each has its data modules side by side, so that no kinds are looked at.
+fn read_open_rows(out: &mut [u8], square: &[u8], version: usize, mask: usize)
+    requires { ⌜ (1 ≤ version) × (version ≤ 3) × (length (now square) ≡ sideOf version * sideOf version) × ((i : ℕ) → getD (now square) i 0 < 2) × (8 * length (now out) ≤ length (dataBits (maskBit (sideOf version) mask) 0 (layoutOf version) (now square))) ⌝ }
+    ensures { λ _. ⌜ now (out .exit) ≡ codewordsOf (length (now (out .entry))) (dataBits (maskBit (sideOf version) mask) 0 (layoutOf version) (now (square .entry))) ⌝ }
+{
+    let side = 2 * version + 21;
+    let mut table = [0u16; 576];
+    let mut row = [0u8; 192];
+    let columns = (side + 7) / 8 * 8;
+    masks::columns(&mut table, columns, mask);
+    let mut r = Run {
+        column: 0,
+        n: 0,
+        value: 0,
+        bits: 0,
+    };
+    let mut i = 0;
+    while i < side {
+        let m = margin(side, i);
+        let to = side - m;
+        masks::mask_row(&mut row, &table, mask, i, m / 8 * 8, (to + 7) / 8 * 8);
+        let at = i * side;
+        let end = at + side;
+        let first = Run {
+            column: m,
+            n: r.n,
+            value: r.value,
+            bits: r.bits,
+        };
+        r = read_span(out, &square[at..end], &row, to, first);
+        i += 1;
+    }
+}
+
+// The same as `read_codewords` for the versions 1 to 3, which have no alignment patterns: no layout is drawn for it.
+pub fn read_open(out: &mut [u8], total: usize, square: &[u8], version: usize, mask: usize)
+    requires { ⌜ (1 ≤ version) × (version ≤ 3) × (length (now square) ≡ sideOf version * sideOf version) × ((i : ℕ) → getD (now square) i 0 < 2) ⌝ }
+    requires { ⌜ (total ≤ length (now out)) × (8 * total ≤ length (dataBits (maskBit (sideOf version) mask) 0 (layoutOf version) (now square))) ⌝ }
+    ensures { λ _. ⌜ now (out .exit) ≡ codewordsOf total (dataBits (maskBit (sideOf version) mask) 0 (layoutOf version) (now (square .entry))) ++ drop total (now (out .entry)) ⌝ }
+{
+    read_open_rows(&mut out[..total], square, version, mask);
 }
 
 // Where a row is written: the column, and the next bit of the codewords.
@@ -363,7 +450,7 @@ fn place_rows(square: &mut [u8], kinds: &[u8], codewords: &[u8], side: usize, ma
     let mut bit = 0;
     let mut i = 0;
     while i < side {
-        masks::mask_row(&mut row, &table, columns, mask, i);
+        masks::mask_row(&mut row, &table, mask, i, 0, columns);
         let at = i * side;
         let end = at + side;
         bit = put_row(&mut square[at..end], &kinds[at..end], &row, codewords, bit);

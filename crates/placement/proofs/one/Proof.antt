@@ -1,4 +1,4 @@
-use Rattle.placement.proofs.Walk.{goes-one, goes-skip, bits-small}
+use Rattle.placement.proofs.Walk.{goes-one, goes-skip}
 use mathlib.Core.Path.{_≡_, refl}
 use Prim.Native.Nat.{_+_, _<_}
 use lib.Bits.{xor-lt}
@@ -11,7 +11,7 @@ push-requires : tie.Need-push-requires
 push-requires c κs =
     let start = c .before .before .before .before .before .before .before .before .before .before in
     let k = start .args .r .column in
-    (start .pre .1, omega arith, omega (arith, c .wide .ensures .0, xor-lt 1 _ _ (start .pre .0 .modules k) (start .pre .0 .masks k)), omega (arith, start .pre .2, start .pre .0 .side))
+    (start .pre .1, omega arith, omega (arith, c .wide .ensures .0, xor-lt 1 _ _ (start .pre .0 .masked .modules k) (start .pre .0 .masked .masks k)), omega (arith, start .pre .2, start .pre .0 .masked .side, start .pre .0 .size))
 
 returns : tie.Need-returns
 returns c =

@@ -1,7 +1,7 @@
 use Rattle.placement.proofs.Rows.{row-inside, row-mask}
 use Rattle.placement.proofs.Puts.{placing-begun}
 use Rattle.placement.proofs.Squares.{row-drawn, row-blank, placing-row, placing-done}
-use Rattle.masks.proofs.Rows.{row-new}
+use Rattle.masks.proofs.Rows.{columns-fewer, row-new}
 use Rattle.masks.specs.Columns.{Row}
 use Rattle.placement.specs.Puts.{Placing}
 use Rattle.bits.specs.Bits.{bitsOf}
@@ -41,7 +41,10 @@ slice-aggregate-mask-row-2 : tie.Need-slice-aggregate-mask-row-2 Inv-loop μ-loo
 slice-aggregate-mask-row-2 c = sym (c .before .before .before .before .before .columns .ensures .size)
 
 mask-row-requires : tie.Need-mask-row-requires Inv-loop μ-loop
-mask-row-requires c κs = (omega (arith, c .before .before .before .before .before .before .before .before .before .before .pre .3), omega (arith, c .before .before .loop-test .taken), c .before .before .before .before .before .columns .ensures, c .before .before .before .loop .inv .0)
+mask-row-requires c κs =
+    let columns = c .before .before .before .before .before .columns .ensures in
+    let taken = c .before .before .loop-test .taken in
+    let side = c .before .before .before .before .before .before .before .before .before .before .pre .3 in (omega (arith, taken, side), omega (arith, side), columns-fewer (omega (arith, taken)) columns, columns, c .before .before .before .loop .inv .0)
 
 mul-at : tie.Need-mul-at Inv-loop μ-loop
 mul-at c = omega (arith, row-inside (c .before .before .before .before .before .loop .i) (c .before .before .before .before .before .before .before .before .before .before .before .before .args .side) (c .before .before .before .before .loop-test .taken), c .before .before .before .before .before .before .before .before .before .before .before .before .pre .4, c .before .before .before .before .before .before .before .before .before .before .before .before .pre .1, mul-le-mul-left (c .before .before .before .before .before .before .before .before .before .before .before .before .args .side) (c .before .before .before .before .before .before .before .before .before .before .before .before .pre .3), c .before .before .before .before .before .before .before .before .before .before .before .before .pre .3)
@@ -81,7 +84,7 @@ loop-again c =
     let put-row = c .before .before .put-row .ensures in (
       mask-row .ensures .0,
       omega (arith, c .before .before .before .before .before .before .before .before .before .before .loop-test .taken),
-      placing-row m (start .args .kinds .now) (mask-row .last .0) (loop .i) (start .args .side) (loop .inv .2) h (λ k l. mask-row .ensures .1 k (omega arith) ∙ row-mask (start .args .mask) (loop .i) (start .args .side) k l) (put-row .0) (put-row .1) refl,
+      placing-row m (start .args .kinds .now) (mask-row .last .0) (loop .i) (start .args .side) (loop .inv .2) h (λ k l. mask-row .ensures .1 k (omega arith) (omega arith) ∙ row-mask (start .args .mask) (loop .i) (start .args .side) k l) (put-row .0) (put-row .1) refl,
     )
 
 same-length : tie.Need-same-length Inv-loop μ-loop

@@ -1,9 +1,9 @@
-use Rattle.codewords.specs.Codewords.{maskBit, codewordsOf, dataBits}
-use lib.ListN.{length, take, drop}
+use Rattle.placement.proofs.Rows.{first-codewords}
+use Rattle.codewords.specs.Codewords.{maskBit, dataBits}
+use lib.ListN.{length, take}
 use lib.Seq.{length-take-le}
-use mathlib.Core.List.{List, _++_}
-use mathlib.Core.Path.{_≡_, sym, ap, _∙_}
-use Prim.Native.Nat.{ℕ, _*_, _≤_}
+use mathlib.Core.Path.{_≡_, sym}
+use Prim.Native.Nat.{_*_, _≤_}
 use native.Mathlib.Omega.{arith}
 use borrow.Author.Needs.{needs}
 use Rattle.placement.proofs.read_codewords.Statement.{statement}
@@ -22,8 +22,7 @@ returns : tie.Need-returns
 returns c =
     let start = c .before .before .before .before .before .before .before in
     let all = dataBits (maskBit (start .args .side) (start .args .mask)) 0 (start .args .kinds .now) (start .args .square .now) in
-    let l = length-take-le (start .args .total) (start .args .out .now) (start .pre .1 .0) in
-    ap (λ (o : List ℕ). o ++ drop (start .args .total) (start .args .out .now)) (c .before .before .read-rows .ensures ∙ ap (λ (n : ℕ). codewordsOf n all) l)
+    first-codewords (start .args .out .now) all (start .args .total) (start .pre .1 .0) (c .before .before .read-rows .ensures)
 
 pub read-codewords-spec : {M : Type 1} → statement M
 read-codewords-spec =

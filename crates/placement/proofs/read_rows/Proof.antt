@@ -1,5 +1,5 @@
 use Rattle.placement.proofs.Rows.{row-inside, row-next, row-mask, part-length, aligned, rows-pending, walk-again, rows-begun, rows-turn, rows-done}
-use Rattle.masks.proofs.Rows.{row-new}
+use Rattle.masks.proofs.Rows.{columns-fewer, row-new}
 use Rattle.masks.specs.Columns.{Row}
 use Rattle.placement.specs.Walk.{bitsFrom, Pending, Walk}
 use Rattle.codewords.specs.Codewords.{maskBit, dataBits}
@@ -42,7 +42,10 @@ slice-aggregate-mask-row-2 : tie.Need-slice-aggregate-mask-row-2 Inv-loop μ-loo
 slice-aggregate-mask-row-2 c = sym (c .before .before .before .before .before .columns .ensures .size)
 
 mask-row-requires : tie.Need-mask-row-requires Inv-loop μ-loop
-mask-row-requires c κs = (omega (arith, c .before .before .before .before .before .before .before .before .before .before .pre .2), omega (arith, c .before .before .loop-test .taken), c .before .before .before .before .before .columns .ensures, c .before .before .before .loop .inv .0)
+mask-row-requires c κs =
+    let columns = c .before .before .before .before .before .columns .ensures in
+    let taken = c .before .before .loop-test .taken in
+    let side = c .before .before .before .before .before .before .before .before .before .before .pre .2 in (omega (arith, taken, side), omega (arith, side), columns-fewer (omega (arith, taken)) columns, columns, c .before .before .before .loop .inv .0)
 
 mul-at : tie.Need-mul-at Inv-loop μ-loop
 mul-at c = omega (arith, row-inside (c .before .before .before .before .before .loop .i) (c .before .before .before .before .before .before .before .before .before .before .before .before .args .side) (c .before .before .before .before .loop-test .taken), c .before .before .before .before .before .before .before .before .before .before .before .before .pre .3, c .before .before .before .before .before .before .before .before .before .before .before .before .pre .0 .few)
@@ -81,7 +84,7 @@ loop-again c =
     let h : loop .i * start .args .side + start .args .side ≤ length (start .args .square .now) = omega (arith, row-inside (c .before .before .before .before .before .before .before .before .before .before .before .before .loop .i) (c .before .before .before .before .before .before .before .before .before .before .before .before .before .before .before .before .before .before .before .args .side) (c .before .before .before .before .before .before .before .before .before .before .before .loop-test .taken), c .before .before .before .before .before .before .before .before .before .before .before .before .before .before .before .before .before .before .before .pre .3) in
     let mask-row = c .before .before .before .before .before .before .before .before .mask-row .ensures in
     let read-row = c .before .before .read-row .ensures in
-    let turn = rows-turn m ks sq (loop .i) (start .args .side) (start .pre .0 .kinds) h (λ k l. mask-row .1 k (omega arith) ∙ row-mask (start .args .mask) (loop .i) (start .args .side) k l) refl (read-row .1) (read-row .2) (walk-again refl refl refl (loop .inv .3)) in
+    let turn = rows-turn m ks sq (loop .i) (start .args .side) (start .pre .0 .kinds) h (λ k l. mask-row .1 k (omega arith) (omega arith) ∙ row-mask (start .args .mask) (loop .i) (start .args .side) k l) refl (read-row .1) (read-row .2) (walk-again refl refl refl (loop .inv .3)) in
     (mask-row .0, read-row .0, omega (arith, c .before .before .before .before .before .before .before .before .before .before .before .loop-test .taken), turn)
 
 same-length : tie.Need-same-length Inv-loop μ-loop
