@@ -20,7 +20,7 @@ use Rattle.reed_solomon.specs.Block.{eval}
 use Rattle.reed_solomon.specs.Inner.{Each, Syndromes}
 use Rattle.reed_solomon.proofs.Codeword.{eval-horner}
 use Rattle.remainder.specs.declared.Register.{Register}
-use Rattle.remainder.specs.Words.{digits, behind, sumOf, none, wordAt, byteAt, Kept, Remains, Left}
+use Rattle.remainder.specs.Words.{digits, behind, sumOf, none, wordAt, byteAt, Kept, Remains, Leaves, Left, tabled}
 use Rattle.remainder.proofs.Digits.{behind-sum}
 use Rattle.remainder.proofs.Places.{register-eq}
 use Rattle.remainder.proofs.Steps.{empty-zero}
@@ -165,11 +165,13 @@ syndromes-left poly P first parity k block r b s s′ R K lb is S E = record {
         ∙ horner-ext poly (seq (take k b)) (byteAt r) x k (λ i h. getD-take k b i 0 h ∙ is i (omega (arith, K .few)))
 
 -- what the division leaves of the first k bytes, where the roots are those of a parity
-pub remains : (Root : ℕ → Type 0) (parity k : ℕ) (block : List ℕ) (r : Register) → ((j : ℕ) → j < parity → Root (power 0x163 (1 + j))) → k ≤ length block → ((i : ℕ) → seq block i < 256)
-    → Left Root k block r → Remains 0x163 1 parity (take k block) r
-remains Root parity k block r roots h bs L = record {
-  byte = λ j l. omega (arith, eval-horner 0x163 (power 0x163 (1 + j)) (take k block), horner-lt 0x163 (passes 0x163 passes-163) (seq (take k block)) (power 0x163 (1 + j)) (length (take k block)) bytes);
-  zero-at = λ j l. L .zero-at (power 0x163 (1 + j)) (roots j l);
+pub leaves : (Root : ℕ → Type 0) (parity k : ℕ) (block : List ℕ) (r : Register) → (tabled parity → (j : ℕ) → j < parity → Root (power 0x163 (1 + j))) → k ≤ length block
+    → ((i : ℕ) → seq block i < 256) → Left Root k block r → Leaves parity k block r
+leaves Root parity k block r roots h bs L = record {
+  remains = λ T. record {
+    byte = λ j l. omega (arith, eval-horner 0x163 (power 0x163 (1 + j)) (take k block), horner-lt 0x163 (passes 0x163 passes-163) (seq (take k block)) (power 0x163 (1 + j)) (length (take k block)) bytes);
+    zero-at = λ j l. L .zero-at (power 0x163 (1 + j)) (roots T j l);
+  };
 }
   where
     bytes : (i : ℕ) → seq (take k block) i < 256

@@ -141,3 +141,7 @@ pub record Kept (r : Register) (k : ℕ) : Type 0 where
 pub record Remains (poly first parity : ℕ) (block : List ℕ) (r : Register) : Type 0 where
   pub byte : (j : ℕ) → j < parity → eval poly (power poly (first + j)) block < 256
   pub zero-at : (j : ℕ) → j < parity → behind poly (power poly (first + j)) (eval poly (power poly (first + j)) block) r ≡ 0
+
+-- r is what the division leaves of the first k bytes of a block, where there is a generator for the parity
+pub record Leaves (parity k : ℕ) (block : List ℕ) (r : Register) : Type 0 where
+  pub remains : tabled parity → Remains 0x163 1 parity (take k block) r

@@ -6,7 +6,7 @@ ghost use mathlib.Core.List.{List};
 ghost use Prim.Native.Nat.{ℕ, _+_, _-_, _*_, _/_, _%_, _^_, _≤_, _<_};
 ghost use lib.ListN.{length, getD, take};
 ghost use lib.Bits.{bitXor};
-ghost use Rattle.remainder.specs.Words.{digits, behind, Zero, rowAt, sumOf, doubleOf, doubledOf, movedOf, none, Rows, Adds, Keeps, Front, Put, Extended, Filling, Bytewise, Shifts, Prepared, wordAt, byteAt, Kept, tabled, Remains};
+ghost use Rattle.remainder.specs.Words.{digits, behind, Zero, rowAt, sumOf, doubleOf, doubledOf, movedOf, none, Rows, Adds, Keeps, Front, Put, Extended, Filling, Bytewise, Shifts, Prepared, wordAt, byteAt, Kept, tabled, Remains, Leaves};
 ghost use mathlib.Core.Bool.{true};
 ghost use Rattle.field.specs.Field.{power, mul};
 ghost use Rattle.field.specs.Table.{Field, polyOf};
@@ -181,7 +181,7 @@ fn front(s: &[u8], n: usize) -> u64
 // What is left of the first k bytes of a block.
 pub fn remainder(t: &[u64], block: &[u8], k: usize) -> Register
     requires { ⌜ (length (now t) ≡ 512) × (k ≤ length (now block)) ⌝ }
-    ensures { λ r. ⌜ ((parity : ℕ) → Prepared parity (now (t .entry)) → tabled parity → Remains 0x163 1 parity (take k (now (block .entry))) r) ⌝ }
+    ensures { λ r. ⌜ ((parity : ℕ) → Prepared parity (now (t .entry)) → Leaves parity k (now (block .entry)) r) ⌝ }
 {
     let none = Register {
         a: 0,
@@ -295,7 +295,7 @@ pub fn prepare(t: &mut [u64], parity: usize)
 // more than it saves.
 pub fn remainder_short(block: &[u8], k: usize, parity: usize) -> Register
     requires { ⌜ k ≤ length (now block) ⌝ }
-    ensures { λ r. ⌜ (tabled parity → Remains 0x163 1 parity (take k (now (block .entry))) r) ⌝ }
+    ensures { λ r. ⌜ Leaves parity k (now (block .entry)) r ⌝ }
 {
     let mut t = [0u64; 128];
     fill_byte(&mut t, 0, generator(parity));

@@ -7,7 +7,7 @@ use borrow.Author.Needs.{needs}
 use Rattle.reed_solomon.specs.Block.{evalFrom}
 use Rattle.remainder.specs.Words.{behind, Rows, Left}
 use Rattle.remainder.proofs.Steps.{front-lt, left-start, left-next}
-use Rattle.remainder.proofs.Lowered.{remains}
+use Rattle.remainder.proofs.Lowered.{leaves}
 use Rattle.remainder.proofs.remainder.Statement.{statement}
 use Rattle.remainder.proofs.remainder.Tie as tie
 
@@ -38,7 +38,7 @@ returns c =
     let known = c .before .before .before .before .shared-slice-known2 in
     let loop = c .before .loop in
     let e : loop .i ≡ start .args .k = omega arith in
-    λ parity Q T. remains _ _ _ _ _ (Q .rows T) (start .pre .1) (λ j. omega (arith, known .given j)) (rw e at (loop .inv .2))
+    λ parity Q. leaves _ _ _ _ _ (Q .rows) (start .pre .1) (λ j. omega (arith, known .given j)) (rw e at (loop .inv .2))
 
 pub remainder-spec : {M : Type 1} → statement M
 remainder-spec = tie.close (tie.spec Inv-loop μ-loop (λ c κs. search needs) step-requires loop-holds (λ c κs. search needs) step-requires-2 (λ c. search needs) (λ c. search needs) loop-again returns)
