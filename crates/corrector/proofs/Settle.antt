@@ -10,12 +10,18 @@ use native.Mathlib.Decide.{ℕ-discrete, decLt}
 use borrow.Author.Tests.{eq-eqb}
 use lib.Dec.{eqb}
 use lib.ListN.{length}
+use lib.Seq.{take-length}
 use lib.Bits.{xor-self, xor-zero-r}
 use Rattle.field.specs.Field.{power}
-use Rattle.field.proofs.Field.{Passes, sum-lt}
+use Rattle.field.proofs.Field.{Passes, passes, sum-lt}
+use Rattle.field.proofs.Instances.{passes-163}
 use Rattle.algebra.specs.Sum.{_⊕_, seq, degree, syndrome}
 use Rattle.algebra.proofs.Peel.{syndrome-add, syndrome-ext}
 use Rattle.reed_solomon.specs.Block.{eval, orOneMore, distance, nearest, unfit}
+use Rattle.remainder.specs.declared.Register.{Register}
+use Rattle.remainder.specs.Words.{tabled, Remains, Leaves}
+use Rattle.remainder.specs.Words as Words
+use Rattle.remainder.proofs.Lowered.{none-remains}
 use Rattle.corrector.specs.Correct.{refused, settled, orOutcome, correctOf}
 use Rattle.reed_solomon.specs.Inner.{Each, Syndromes, isClean, Shortest, locatorAt, Located, Errors, withoutAll, repaired}
 use Rattle.reed_solomon.proofs.Search.{Bytes}
@@ -52,6 +58,19 @@ unfolding settled
 zero-settled poly P first parity w small bw z =
     let N : Near poly first parity w w = record { size = refl; bytes = bw; code = zero-codeword poly first parity w z; near = omega (arith, distance-self w) } in
     sym (ap (settled w) (near-some poly first parity w P small w N) ∙ ap (λ (n : ℕ). record { number = 0; count = n; block = w }) (distance-self w))
+
+-- a division that goes to the end of the block
+pub whole-left : {parity k : ℕ} {w : List ℕ} {r : Register} → Leaves parity k w r → tabled parity → k ≡ length w → Remains 0x163 1 parity w r
+whole-left L T e = rw (e, take-length) at (L .remains T)
+
+-- the field and the first root of Han Xin, however they are named
+pub left-as : {poly first parity : ℕ} {w : List ℕ} {r : Register} → Remains 0x163 1 parity w r → poly ≡ 0x163 → first ≡ 1 → Remains poly first parity w r
+left-as R p f = rw (p, f) R
+
+-- a block of which nothing is left
+pub none-settled : (parity : ℕ) (w : List ℕ) (r : Register) → length w ≤ 255 → Bytes w → Remains 0x163 1 parity w r → r ≡ Words.none
+    → record { number = 0; count = 0; block = w } ≡ settled w (nearest 0x163 1 parity w)
+none-settled parity w r small bw R e = zero-settled 0x163 (passes 0x163 passes-163) 1 parity w small bw (none-remains parity w (rw e at R))
 
 module _ (poly : ℕ) (P : Passes poly) (first parity : ℕ) (w : List ℕ) (small : length w ≤ 255) (bw : Bytes w) (s : List ℕ) (Y : Syndromes poly first parity w s) where
   pub clean-settled : true ≡ isClean parity s → record { number = 0; count = 0; block = w } ≡ settled w (nearest poly first parity w)

@@ -6,11 +6,12 @@ ghost use lib.ListN.{length};
 ghost use Rattle.field.specs.Table.{Field, polyOf};
 ghost use Rattle.reed_solomon.specs.Block.{nearest};
 ghost use Rattle.reed_solomon.specs.Inner.{Syndromes};
-ghost use Rattle.remainder.specs.Words.{tabled, Prepared};
+ghost use Rattle.remainder.specs.Words.{tabled, Prepared, Remains};
 ghost use Rattle.corrector.specs.Correct.{correctOf, outcome, settled};
 use reed_solomon::errors;
 use reed_solomon::locator;
 use reed_solomon::syndromes;
+use remainder::Register;
 
 // What became of a block: the count of its corrections, or the refusals 5 and 6 of document 01.
 pub enum Correction {
@@ -100,37 +101,60 @@ fn is_untabled(n: usize, parity: usize) -> bool
     false
 }
 
-// The same for the field of Han Xin, by a table that is prepared once for all blocks of one parity: a block of which nothing is left by
-// division has no error, and the syndromes of any other are those of the few bytes that are left.
-pub fn correct_with(
-    field: &[u16; 1280],
-    rows: &[u64],
-    block: &mut [u8],
-    parity: usize,
-) -> Correction
-    requires { ⌜ Field (now field) × (polyOf (now field) ≡ 0x163) × Prepared parity (now rows) ⌝ }
+// Correct a block of the field of Han Xin, whose table is copied only where it is needed.
+fn correct_plain(block: &mut [u8], parity: usize) -> Correction
+    ensures { λ r. ⌜ outcome r (now (block .exit)) ≡ correctOf 0x163 1 parity (now (block .entry)) ⌝ }
+{
+    let field = field::han_xin();
+    correct_over(&field, 1, block, parity)
+}
+
+// The same where `left` is what division leaves of the block: a block of which nothing is left has no error, and the syndromes of any
+// other are those of the few bytes that are left.
+fn correct_left(block: &mut [u8], parity: usize, left: Register) -> Correction
+    requires { ⌜ tabled parity × (parity < length (now block)) × (length (now block) ≤ 255) ⌝ }
+    requires { ⌜ Remains 0x163 1 parity (now block) left ⌝ }
+    ensures { λ r. ⌜ outcome r (now (block .exit)) ≡ correctOf 0x163 1 parity (now (block .entry)) ⌝ }
+{
+    if remainder::is_none(left) {
+        return Correction::Corrected(0);
+    }
+    let field = field::han_xin();
+    let mut s = remainder::syndromes(&field, 1, left, parity);
+    repair(&field, 1, block, parity, &mut s)
+}
+
+// The same by a table that is prepared once for all blocks of one parity.
+pub fn correct_with(rows: &[u64], block: &mut [u8], parity: usize) -> Correction
+    requires { ⌜ Prepared parity (now rows) ⌝ }
     ensures { λ r. ⌜ outcome r (now (block .exit)) ≡ correctOf 0x163 1 parity (now (block .entry)) ⌝ }
 {
     if is_untabled(block.len(), parity) {
-        return correct_over(field, 1, block, parity);
+        return correct_plain(block, parity);
     }
-    let r = remainder::remainder(rows, block, block.len());
-    if remainder::is_none(r) {
-        return Correction::Corrected(0);
+    let left = remainder::remainder(rows, block, block.len());
+    correct_left(block, parity, left)
+}
+
+// The same for one short block, with no such table.
+pub fn correct_short(block: &mut [u8], parity: usize) -> Correction
+    ensures { λ r. ⌜ outcome r (now (block .exit)) ≡ correctOf 0x163 1 parity (now (block .entry)) ⌝ }
+{
+    if is_untabled(block.len(), parity) {
+        return correct_plain(block, parity);
     }
-    let mut s = remainder::syndromes(field, 1, r, parity);
-    repair(field, 1, block, parity, &mut s)
+    let left = remainder::remainder_short(block, block.len(), parity);
+    correct_left(block, parity, left)
 }
 
 // Document 01's Correct a block: GF(256) under 163 hex, first root α^1. A table for one short block costs more than it saves.
 pub fn correct(block: &mut [u8], parity: usize) -> Correction
     ensures { λ r. ⌜ outcome r (now (block .exit)) ≡ correctOf 0x163 1 parity (now (block .entry)) ⌝ }
 {
-    let field = field::han_xin();
-    if block.len() < 40 {
-        return correct_over(&field, 1, block, parity);
+    if block.len() < 64 {
+        return correct_short(block, parity);
     }
     let mut rows = [0u64; 512];
     remainder::prepare(&mut rows, parity);
-    correct_with(&field, &rows, block, parity)
+    correct_with(&rows, block, parity)
 }

@@ -9,7 +9,7 @@ use native.Mathlib.Decide.{decLt}
 use lib.ListN.{length, getD, take, drop, length-drop, take-append-drop, List·getD-eq-default}
 use lib.Seq.{ext-getD, getD-drop, getD-take, length-take-le}
 use lib.Bits.{bitXor, xor-zero-r, xor-zero-l}
-use Rattle.field.specs.Field.{raised, power, mul}
+use Rattle.field.specs.Field.{power, mul}
 use Rattle.field.proofs.Field.{Passes, passes, mul-lt, mul-sum, mul-assoc, mul-power, mul-none, mul-comm, mul-one, power-pos, power-lt, sum-lt}
 use Rattle.field.proofs.Instances.{passes-163}
 use Rattle.field.proofs.Entries.{mul-left-zero}
@@ -20,8 +20,8 @@ use Rattle.reed_solomon.specs.Inner.{Each}
 use Rattle.reed_solomon.proofs.Search.{Bytes}
 use Rattle.reed_solomon.proofs.Codeword.{zero-codeword}
 use Rattle.remainder.specs.declared.Register.{Register}
-use Rattle.remainder.specs.Words.{behind, byteAt, tabled, Prepared, Left}
-use Rattle.remainder.proofs.Lowered.{bytes-value, behind-from}
+use Rattle.remainder.specs.Words.{behind, byteAt, tabled, Leaves}
+use Rattle.remainder.proofs.Lowered.{bytes-value, behind-from, power-first}
 use Rattle.parity.specs.Encode.{writtenOf}
 use Rattle.parity.specs.Inner.{behindOf}
 use Rattle.parity.proofs.Followed.{take-bytes, written-by}
@@ -35,10 +35,6 @@ eval-lt : (poly : ℕ) → Passes poly → (x acc : ℕ) (ys : List ℕ) → acc
 unfolding evalFrom
 eval-lt poly P x acc [] h b = h
 eval-lt poly P x acc (y ∷ ys) h b = eval-lt poly P x (bitXor (mul poly acc x) y) ys (sum-lt (mul poly acc x) y (mul-lt poly P acc x) (b 0)) (λ i. b (suc i))
-
-power-first : (poly : ℕ) → power poly 0 ≡ 1
-unfolding raised
-power-first poly = refl
 
 -- from the place k on, and before it
 pub behind-low : (k : ℕ) (src : List ℕ) (i x : ℕ) → i < k → behindOf k src i x ≡ x
@@ -106,15 +102,15 @@ module _ (m parity : ℕ) (ds b : List ℕ) (r : Register) (bd : Bytes ds) (bb :
       (sym (eval-append 0x163 x e (take parity b) (drop parity b)) ∙ ap (evalFrom 0x163 x e) (take-append-drop parity b) ∙ whole)
 
 -- what is written
-pub left-written : (k : ℕ) (rows block block′ b : List ℕ) (r : Register) → Bytes block → length block ≤ 255 → k ≤ length block → Prepared (length block - k) rows → tabled (length block - k)
-    → Left rows k block r → length b ≡ 32 → ((i : ℕ) → i < 32 → seq b i ≡ byteAt r i) → ((i : ℕ) → length block - k ≤ i → i < 32 → seq b i ≡ 0)
+pub left-written : (k : ℕ) (block block′ b : List ℕ) (r : Register) → Bytes block → length block ≤ 255 → k ≤ length block → tabled (length block - k)
+    → Leaves (length block - k) k block r → length b ≡ 32 → ((i : ℕ) → i < 32 → seq b i ≡ byteAt r i) → ((i : ℕ) → length block - k ≤ i → i < 32 → seq b i ≡ 0)
     → Each (behindOf k b) (length block) block block′ → block′ ≡ writtenOf 0x163 1 (length block - k) block
-left-written k rows block block′ b r bs small h Q T L size are zeros E =
+left-written k block block′ b r bs small h T L size are zeros E =
     written-by 0x163 (passes 0x163 passes-163) 1 k block block′ bs small h stay
     (record {
       test = zero-codeword 0x163 1 p (take k block ++ drop k block′) (λ j l.
           ap (λ (q : List ℕ). eval 0x163 (power 0x163 (1 + j)) (take k block ++ q)) kept
-          ∙ kept-zero (1 + j) p (take k block) b r (take-bytes k block bs) bb size are zeros (L .zero-at 0x163 (power 0x163 (1 + j)) (Q .rows T j l)));
+          ∙ kept-zero (1 + j) p (take k block) b r (take-bytes k block bs) bb size are zeros (L .remains T .zero-at j l));
       size = length-drop k block′ ∙ ap (λ (n : ℕ). n - k) (E .size);
       bytes = λ i. rw kept (take-bytes p b bb i);
     })

@@ -6,10 +6,11 @@ ghost use lib.ListN.{length, getD};
 ghost use Rattle.field.specs.Table.{Field, polyOf};
 ghost use Rattle.algebra.specs.Sum.{seq};
 ghost use mathlib.Core.Bool.{true};
-ghost use Rattle.remainder.specs.Words.{tabled, Prepared};
+ghost use Rattle.remainder.specs.Words.{tabled, Prepared, Leaves};
 ghost use Rattle.parity.specs.Encode.{writtenOf, encodeOf, encoding};
 ghost use Rattle.parity.specs.Inner.{Monic, Generator};
 use reed_solomon::locator;
+use remainder::Register;
 
 mod division;
 
@@ -76,21 +77,40 @@ fn is_parity(b: &[u8; 32], parity: usize) -> bool
     true
 }
 
-// The first k bytes of a block are data of Han Xin's field; the others become their parity, by a table that is prepared once for all blocks
-// of one parity.
-pub fn write_with(field: &[u16; 1280], rows: &[u64], block: &mut [u8], k: usize)
-    requires { ⌜ Field (now field) × (polyOf (now field) ≡ 0x163) ⌝ }
-    requires { ⌜ (k ≤ length (now block)) × (length (now block) ≤ 255) × Prepared (length (now block) - k) (now rows) × (0 < k) ⌝ }
+// The first k bytes of a block are data of Han Xin's field, of which division leaves `left`; the others become their parity.
+fn write_left(block: &mut [u8], k: usize, left: Register)
+    requires { ⌜ (k ≤ length (now block)) × (length (now block) ≤ 255) × (0 < k) ⌝ }
+    requires { ⌜ Leaves (length (now block) - k) k (now block) left ⌝ }
     ensures { λ _. ⌜ now (block .exit) ≡ writtenOf 0x163 1 (length (now (block .entry)) - k) (now (block .entry)) ⌝ }
 {
     let n = block.len();
-    let b = remainder::bytes(remainder::remainder(rows, block, k));
+    let b = remainder::bytes(left);
     if is_parity(&b, n - k) {
         division::put_behind(block, k, &b);
         return;
     }
-    let g = generator(field, 1, n - k);
-    write_parity(field, &g, block, k);
+    let field = field::han_xin();
+    let g = generator(&field, 1, n - k);
+    write_parity(&field, &g, block, k);
+}
+
+// The same by a table that is prepared once for all blocks of one parity.
+pub fn write_with(rows: &[u64], block: &mut [u8], k: usize)
+    requires { ⌜ (k ≤ length (now block)) × (length (now block) ≤ 255) × Prepared (length (now block) - k) (now rows) × (0 < k) ⌝ }
+    ensures { λ _. ⌜ now (block .exit) ≡ writtenOf 0x163 1 (length (now (block .entry)) - k) (now (block .entry)) ⌝ }
+{
+    let left = remainder::remainder(rows, block, k);
+    write_left(block, k, left);
+}
+
+// The same for one short block, with no such table.
+pub fn write_short(block: &mut [u8], k: usize)
+    requires { ⌜ (k ≤ length (now block)) × (length (now block) ≤ 255) × (0 < k) ⌝ }
+    ensures { λ _. ⌜ now (block .exit) ≡ writtenOf 0x163 1 (length (now (block .entry)) - k) (now (block .entry)) ⌝ }
+{
+    let parity = block.len() - k;
+    let left = remainder::remainder_short(block, k, parity);
+    write_left(block, k, left);
 }
 
 // The parity of a block of the field with the lent table, whose first root is α^first.

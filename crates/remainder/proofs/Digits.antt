@@ -68,14 +68,13 @@ module _ (poly : ℕ) (P : Passes poly) (x : ℕ) where
   unfolding digits
   one-digit acc h lh = let q : h % 256 ≡ h = omega arith in ap (bitXor (mul poly acc x)) q
 
+  -- zeros in front of m bytes
+  pub digits-low : (n m v : ℕ) → v < 256 ^ m → digits poly x 0 (n + m) v ≡ digits poly x 0 m v
+  digits-low n m v h = let e : v ≡ 0 * 256 ^ m + v = omega arith in ap (digits poly x 0 (n + m)) e ∙ digits-split n m 0 0 v h ∙ ap (λ (y : ℕ). digits poly x y m v) (digits-none n)
+
   -- one byte more behind fewer than four
   pub digits-next : (v h : ℕ) → v < 16777216 → h < 256 → digits poly x 0 4 (v * 256 + h) ≡ bitXor (mul poly (digits poly x 0 4 v) x) h
-  digits-next v h lv lh =
-      let z : digits poly x 0 4 v ≡ digits poly x 0 3 v = ap (digits poly x 0 4) e ∙ digits-split 1 3 0 0 v lv ∙ ap (λ (y : ℕ). digits poly x y 3 v) (digits-none 1) in
-      digits-split 3 1 0 v h lh ∙ one-digit (digits poly x 0 3 v) h lh ∙ ap (λ (y : ℕ). bitXor (mul poly y x) h) (sym z)
-    where
-      e : v ≡ 0 * 256 ^ 3 + v
-      e = omega arith
+  digits-next v h lv lh = digits-split 3 1 0 v h lh ∙ one-digit (digits poly x 0 3 v) h lh ∙ ap (λ (y : ℕ). bitXor (mul poly y x) h) (sym (digits-low 1 3 v lv))
 
   -- a word moved up by n of its n + m bytes: those that leave it stand before it, and others come in behind
   word-moved : (n m e w v : ℕ) → v < 256 ^ n → w % 256 ^ m < 256 ^ m

@@ -17,7 +17,7 @@ use Rattle.field.proofs.Field.{Passes, passes, below-at}
 use Rattle.field.proofs.Instances.{passes-163}
 use Rattle.remainder.specs.declared.Register.{Register}
 use Rattle.remainder.specs.Words.{digits, behind, Zero, rowAt, sumOf, doubleOf, doubledOf, none, Rows, Put, Extended, Filling, Bytewise, Shifts, Filled}
-use Rattle.remainder.proofs.Digits.{digits-sum, behind-sum, digits-none}
+use Rattle.remainder.proofs.Digits.{digits-sum, behind-sum, digits-none, digits-next}
 use Rattle.remainder.proofs.Alpha.{zero-double}
 use Rattle.remainder.proofs.Steps.{empty-zero}
 use Rattle.remainder.proofs.Places.{register-eq}
@@ -145,7 +145,7 @@ filled-start g t size z = record {
   next = λ x y h. y;
 }
 
-pub filled-next : (k : ℕ) (g r n : Register) (t t′ : List ℕ) → Filled k g t r → k < 4 → Bytewise k r t t′ → Shifts t′ r n → Filled (k + 1) g t′ n
+pub filled-next : (k : ℕ) (g r n : Register) (t t′ : List ℕ) → Filled k g t r → k < 4 → Bytewise k r t t′ → Shifts t′ 0 r n → Filled (k + 1) g t′ n
 filled-next k g r n t t′ F h B S =
     let row : (x : ℕ) → Zero 0x163 x 1 g → (i f : ℕ) → i < 2 * (k + 1) → f < 16 → Zero 0x163 x (f * 2 ^ (4 * i)) (rowAt t′ (16 * i + f)) =
     λ x z i f a l. elim (decLt i (2 * k)) [
@@ -158,7 +158,10 @@ filled-next k g r n t t′ F h B S =
       free = λ m l. B .above m (omega arith) ∙ F .free m (omega arith);
       next = λ x z l.
           let e : 4 * (2 * (k + 1)) ≡ 4 * (2 * k) + 8 = omega arith in
-          rw (e, pow-add 2 (4 * (2 * k)) 8) (S .shifts 0x163 x (2 ^ (4 * (2 * k))) passes-163 (λ i f a b. row x z i f (omega arith) b) (small k (omega arith)) (F .next x z h));
+          let v = 2 ^ (4 * (2 * k)) in
+          rw (e, pow-add 2 (4 * (2 * k)) 8)
+          (ap (λ (a : ℕ). behind 0x163 x a n) (ap (digits 0x163 x 0 4) (sym (add-zero (v * 256))) ∙ digits-next 0x163 (passes 0x163 passes-163) x v 0 (small k (omega arith)) (omega arith))
+          ∙ S .shifts 0x163 x (digits 0x163 x 0 4 v) passes-163 (λ i f a b. row x z i f (omega arith) b) (F .next x z h));
     }
   where
     small : (k : ℕ) → k < 3 → 2 ^ (4 * (2 * k)) < 2 ^ 24

@@ -5,9 +5,9 @@ use Prim.Native.Nat.{ℕ, zero, suc, _+_, _-_, _*_, _/_, _%_, _^_, _≤_, _<_}
 use native.Mathlib.Omega.{arith}
 use native.Mathlib.Decide.{decLt}
 use native.Mathlib.Nat.{add-zero, add-mul, suc-mul}
-use lib.ListN.{length, getD, take}
+use lib.ListN.{length, getD, take, List·getD-eq-default}
 use lib.Pow.{shr-shr}
-use lib.Seq.{take-length, length-take-le, getD-take}
+use lib.Seq.{length-take-le, getD-take}
 use lib.Bits.{bitXor, xor-zero-l, xor-zero-r}
 use Rattle.field.specs.Field.{raised, mul, power}
 use Rattle.field.proofs.Field.{Passes, passes, mul-assoc, mul-one, mul-power, power-period, mul-lt}
@@ -20,7 +20,7 @@ use Rattle.reed_solomon.specs.Block.{eval}
 use Rattle.reed_solomon.specs.Inner.{Each, Syndromes}
 use Rattle.reed_solomon.proofs.Codeword.{eval-horner}
 use Rattle.remainder.specs.declared.Register.{Register}
-use Rattle.remainder.specs.Words.{digits, behind, sumOf, none, wordAt, byteAt, Kept, Remains, Prepared, tabled, Left}
+use Rattle.remainder.specs.Words.{digits, behind, sumOf, none, wordAt, byteAt, Kept, Remains, Leaves, Left, tabled}
 use Rattle.remainder.proofs.Digits.{behind-sum}
 use Rattle.remainder.proofs.Places.{register-eq}
 use Rattle.remainder.proofs.Steps.{empty-zero}
@@ -58,9 +58,9 @@ behind-horner poly x r =
 pub bytes-value : (poly x : ℕ) (r : Register) (s : List ℕ) → length s ≡ 32 → ((i : ℕ) → i < 32 → seq s i ≡ byteAt r i) → eval poly x s ≡ behind poly x 0 r
 bytes-value poly x r s e h = eval-horner poly x s ∙ ap (horner poly (seq s) x) e ∙ horner-ext poly (seq s) (byteAt r) x 32 h ∙ sym (behind-horner poly x r)
 
-first : (poly : ℕ) → power poly 0 ≡ 1
+pub power-first : (poly : ℕ) → power poly 0 ≡ 1
 unfolding raised
-first poly = refl
+power-first poly = refl
 
 module _ (poly : ℕ) (P : Passes poly) (m : ℕ) where
   -- n zeros behind a value
@@ -69,7 +69,7 @@ module _ (poly : ℕ) (P : Passes poly) (m : ℕ) where
   digits-zeros e zero h = let q : e % 256 ≡ e = omega arith in let o : 0 * m ≡ 0 = omega arith in sym (ap (λ (k : ℕ). mul poly e (power poly k)) o ∙ one ∙ q)
     where
       one : mul poly e (power poly 0) ≡ e % 256
-      one = ap (mul poly e) (first poly) ∙ mul-one poly P e
+      one = ap (mul poly e) (power-first poly) ∙ mul-one poly P e
   digits-zeros e (suc n) h =
       let o : n * m + m ≡ suc n * m = omega (arith, suc-mul n m) in
       ap (λ (y : ℕ). bitXor (mul poly y (power poly m)) 0) (digits-zeros e n h) ∙ xor-zero-r (mul poly (mul poly e (power poly (n * m))) (power poly m))
@@ -104,7 +104,7 @@ module _ (poly : ℕ) (P : Passes poly) (m : ℕ) where
       let q : e % 256 ≡ e = omega arith in
       sym (ap (λ (y : ℕ). mul poly y (power poly (223 * m))) (sym (add-zero-eq (mul poly e (power poly (32 * m))) (behind poly x 0 r) apart))
       ∙ mul-assoc poly P e (power poly (32 * m)) (power poly (223 * m))
-      ∙ ap (mul poly e) (mul-power poly P (32 * m) (223 * m) ∙ ap (power poly) o ∙ power-period poly P m 0 ∙ first poly) ∙ mul-one poly P e ∙ q)
+      ∙ ap (mul poly e) (mul-power poly P (32 * m) (223 * m) ∙ ap (power poly) o ∙ power-period poly P m 0 ∙ power-first poly) ∙ mul-one poly P e ∙ q)
 
   pub none-left : (e : ℕ) → e < 256 → behind poly (power poly m) e none ≡ 0 → e ≡ 0
   none-left e h z = lowered e none h z ∙ ap (λ (y : ℕ). mul poly y (power poly (223 * m))) (empty-zero poly P (power poly m)) ∙ mul-left-zero poly (power poly (223 * m))
@@ -119,7 +119,7 @@ horner-zeros poly P m f k zero bs z =
     let h = horner poly f (power poly m) k in
     let l : h < 256 = horner-lt poly P f (power poly m) k bs in
     let r : h % 256 ≡ h = omega arith in
-    ap (horner poly f (power poly m)) o ∙ sym (ap (λ (e : ℕ). mul poly h (power poly e)) q ∙ ap (mul poly h) (first poly) ∙ mul-one poly P h ∙ r)
+    ap (horner poly f (power poly m)) o ∙ sym (ap (λ (e : ℕ). mul poly h (power poly e)) q ∙ ap (mul poly h) (power-first poly) ∙ mul-one poly P h ∙ r)
 horner-zeros poly P m f k (suc n) bs z =
     let x = power poly m in
     let h = horner poly f x k in
@@ -164,14 +164,21 @@ syndromes-left poly P first parity k block r b s s′ R K lb is S E = record {
         eval-horner poly x (take k b) ∙ ap (horner poly (seq (take k b)) x) (length-take-le k b (omega (arith, lb, K .few)))
         ∙ horner-ext poly (seq (take k b)) (byteAt r) x k (λ i h. getD-take k b i 0 h ∙ is i (omega (arith, K .few)))
 
--- what the division leaves of a whole block
-pub remains : (parity : ℕ) (t block : List ℕ) (r : Register) → Prepared parity t → tabled parity → ((i : ℕ) → seq block i < 256) → Left t (length block) block r
-    → Remains 0x163 1 parity block r
-remains parity t block r Q T bs L = record {
-  byte = λ j h. omega (arith, eval-horner 0x163 (power 0x163 (1 + j)) block, horner-lt 0x163 (passes 0x163 passes-163) (seq block) (power 0x163 (1 + j)) (length block) bs);
-  zero-at = λ j h. let x = power 0x163 (1 + j) in
-      ap (λ (b : List ℕ). behind 0x163 x (eval 0x163 x b) r) (sym (take-length block)) ∙ L .zero-at 0x163 x (Q .rows T j h);
+-- what the division leaves of the first k bytes, where the roots are those of a parity
+pub leaves : (Root : ℕ → Type 0) (parity k : ℕ) (block : List ℕ) (r : Register) → (tabled parity → (j : ℕ) → j < parity → Root (power 0x163 (1 + j))) → k ≤ length block
+    → ((i : ℕ) → seq block i < 256) → Left Root k block r → Leaves parity k block r
+leaves Root parity k block r roots h bs L = record {
+  remains = λ T. record {
+    byte = λ j l. omega (arith, eval-horner 0x163 (power 0x163 (1 + j)) (take k block), horner-lt 0x163 (passes 0x163 passes-163) (seq (take k block)) (power 0x163 (1 + j)) (length (take k block)) bytes);
+    zero-at = λ j l. L .zero-at (power 0x163 (1 + j)) (roots T j l);
+  };
 }
+  where
+    bytes : (i : ℕ) → seq (take k block) i < 256
+    bytes i = elim (decLt i k) [
+      | yes l ↦ omega (arith, getD-take k block i 0 l, bs i)
+      | no l ↦ omega (arith, List·getD-eq-default (take k block) 0 {n = i} (omega (arith, length-take-le k block h)))
+    ]
 
 -- nothing is left of a codeword only
 pub none-remains : (parity : ℕ) (block : List ℕ) → Remains 0x163 1 parity block none → (j : ℕ) → j < parity → eval 0x163 (power 0x163 (1 + j)) block ≡ 0

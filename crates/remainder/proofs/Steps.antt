@@ -11,11 +11,12 @@ use lib.Pow.{mod-pow-add, pow-pos}
 use lib.Bits.{bitXor, xor-comm, xor-self, xor-zero-l, xor-zero-r, xor-shifted, xor-lt}
 use Rattle.field.specs.Field.{mul, orderTest}
 use Rattle.field.proofs.Field.{Passes, passes}
+use Rattle.field.proofs.Instances.{passes-163}
 use Rattle.field.proofs.Xor.{xor-assoc}
 use Rattle.reed_solomon.specs.Block.{evalFrom}
 use Rattle.remainder.specs.declared.Register.{Register}
-use Rattle.remainder.specs.Words.{digits, behind, Zero, rowAt, sumOf, movedOf, Rows, Front, Keeps, Left}
-use Rattle.remainder.proofs.Digits.{pow-up, digits-sum, behind-sum, behind-moved, digits-none, digits-next, one-digit}
+use Rattle.remainder.specs.Words.{digits, behind, Zero, rowAt, sumOf, movedOf, Rows, Adds, Front, Keeps, Left, ByteRows, Shifts}
+use Rattle.remainder.proofs.Digits.{pow-up, digits-sum, behind-sum, behind-moved, digits-none, digits-low, digits-next, one-digit}
 
 -- the low i + 1 hexadecimal digits
 low-next : (x i : ℕ) → bitXor (x % 2 ^ (4 * i)) (x / 2 ^ (4 * i) % 16 * 2 ^ (4 * i)) ≡ x % 2 ^ (4 * (i + 1))
@@ -26,25 +27,17 @@ low-next x i =
     ∙ sym (ap (λ (n : ℕ). x % 2 ^ n) e ∙ mod-pow-add x 4 (4 * i))
 
 module _ (poly : ℕ) (P : Passes poly) (x : ℕ) where
-  -- the row of one more digit of y
-  pub add-row : (e h y i : ℕ) (n row : Register) → Zero poly x (y / 2 ^ (4 * i) % 16 * 2 ^ (4 * i)) row
-      → behind poly x (digits poly x e 4 (bitXor h (y % 2 ^ (4 * i)))) n ≡ 0 → behind poly x (digits poly x e 4 (bitXor h (y % 2 ^ (4 * (i + 1))))) (sumOf n row) ≡ 0
-  add-row e h y i n row w z =
+  -- the row of one more digit of y, where m bytes are read
+  add-row : (m e h y i : ℕ) (n row : Register) → behind poly x (digits poly x 0 m (y / 2 ^ (4 * i) % 16 * 2 ^ (4 * i))) row ≡ 0
+      → behind poly x (digits poly x e m (bitXor h (y % 2 ^ (4 * i)))) n ≡ 0 → behind poly x (digits poly x e m (bitXor h (y % 2 ^ (4 * (i + 1))))) (sumOf n row) ≡ 0
+  add-row m e h y i n row w z =
       let f = y / 2 ^ (4 * i) % 16 in
       let lo = y % 2 ^ (4 * i) in
       ap (λ (a : ℕ). behind poly x a (sumOf n row))
-      (ap₂ (λ (a b : ℕ). digits poly x a 4 b) (sym (xor-zero-r e)) (ap (bitXor h) (sym (low-next y i)) ∙ sym (xor-assoc h lo (f * 2 ^ (4 * i))))
-      ∙ digits-sum poly P x 4 e 0 (bitXor h lo) (f * 2 ^ (4 * i)))
-      ∙ behind-sum poly P x (digits poly x e 4 (bitXor h lo)) (digits poly x 0 4 (f * 2 ^ (4 * i))) n row
+      (ap₂ (λ (a b : ℕ). digits poly x a m b) (sym (xor-zero-r e)) (ap (bitXor h) (sym (low-next y i)) ∙ sym (xor-assoc h lo (f * 2 ^ (4 * i))))
+      ∙ digits-sum poly P x m e 0 (bitXor h lo) (f * 2 ^ (4 * i)))
+      ∙ behind-sum poly P x (digits poly x e m (bitXor h lo)) (digits poly x 0 m (f * 2 ^ (4 * i))) n row
       ∙ ap₂ bitXor z w
-
-  -- one byte leaves the register
-  pub byte-on : (v : ℕ) (r : Register) → v < 2 ^ 24 → r .a < 2 ^ 64 → r .b < 2 ^ 64 → r .c < 2 ^ 64 → r .d < 2 ^ 64 → Zero poly x v r
-      → Zero poly x (v * 256 + r .a / 2 ^ 56) (movedOf 1 7 r)
-  byte-on v r lv la lb lc ld z =
-      ap (λ (a : ℕ). behind poly x a (movedOf 1 7 r)) (digits-next poly P x v (r .a / 2 ^ 56) lv (omega arith) ∙ sym (one-digit poly P x (digits poly x 0 4 v) (r .a / 2 ^ 56) (omega arith)))
-      ∙ behind-moved poly P x 1 7 (digits poly x 0 4 v) r refl (omega arith) (omega arith) (omega arith)
-      ∙ ap (λ (a : ℕ). digits poly x a 1 0) z ∙ digits-none poly P x 1
 
 module _ (poly x : ℕ) (t : List ℕ) (R : Rows poly x t) where
   P : Passes poly
@@ -52,9 +45,9 @@ module _ (poly x : ℕ) (t : List ℕ) (R : Rows poly x t) where
 
   pub add-next : (e h y i : ℕ) (n : Register) → i < 8 → behind poly x (digits poly x e 4 (bitXor h (y % 2 ^ (4 * i)))) n ≡ 0
       → behind poly x (digits poly x e 4 (bitXor h (y % 2 ^ (4 * (i + 1))))) (sumOf n (rowAt t (16 * i + y / 2 ^ (4 * i) % 16))) ≡ 0
-  add-next e h y i n li z = add-row poly P x e h y i n (rowAt t (16 * i + y / 2 ^ (4 * i) % 16)) (R .zero-at i (y / 2 ^ (4 * i) % 16) li (omega arith)) z
+  add-next e h y i n li z = add-row poly P x 4 e h y i n (rowAt t (16 * i + y / 2 ^ (4 * i) % 16)) (R .zero-at i (y / 2 ^ (4 * i) % 16) li (omega arith)) z
 
-  pub moved-on : (e : ℕ) (r : Register) → r .b < 2 ^ 64 → r .c < 2 ^ 64 → r .d < 2 ^ 64 → behind poly x e r ≡ 0
+  moved-on : (e : ℕ) (r : Register) → r .b < 2 ^ 64 → r .c < 2 ^ 64 → r .d < 2 ^ 64 → behind poly x e r ≡ 0
       → behind poly x (digits poly x e 4 (r .a / 2 ^ 32)) (movedOf 4 4 r) ≡ 0
   moved-on e r lb lc ld z =
       behind-moved poly P x 4 4 e r refl (omega arith) (omega arith) (omega arith)
@@ -70,7 +63,7 @@ all-digits y i a b l =
     let m : y % 4294967296 ≡ y = omega arith in
     ap (λ (n : ℕ). y % 2 ^ n) e ∙ m
 
-pub back : (h v : ℕ) → bitXor h (bitXor h v) ≡ v
+back : (h v : ℕ) → bitXor h (bitXor h v) ≡ v
 back h v = sym (xor-assoc h h v) ∙ ap (λ (a : ℕ). bitXor a v) (xor-self h) ∙ xor-zero-l v
 
 -- one byte more of a block
@@ -130,42 +123,69 @@ front-lt xs (suc (suc zero)) v F h = omega (arith, F .small)
 front-lt xs (suc (suc (suc zero))) v F h = omega (arith, F .small)
 front-lt xs (suc (suc (suc (suc i)))) v F h = absurd (omega arith)
 
--- nothing read
+-- nothing followed by nothing
 pub empty-zero : (poly : ℕ) → Passes poly → (x : ℕ) → behind poly x 0 (record { a = 0; b = 0; c = 0; d = 0 }) ≡ 0
 unfolding behind
 empty-zero poly P x =
     ap (λ (y : ℕ). digits poly x (digits poly x (digits poly x y 8 0) 8 0) 8 0) (digits-none poly P x 8) ∙ ap (λ (y : ℕ). digits poly x (digits poly x y 8 0) 8 0) (digits-none poly P x 8)
     ∙ ap (λ (y : ℕ). digits poly x y 8 0) (digits-none poly P x 8) ∙ digits-none poly P x 8
 
-pub left-start : (t block : List ℕ) (m v : ℕ) (r : Register) → Front block m v → Keeps t v (record { a = 0; b = 0; c = 0; d = 0 }) r → Left t m block r
+-- nothing read
+pub left-none : (Root : ℕ → Type 0) (block : List ℕ) → Left Root 0 block (record { a = 0; b = 0; c = 0; d = 0 })
+unfolding evalFrom
+left-none Root block = record { zero-at = λ x R. empty-zero 0x163 (passes 0x163 passes-163) x }
+
+pub left-start : (t block : List ℕ) (m v : ℕ) (r : Register) → Front block m v → Keeps t v (record { a = 0; b = 0; c = 0; d = 0 }) r → Left (λ x. Rows 0x163 x t) m block r
 left-start t block m v r F K = record {
-  zero-at = λ poly x R. ap (λ (e : ℕ). behind poly x e r) (sym (F .value poly x (R .field))) ∙ K .keeps poly x 0 R (empty-zero poly (passes poly (R .field)) x);
+  zero-at = λ x R. ap (λ (e : ℕ). behind 0x163 x e r) (sym (F .value 0x163 x (R .field))) ∙ K .keeps 0x163 x 0 R (empty-zero 0x163 (passes 0x163 (R .field)) x);
 }
 
-pub left-next : (t block : List ℕ) (i v : ℕ) (r n : Register) → Left t i block r → i + 4 ≤ length block → ((j : ℕ) → getD block j 0 < 256)
-    → v ≡ getD block i 0 * 16777216 + getD block (i + 1) 0 * 65536 + getD block (i + 2) 0 * 256 + getD block (i + 3) 0 → Keeps t v r n → Left t (i + 4) block n
+pub left-next : (t block : List ℕ) (i v : ℕ) (r n : Register) → Left (λ x. Rows 0x163 x t) i block r → i + 4 ≤ length block → ((j : ℕ) → getD block j 0 < 256)
+    → v ≡ getD block i 0 * 16777216 + getD block (i + 1) 0 * 65536 + getD block (i + 2) 0 * 256 + getD block (i + 3) 0 → Keeps t v r n → Left (λ x. Rows 0x163 x t) (i + 4) block n
 left-next t block i v r n L h bs e K = record {
-  zero-at = λ poly x R. ap (λ (e : ℕ). behind poly x e n) (sym (eval-four poly x block i v h bs e)) ∙ K .keeps poly x (evalFrom poly x 0 (take i block)) R (L .zero-at poly x R);
+  zero-at = λ x R. ap (λ (e : ℕ). behind 0x163 x e n) (sym (eval-four 0x163 x block i v h bs e)) ∙ K .keeps 0x163 x (evalFrom 0x163 x 0 (take i block)) R (L .zero-at x R);
 }
 
--- where the byte that left is taken off
-pub off-again : (v y : ℕ) → y < 256 → bitXor (v * 256 + y) (y % 2 ^ (4 * 2)) ≡ v * 256
-off-again v y h =
-    let o : y % 256 ≡ y = omega arith in
-    ap (bitXor (v * 256 + y)) o ∙ ap (λ (a : ℕ). bitXor a y) (sym (xor-shifted v 8 y h)) ∙ xor-assoc (v * 256) y y ∙ ap (bitXor (v * 256)) (xor-self y) ∙ xor-zero-r (v * 256)
+-- one byte more
+pub left-byte : (t block : List ℕ) (i v : ℕ) (r n : Register) → Left (λ x. ByteRows 0x163 x t) i block r → i < length block → v ≡ getD block i 0 → Shifts t v r n
+    → Left (λ x. ByteRows 0x163 x t) (i + 1) block n
+left-byte t block i v r n L h e S = record {
+  zero-at = λ x R. ap (λ (a : ℕ). behind 0x163 x a n) (eval-next 0x163 x 0 block i (i + 1) (omega arith) h ∙ ap (bitXor (mul 0x163 (evalFrom 0x163 x 0 (take i block)) x)) (sym e))
+      ∙ S .shifts 0x163 x (evalFrom 0x163 x 0 (take i block)) passes-163 R (L .zero-at x R);
+}
 
--- a register one byte further up, where the byte that leaves it is taken off by its two rows
-pub shift-on : (poly : ℕ) (P : Passes poly) (x : ℕ) (t : List ℕ) → ((i f : ℕ) → i < 2 → f < 16 → Zero poly x (f * 2 ^ (4 * i)) (rowAt t (16 * i + f)))
-    → (v : ℕ) (r : Register) → v < 2 ^ 24 → r .a < 2 ^ 64 → r .b < 2 ^ 64 → r .c < 2 ^ 64 → r .d < 2 ^ 64 → Zero poly x v r
-    → Zero poly x (v * 256) (sumOf (sumOf (movedOf 1 7 r) (rowAt t (16 * 0 + r .a / 2 ^ 56 / 2 ^ (4 * 0) % 16))) (rowAt t (16 * 1 + r .a / 2 ^ 56 / 2 ^ (4 * 1) % 16)))
-shift-on poly P x t rows v r lv la lb lc ld z =
-    let y = r .a / 2 ^ 56 in
-    let h = v * 256 + y in
-    let n₀ = movedOf 1 7 r in
-    let n₁ = sumOf n₀ (rowAt t (16 * 0 + y / 2 ^ (4 * 0) % 16)) in
-    let n₂ = sumOf n₁ (rowAt t (16 * 1 + y / 2 ^ (4 * 1) % 16)) in
-    let z₀ : behind poly x (digits poly x 0 4 (bitXor h (y % 2 ^ (4 * 0)))) n₀ ≡ 0 =
-    ap (λ (a : ℕ). behind poly x (digits poly x 0 4 a) n₀) (no-digits h y) ∙ byte-on poly P x v r lv la lb lc ld z in
-    let z₁ = add-row poly P x 0 h y 0 n₀ (rowAt t (16 * 0 + y / 2 ^ (4 * 0) % 16)) (rows 0 (y / 2 ^ (4 * 0) % 16) (omega arith) (omega arith)) z₀ in
-    let z₂ = add-row poly P x 0 h y 1 n₁ (rowAt t (16 * 1 + y / 2 ^ (4 * 1) % 16)) (rows 1 (y / 2 ^ (4 * 1) % 16) (omega arith) (omega arith)) z₁ in
-    ap (λ (a : ℕ). behind poly x (digits poly x 0 4 a) n₂) (sym (off-again v y (omega arith))) ∙ z₂
+-- four bytes leave a register, v comes in, and the rows of their sum y are added
+pub step-on : (t : List ℕ) (v y : ℕ) (r m n : Register) → r .b < 2 ^ 64 → r .c < 2 ^ 64 → r .d < 2 ^ 64 → m ≡ movedOf 4 4 r → Adds t y m n → y ≡ bitXor (r .a / 2 ^ 32) v → Keeps t v r n
+step-on t v y r m n lb lc ld moved A is = record {
+  keeps = λ poly x e R z. let h = r .a / 2 ^ 32 in
+      ap (λ (a : ℕ). behind poly x (digits poly x e 4 a) n) (sym (ap (bitXor h) is ∙ back h v))
+      ∙ A .adds poly x e h R (ap (behind poly x (digits poly x e 4 h)) moved ∙ moved-on poly x t R e r lb lc ld z);
+}
+
+-- one byte leaves a register, v comes in, and the two rows of their sum y are added
+pub shift-on : (t : List ℕ) (v y : ℕ) (r m n₁ n₂ : Register) → v < 256 → r .a < 2 ^ 64 → r .b < 2 ^ 64 → r .c < 2 ^ 64 → r .d < 2 ^ 64 → m ≡ movedOf 1 7 r
+    → n₁ ≡ sumOf m (rowAt t (16 * 0 + y / 2 ^ (4 * 0) % 16)) → n₂ ≡ sumOf n₁ (rowAt t (16 * 1 + y / 2 ^ (4 * 1) % 16)) → y ≡ bitXor (r .a / 2 ^ 56) v → Shifts t v r n₂
+shift-on t v y r m n₁ n₂ lv la lb lc ld moved first second is = record { shifts = on }
+  where
+    h : ℕ
+    h = r .a / 2 ^ 56
+
+    last : bitXor h (y % 2 ^ (4 * 2)) ≡ v
+    last =
+        let ly : y < 256 = omega (arith, is, xor-lt 8 (r .a / 2 ^ 56) v (omega arith) lv) in
+        let o : y % 256 ≡ y = omega arith in
+        ap (bitXor h) (o ∙ is) ∙ back h v
+
+    on : (poly x e : ℕ) → T (orderTest poly) → ByteRows poly x t → behind poly x e r ≡ 0 → behind poly x (bitXor (mul poly e x) v) n₂ ≡ 0
+    on poly x e test rows z =
+        let P : Passes poly = passes poly test in
+        let one : (f : ℕ) (row : Register) → f < 256 → Zero poly x f row → behind poly x (digits poly x 0 1 f) row ≡ 0 =
+        λ f row l w. ap (λ (a : ℕ). behind poly x a row) (sym (digits-low poly P x 3 1 f l)) ∙ w in
+        let z₀ : behind poly x (digits poly x e 1 (bitXor h (y % 2 ^ (4 * 0)))) m ≡ 0 =
+        ap₂ (λ (a : ℕ) (b : Register). behind poly x (digits poly x e 1 a) b) (no-digits h y) moved
+        ∙ behind-moved poly P x 1 7 e r refl (omega arith) (omega arith) (omega arith) ∙ ap (λ (a : ℕ). digits poly x a 1 0) z ∙ digits-none poly P x 1 in
+        let z₁ : behind poly x (digits poly x e 1 (bitXor h (y % 2 ^ (4 * 1)))) n₁ ≡ 0 =
+        ap (behind poly x (digits poly x e 1 (bitXor h (y % 2 ^ (4 * 1))))) first
+        ∙ add-row poly P x 1 e h y 0 m (rowAt t (16 * 0 + y / 2 ^ (4 * 0) % 16)) (one _ _ (omega arith) (rows 0 (y / 2 ^ (4 * 0) % 16) (omega arith) (omega arith))) z₀ in
+        ap₂ (behind poly x) (sym (one-digit poly P x e v lv) ∙ ap (digits poly x e 1) (sym last)) second
+        ∙ add-row poly P x 1 e h y 1 n₁ (rowAt t (16 * 1 + y / 2 ^ (4 * 1) % 16)) (one _ _ (omega arith) (rows 1 (y / 2 ^ (4 * 1) % 16) (omega arith) (omega arith))) z₁

@@ -67,9 +67,9 @@ pub record Front (block : List ℕ) (n v : ℕ) : Type 0 where
   pub small : v < 256 ^ n
   pub value : (poly x : ℕ) → T (orderTest poly) → digits poly x 0 4 v ≡ evalFrom poly x 0 (take n block)
 
--- the first k bytes of a block followed by the register r are zero wherever the rows are
-pub record Left (t : List ℕ) (k : ℕ) (block : List ℕ) (r : Register) : Type 0 where
-  pub zero-at : (poly x : ℕ) → Rows poly x t → behind poly x (evalFrom poly x 0 (take k block)) r ≡ 0
+-- the first k bytes of a block followed by the register r are zero at each root
+pub record Left (Root : ℕ → Type 0) (k : ℕ) (block : List ℕ) (r : Register) : Type 0 where
+  pub zero-at : (x : ℕ) → Root x → behind 0x163 x (evalFrom 0x163 x 0 (take k block)) r ≡ 0
 
 -- the row n set to r
 pub record Put (n : ℕ) (r : Register) (t t′ : List ℕ) : Type 0 where
@@ -99,9 +99,13 @@ pub record Bytewise (k : ℕ) (r : Register) (t t′ : List ℕ) : Type 0 where
   pub below : (m : ℕ) → m < 32 * k → rowAt t′ m ≡ rowAt t m
   pub above : (m : ℕ) → 32 * k + 32 ≤ m → rowAt t′ m ≡ rowAt t m
 
--- the row of what stands one byte higher, by the rows of the last byte
-pub record Shifts (t : List ℕ) (r n : Register) : Type 0 where
-  pub shifts : (poly x v : ℕ) → T (orderTest poly) → ((i f : ℕ) → i < 2 → f < 16 → Zero poly x (f * 2 ^ (4 * i)) (rowAt t (16 * i + f))) → v < 2 ^ 24 → Zero poly x v r → Zero poly x (v * 256) n
+-- the rows of the last byte
+abbrev pub ByteRows : ℕ → ℕ → List ℕ → Type 0
+ByteRows poly x t = (i f : ℕ) → i < 2 → f < 16 → Zero poly x (f * 2 ^ (4 * i)) (rowAt t (16 * i + f))
+
+-- what a step by one byte v keeps, by the rows of the last byte
+pub record Shifts (t : List ℕ) (v : ℕ) (r n : Register) : Type 0 where
+  pub shifts : (poly x e : ℕ) → T (orderTest poly) → ByteRows poly x t → behind poly x e r ≡ 0 → behind poly x (bitXor (mul poly e x) v) n ≡ 0
 
 -- the rows of the k last bytes in a table of the generator g, and r, the first row of the next
 pub record Filled (k : ℕ) (g : Register) (t : List ℕ) (r : Register) : Type 0 where
@@ -137,3 +141,7 @@ pub record Kept (r : Register) (k : ℕ) : Type 0 where
 pub record Remains (poly first parity : ℕ) (block : List ℕ) (r : Register) : Type 0 where
   pub byte : (j : ℕ) → j < parity → eval poly (power poly (first + j)) block < 256
   pub zero-at : (j : ℕ) → j < parity → behind poly (power poly (first + j)) (eval poly (power poly (first + j)) block) r ≡ 0
+
+-- r is what the division leaves of the first k bytes of a block, where there is a generator for the parity
+pub record Leaves (parity k : ℕ) (block : List ℕ) (r : Register) : Type 0 where
+  pub remains : tabled parity → Remains 0x163 1 parity (take k block) r

@@ -6,12 +6,11 @@ ghost use mathlib.Core.List.{List};
 ghost use Prim.Native.Nat.{ℕ, _+_, _-_, _*_, _/_, _%_, _^_, _≤_, _<_};
 ghost use lib.ListN.{length, getD, take};
 ghost use lib.Bits.{bitXor};
-ghost use Rattle.remainder.specs.Words.{digits, behind, Zero, rowAt, sumOf, doubleOf, doubledOf, movedOf, none, Rows, Adds, Keeps, Front, Left, Put, Extended, Filling, Bytewise, Shifts, Prepared, wordAt, byteAt, Kept, Remains};
+ghost use Rattle.remainder.specs.Words.{digits, behind, Zero, rowAt, sumOf, doubleOf, doubledOf, movedOf, none, Rows, Adds, Keeps, Front, Put, Extended, Filling, Bytewise, Shifts, Prepared, wordAt, byteAt, Kept, tabled, Remains, Leaves};
 ghost use mathlib.Core.Bool.{true};
 ghost use Rattle.field.specs.Field.{power, mul};
 ghost use Rattle.field.specs.Table.{Field, polyOf};
 ghost use Rattle.reed_solomon.specs.Inner.{Each, Syndromes};
-ghost use Rattle.remainder.specs.Generators.{generators};
 use reed_solomon::syndromes;
 
 mod table;
@@ -123,7 +122,7 @@ fn digit(x: u64, i: usize) -> usize
 }
 
 fn add_digit(t: &[u64], r: Register, x: u64, i: usize) -> Register
-    requires { ⌜ (length (now t) ≡ 512) × (i < 8) ⌝ }
+    requires { ⌜ (64 * i + 64 ≤ length (now t)) × (i < 8) ⌝ }
     ensures { λ n. ⌜ n ≡ sumOf r (rowAt (now (t .entry)) (16 * i + x / 2 ^ (4 * i) % 16)) ⌝ }
 {
     sum(r, row_at(t, 16 * i + digit(x, i)))
@@ -182,7 +181,7 @@ fn front(s: &[u8], n: usize) -> u64
 // What is left of the first k bytes of a block.
 pub fn remainder(t: &[u64], block: &[u8], k: usize) -> Register
     requires { ⌜ (length (now t) ≡ 512) × (k ≤ length (now block)) ⌝ }
-    ensures { λ r. ⌜ Left (now (t .entry)) k (now (block .entry)) r ⌝ }
+    ensures { λ r. ⌜ ((parity : ℕ) → Prepared parity (now (t .entry)) → Leaves parity k (now (block .entry)) r) ⌝ }
 {
     let none = Register {
         a: 0,
@@ -202,7 +201,7 @@ pub fn remainder(t: &[u64], block: &[u8], k: usize) -> Register
 
 // The rows from at + n on, n of them, are those from `at` on plus r.
 fn extend(t: &mut [u64], at: usize, n: usize, r: Register)
-    requires { ⌜ (length (now t) ≡ 512) × (at + (n + n) ≤ 128) ⌝ }
+    requires { ⌜ (4 * (at + (n + n)) ≤ length (now t)) × (at + (n + n) ≤ 128) ⌝ }
     ensures { λ _. ⌜ Extended at n n r (now (t .entry)) (now (t .exit)) ⌝ }
 {
     let mut f: usize = 0;
@@ -215,7 +214,7 @@ fn extend(t: &mut [u64], at: usize, n: usize, r: Register)
 
 // The rows of the digit i, where `first` is that of 1. The answer is the row of 16, which is the next digit's first in the same byte.
 fn fill_digit(t: &mut [u64], i: usize, first: Register) -> Register
-    requires { ⌜ (length (now t) ≡ 512) × (i < 8) × (rowAt (now t) (16 * i) ≡ none) ⌝ }
+    requires { ⌜ (64 * i + 64 ≤ length (now t)) × (i < 8) × (rowAt (now t) (16 * i) ≡ none) ⌝ }
     ensures { λ r. ⌜ Filling i 4 first (now (t .entry)) (now (t .exit)) r ⌝ }
 {
     let mut r = first;
@@ -230,19 +229,19 @@ fn fill_digit(t: &mut [u64], i: usize, first: Register) -> Register
 
 // The rows of the byte k of four, where r is that of 1.
 fn fill_byte(t: &mut [u64], k: usize, r: Register)
-    requires { ⌜ (length (now t) ≡ 512) × (k < 4) × (rowAt (now t) (32 * k) ≡ none) × (rowAt (now t) (32 * k + 16) ≡ none) ⌝ }
+    requires { ⌜ (128 * k + 128 ≤ length (now t)) × (k < 4) × (rowAt (now t) (32 * k) ≡ none) × (rowAt (now t) (32 * k + 16) ≡ none) ⌝ }
     ensures { λ _. ⌜ Bytewise k r (now (t .entry)) (now (t .exit)) ⌝ }
 {
     let next = fill_digit(t, 2 * k, r);
     fill_digit(t, 2 * k + 1, next);
 }
 
-// One byte further up: the byte that leaves the register is taken off by its rows.
-fn shifted(t: &[u64], r: Register) -> Register
-    requires { ⌜ length (now t) ≡ 512 ⌝ }
-    ensures { λ n. ⌜ Shifts (now (t .entry)) r n ⌝ }
+// One byte more, v: the byte that leaves the register is taken off by the rows of the last byte, which a short table has too.
+fn shifted(t: &[u64], r: Register, v: u64) -> Register
+    requires { ⌜ (128 ≤ length (now t)) × (v < 256) ⌝ }
+    ensures { λ n. ⌜ Shifts (now (t .entry)) v r n ⌝ }
 {
-    let y = r.a >> 56;
+    let y = (r.a >> 56) ^ v;
     add_digit(t, add_digit(t, moved(r), y, 0), y, 1)
 }
 
@@ -255,14 +254,14 @@ fn fill_rows(t: &mut [u64], g: Register)
     let mut k: usize = 0;
     while k < 4 {
         fill_byte(t, k, r);
-        r = shifted(t, r);
+        r = shifted(t, r, 0);
         k += 1;
     }
 }
 
 // The generator of a parity, and nothing where the parity is not tabled.
 fn generator(parity: usize) -> Register
-    ensures { λ r. ⌜ (2 ≤ parity → parity ≤ 32 → r ≡ rowAt generators (parity / 2 - 1)) ⌝ }
+    ensures { λ r. ⌜ (tabled parity → (j : ℕ) → j < parity → Zero 0x163 (power 0x163 (1 + j)) 1 r) ⌝ }
 {
     if parity < 2 {
         return Register {
@@ -292,6 +291,28 @@ pub fn prepare(t: &mut [u64], parity: usize)
     fill_rows(t, generator(parity));
 }
 
+// What is left of the first k bytes of a block, one byte a time by a table of one byte: for one short block a table of four bytes costs
+// more than it saves.
+pub fn remainder_short(block: &[u8], k: usize, parity: usize) -> Register
+    requires { ⌜ k ≤ length (now block) ⌝ }
+    ensures { λ r. ⌜ Leaves parity k (now (block .entry)) r ⌝ }
+{
+    let mut t = [0u64; 128];
+    fill_byte(&mut t, 0, generator(parity));
+    let mut r = Register {
+        a: 0,
+        b: 0,
+        c: 0,
+        d: 0,
+    };
+    let mut i: usize = 0;
+    while i < k {
+        r = shifted(&t, r, wide(block[i]));
+        i += 1;
+    }
+    r
+}
+
 // The word k of a register.
 fn word_at(r: Register, k: usize) -> u64
     ensures { λ w. ⌜ w ≡ wordAt r k ⌝ }
@@ -314,19 +335,6 @@ fn byte_at(r: Register, i: usize) -> u8
     ((word_at(r, i / 8) >> (56 - 8 * (i % 8))) % 256) as u8
 }
 
-// The bytes of a register.
-pub fn bytes(r: Register) -> [u8; 32]
-    ensures { λ s. ⌜ (length s ≡ 32) × ((i : ℕ) → i < 32 → getD s i 0 ≡ byteAt r i) ⌝ }
-{
-    let mut s = [0u8; 32];
-    let mut i: usize = 0;
-    while i < 32 {
-        s[i] = byte_at(r, i);
-        i += 1;
-    }
-    s
-}
-
 // How many bytes of a register are looked at: those up to its last word that is not zero.
 fn kept(r: Register) -> usize
     ensures { λ k. ⌜ Kept r k ⌝ }
@@ -341,6 +349,20 @@ fn kept(r: Register) -> usize
         return 16;
     }
     8
+}
+
+// The bytes of a register. Those that are zero anyway are not unpacked.
+pub fn bytes(r: Register) -> [u8; 32]
+    ensures { λ s. ⌜ (length s ≡ 32) × ((i : ℕ) → i < 32 → getD s i 0 ≡ byteAt r i) ⌝ }
+{
+    let k = kept(r);
+    let mut s = [0u8; 32];
+    let mut i: usize = 0;
+    while i < k {
+        s[i] = byte_at(r, i);
+        i += 1;
+    }
+    s
 }
 
 // The syndromes of a block out of those of what is left of it, which stands 255 - n places higher: syndrome j times α^(n (first + j)).

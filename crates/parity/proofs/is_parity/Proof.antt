@@ -1,6 +1,6 @@
 -- `is_parity` meets its contract. Assumes nothing.
 use mathlib.Core.Path.{_≡_}
-use mathlib.Core.Bool.{true, false}
+use mathlib.Core.Bool.{false≢true}
 use Prim.Native.Nat.{ℕ, _+_, _-_, _≤_, _<_}
 use native.Mathlib.Omega.{arith}
 use native.Mathlib.Decide.{decLt}
@@ -9,9 +9,6 @@ use lib.ListN.{getD}
 use Rattle.parity.proofs.is_parity.Statement.{statement}
 use Rattle.parity.proofs.is_parity.Tie as tie
 
-never : false ≡ true → _≡_ {A = ℕ} 0 1
-never e = cc
-
 abbrev Inv-loop : tie.InvT-loop
 Inv-loop b parity i₀ i = (parity ≤ i) × (i ≤ 32) × ((k : ℕ) → parity ≤ k → k < i → getD b k 0 ≡ 0)
 
@@ -19,19 +16,19 @@ abbrev μ-loop : tie.MeasureT-loop
 μ-loop b parity i₀ i = 32 - i
 
 returns : tie.Need-returns Inv-loop μ-loop
-returns c = λ e. absurd (omega (arith, never e))
+returns c = λ e. absurd (false≢true e)
 
 returns-2 : tie.Need-returns-2 Inv-loop μ-loop
-returns-2 c = λ e. absurd (omega (arith, never e))
+returns-2 c = λ e. absurd (false≢true e)
 
 returns-3 : tie.Need-returns-3 Inv-loop μ-loop
-returns-3 c = λ e. absurd (omega (arith, never e))
+returns-3 c = λ e. absurd (false≢true e)
 
 loop-holds : tie.Need-loop-holds Inv-loop μ-loop
 loop-holds c = (omega arith, omega arith, λ k h l. absurd (omega arith))
 
 returns-4 : tie.Need-returns-4 Inv-loop μ-loop
-returns-4 c = λ e. absurd (omega (arith, never e))
+returns-4 c = λ e. absurd (false≢true e)
 
 loop-again : tie.Need-loop-again Inv-loop μ-loop
 loop-again c =

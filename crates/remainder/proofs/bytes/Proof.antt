@@ -1,32 +1,42 @@
 -- `bytes` meets its contract. Assumes nothing.
-use mathlib.Core.Path.{_≡_, refl, _∙_}
+use mathlib.Core.Path.{_≡_, refl, sym, _∙_}
 use Prim.Native.Nat.{_+_, _-_, _≤_}
 use native.Mathlib.Omega.{arith}
+use native.Mathlib.Decide.{decLt}
 use borrow.Author.Needs.{needs}
 use lib.ListN.{length, replicate}
 use Rattle.reed_solomon.specs.Inner.{Each}
 use Rattle.reed_solomon.proofs.Each.{each-start, each-next}
+use Rattle.reed_solomon.proofs.Massey.{zeros}
 use Rattle.remainder.specs.Words.{byteAt}
 use Rattle.remainder.proofs.bytes.Statement.{statement}
 use Rattle.remainder.proofs.bytes.Tie as tie
 
 abbrev Inv-loop : tie.InvT-loop
-Inv-loop r s₀ i₀ s i = Each (λ i x. byteAt r i) i (replicate 32 0) s × (i ≤ 32)
+Inv-loop r k s₀ i₀ s i = Each (λ i x. byteAt r i) i (replicate 32 0) s × (i ≤ k)
 
 abbrev μ-loop : tie.MeasureT-loop
-μ-loop r s₀ i₀ s i = 32 - i
+μ-loop r k s₀ i₀ s i = k - i
 
 loop-holds : tie.Need-loop-holds Inv-loop μ-loop
 loop-holds c = (each-start _ _, omega arith)
 
 array-write-s : tie.Need-array-write-s Inv-loop μ-loop
-array-write-s c = omega (arith, c .before .before .loop .inv .0 .size)
+array-write-s c = omega (arith, c .before .before .loop .inv .0 .size, c .before .before .before .kept .ensures .few)
 
 loop-again : tie.Need-loop-again Inv-loop μ-loop
 loop-again c = let loop = c .before .before .loop in (each-next _ _ _ _ _ (loop .inv .0) (omega arith) (c .byte-at .ensures), omega arith)
 
 returns : tie.Need-returns Inv-loop μ-loop
-returns c = let loop = c .before .loop in (loop .inv .0 .size, λ i h. loop .inv .0 .done i (omega arith))
+returns c =
+    let loop = c .before .loop in
+    let kept = c .before .before .kept in (
+      loop .inv .0 .size,
+      λ i h. elim (decLt i (kept .result)) [
+        | yes l ↦ loop .inv .0 .done i (omega arith)
+        | no l ↦ loop .inv .0 .rest i (omega arith) ∙ zeros 32 i ∙ sym (kept .ensures .zeros i (omega arith) h)
+      ],
+    )
 
 pub bytes-spec : {M : Type 1} → statement M
-bytes-spec = tie.close (tie.spec Inv-loop μ-loop loop-holds (λ c κs. search needs) array-write-s (λ c. search needs) (λ c. search needs) loop-again returns)
+bytes-spec = tie.close (tie.spec Inv-loop μ-loop (λ c κs. search needs) loop-holds (λ c κs. search needs) array-write-s (λ c. search needs) (λ c. search needs) loop-again returns)

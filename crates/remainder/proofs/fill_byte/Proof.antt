@@ -11,14 +11,14 @@ fill-digit-requires : tie.Need-fill-digit-requires
 fill-digit-requires c κs =
     let start = c .before .before in
     let e : 16 * (2 * start .args .k) ≡ 32 * start .args .k = omega arith in
-    (start .pre .0, omega arith, rw e (start .pre .2))
+    (omega arith, omega arith, rw e (start .pre .2))
 
 fill-digit-requires-2 : tie.Need-fill-digit-requires-2
 fill-digit-requires-2 c κs =
     let start = c .before .before .before .before .before .before in
     let first = c .before .before .before .fill-digit .ensures in
     let e : 16 * (2 * start .args .k + 1) ≡ 32 * start .args .k + 16 = omega arith in
-    (first .size ∙ start .pre .0, omega arith, rw e (first .above (32 * start .args .k + 16) (omega arith) ∙ start .pre .3))
+    (omega (arith, first .size), omega arith, rw e (first .above (32 * start .args .k + 16) (omega arith) ∙ start .pre .3))
 
 returns : tie.Need-returns
 returns c =

@@ -21,10 +21,10 @@ loop-holds c = (filled-start _ _ (c .before .pre .0) (c .before .pre .1), omega 
 fill-byte-requires : tie.Need-fill-byte-requires Inv-loop μ-loop
 fill-byte-requires c κs =
     let inv = c .before .before .loop .inv .0 in
-    (inv .size, omega arith, inv .free _ (omega arith), inv .free _ (omega arith))
+    (omega (arith, inv .size), omega arith, inv .free _ (omega arith), inv .free _ (omega arith))
 
 shifted-requires : tie.Need-shifted-requires Inv-loop μ-loop
-shifted-requires c κs = c .before .before .before .fill-byte .ensures .size ∙ c .before .before .before .before .before .before .loop .inv .0 .size
+shifted-requires c κs = (omega (arith, c .before .before .before .fill-byte .ensures .size, c .before .before .before .before .before .before .loop .inv .0 .size), omega arith)
 
 loop-again : tie.Need-loop-again Inv-loop μ-loop
 loop-again c =

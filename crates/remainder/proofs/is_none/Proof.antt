@@ -1,24 +1,19 @@
 -- `is_none` meets its contract. Assumes nothing.
-use mathlib.Core.Path.{_≡_}
-use mathlib.Core.Bool.{true, false}
-use Prim.Native.Nat.{ℕ}
+use mathlib.Core.Bool.{false≢true}
 use native.Mathlib.Omega.{arith}
 use borrow.Author.Tests.{eqb-true}
 use Rattle.remainder.proofs.Places.{register-eq}
 use Rattle.remainder.proofs.is_none.Statement.{statement}
 use Rattle.remainder.proofs.is_none.Tie as tie
 
-never : false ≡ true → _≡_ {A = ℕ} 0 1
-never e = cc
-
 returns : tie.Need-returns
-returns c = λ e. absurd (omega (arith, never e))
+returns c = λ e. absurd (false≢true e)
 
 returns-2 : tie.Need-returns-2
-returns-2 c = λ e. absurd (omega (arith, never e))
+returns-2 c = λ e. absurd (false≢true e)
 
 returns-3 : tie.Need-returns-3
-returns-3 c = λ e. absurd (omega (arith, never e))
+returns-3 c = λ e. absurd (false≢true e)
 
 returns-4 : tie.Need-returns-4
 returns-4 c = λ e. register-eq (omega arith) (omega arith) (omega arith) (eqb-true _ _ e)

@@ -1,19 +1,13 @@
 -- `prepare` meets its contract. Assumes nothing.
 use borrow.Author.Needs.{needs}
 use Rattle.field.specs.Field.{power}
-use Rattle.remainder.proofs.Generators.{generator-zero}
 use Rattle.remainder.proofs.prepare.Statement.{statement}
 use Rattle.remainder.proofs.prepare.Tie as tie
 
 returns : tie.Need-returns
 returns c =
-    let parity = c .before .before .before .before .before .before .args .parity in
     let fill-rows = c .before .before .fill-rows in
-    record {
-      size = fill-rows .ensures .0;
-      rows = λ tabled j h. fill-rows .ensures .1 (power 0x163 _)
-          (rw (c .before .before .before .generator .ensures (tabled .0) (tabled .1)) (generator-zero parity j (tabled .0) (tabled .1) (tabled .2) h));
-    }
+    record { size = fill-rows .ensures .0; rows = λ T j h. fill-rows .ensures .1 (power 0x163 _) (c .before .before .before .generator .ensures T j h) }
 
 pub prepare-spec : {M : Type 1} → statement M
 prepare-spec = tie.close (tie.spec (λ c κs. search needs) (λ c κs. search needs) (λ c. search needs) returns)

@@ -5,13 +5,14 @@ use native.Mathlib.Omega.{arith}
 use lib.ListN.{take}
 use borrow.Author.Needs.{needs}
 use Rattle.reed_solomon.specs.Block.{evalFrom}
-use Rattle.remainder.specs.Words.{behind, Left}
+use Rattle.remainder.specs.Words.{behind, Rows, Left}
 use Rattle.remainder.proofs.Steps.{front-lt, left-start, left-next}
+use Rattle.remainder.proofs.Lowered.{leaves}
 use Rattle.remainder.proofs.remainder.Statement.{statement}
 use Rattle.remainder.proofs.remainder.Tie as tie
 
 abbrev Inv-loop : tie.InvT-loop
-Inv-loop t block k m r₀ i₀ r i = (i ≤ k) × (i % 4 ≡ k % 4) × Left t i block r
+Inv-loop t block k m r₀ i₀ r i = (i ≤ k) × (i % 4 ≡ k % 4) × Left (λ x. Rows 0x163 x t) i block r
 
 abbrev μ-loop : tie.MeasureT-loop
 μ-loop t block k m r₀ i₀ r i = k - i
@@ -33,9 +34,11 @@ loop-again c =
 
 returns : tie.Need-returns Inv-loop μ-loop
 returns c =
+    let start = c .before .before .before .before .before .before in
+    let known = c .before .before .before .before .shared-slice-known2 in
     let loop = c .before .loop in
-    let e : loop .i ≡ c .before .before .before .before .before .before .args .k = omega arith in
-    rw e at (loop .inv .2)
+    let e : loop .i ≡ start .args .k = omega arith in
+    λ parity Q. leaves _ _ _ _ _ (Q .rows) (start .pre .1) (λ j. omega (arith, known .given j)) (rw e at (loop .inv .2))
 
 pub remainder-spec : {M : Type 1} → statement M
 remainder-spec = tie.close (tie.spec Inv-loop μ-loop (λ c κs. search needs) step-requires loop-holds (λ c κs. search needs) step-requires-2 (λ c. search needs) (λ c. search needs) loop-again returns)
