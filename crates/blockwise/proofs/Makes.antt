@@ -112,6 +112,12 @@ module _ (r : List ℕ) (k c d p : ℕ) (few : k < 3) (ec : c ≡ getD r (3 * k)
   pub data-room : totalData (batches k r) + (i * d + d) ≤ totalData (shapes r)
   data-room = omega (arith, batch-room totalData data-append r k few, ap totalData (batch-is r k c d p ec ed ep), data-batch c d p, room i c d l)
 
+-- room for the only block of batch k
+pub only-room : (r : List ℕ) (k d p : ℕ) → k < 3 → getD r (3 * k) 0 ≡ 1 → d ≡ getD r (3 * k + 1) 0 → p ≡ getD r (3 * k + 2) 0
+    → (totalSize (batches k r) + (d + p) ≤ rowLength r) × (totalData (batches k r) + d ≤ totalData (shapes r))
+only-room r k d p few one ed ep =
+    (omega (arith, stream-room r k 1 d p few (sym one) ed ep 0 (omega arith)), omega (arith, data-room r k 1 d p few (sym one) ed ep 0 (omega arith)))
+
 -- ---- one block
 
 pub one-gathered : (d p a from : ℕ) (t s s′ : List ℕ) → length s′ ≡ length s → s′ ≡ spliced a d (take d (drop from t)) s → Gathers (batch 1 d p) a (drop from t) s s′
@@ -251,3 +257,7 @@ pub writes-zero : (r : List ℕ) (k c a : ℕ) (ds s : List ℕ) → c ≡ getD 
 unfolding batch
 writes-zero r k c a ds s e z =
     subst (λ (x : ℕ). Writes (batch x (getD r (3 * k + 1) 0) (getD r (3 * k + 2) 0)) a ds s s) (sym z ∙ e) (writes-none a ds s)
+
+-- the only block of a batch, at its places
+pub only-written : (bs cs : List Shape) (a from b at : ℕ) (t s s′ : List ℕ) → bs ≡ cs → from ≡ a → at ≡ b → Writes cs from (drop at t) s s′ → Writes bs a (drop b t) s s′
+only-written bs cs a from b at t s s′ e f g W = rw (e, ← f, ← g) W
