@@ -210,10 +210,13 @@ module _ (info p a e : ℕ) (s : List ℕ) (end : e ≡ a + (info + p)) (room : 
       let five : settled lent (nearest 0x163 1 p lent) .number ≡ 5 = ap (λ (o : Outcome). o .number) (f ∙ sym h) in
       elim (settled-number lent (nearest 0x163 1 p lent)) [ inl z ↦ omega (arith, five, z) | inr z ↦ omega (arith, five, z) ]
 
-  -- one case of the corrector's answer after the other
-  pub one-corrects : 0 < info → 0 < p → info + p ≤ 255 → (c : Correction) (xs : List ℕ) → outcome c xs ≡ correctOf 0x163 1 p lent
+  -- one case of the corrector's answer after the other, where the parity q is that of the block
+  pub one-corrects : 0 < info → 0 < p → info + p ≤ 255 → (c : Correction) (xs : List ℕ) (q : ℕ) → outcome c xs ≡ correctOf 0x163 1 q lent → q ≡ p
       → Corrects (batch 1 info p) a s (take a s ++ (xs ++ drop (e - a) (drop a s))) (answerOf c)
   unfolding outcome answerOf
-  one-corrects i q small (Corrected n) xs h = one-done n xs h
-  one-corrects i q small Unfit xs h = absurd (one-fit i q small xs h)
-  one-corrects i q small OutOfReach xs h = one-refused xs h
+  one-corrects i o small c xs q h f = go c (h ∙ ap (λ (x : ℕ). correctOf 0x163 1 x lent) f)
+    where
+      go : (c : Correction) → outcome c xs ≡ correctOf 0x163 1 p lent → Corrects (batch 1 info p) a s (take a s ++ (xs ++ drop (e - a) (drop a s))) (answerOf c)
+      go (Corrected n) h = one-done n xs h
+      go Unfit h = absurd (one-fit i o small xs h)
+      go OutOfReach h = one-refused xs h

@@ -237,16 +237,16 @@ module _ (r : List ℕ) (k : ℕ) (lo : k ≤ 3) (hi : 3 ≤ k) (t s s₁ : List
 
 -- ---- a block with its data in front
 
-pub front-written : (block ds b₁ b₂ : List ℕ) → length ds ≤ length block → b₁ ≡ spliced 0 (length ds) (take (length ds) (drop 0 ds)) block
-    → b₂ ≡ writtenOf 0x163 1 (length b₁ - length ds) b₁ → length b₁ ≡ length block → b₂ ≡ withParity ds (parityOf 0x163 1 (length block - length ds) ds)
+pub front-written : (block ds b₁ b₂ : List ℕ) (k : ℕ) → length ds ≤ length block → b₁ ≡ spliced 0 (length ds) (take (length ds) (drop 0 ds)) block
+    → b₂ ≡ writtenOf 0x163 1 (length b₁ - k) b₁ → length b₁ ≡ length block → k ≡ length ds → b₂ ≡ withParity ds (parityOf 0x163 1 (length block - length ds) ds)
 unfolding writtenOf spliced
-front-written block ds b₁ b₂ h e f n =
+front-written block ds b₁ b₂ k h e f n all =
     let m : length b₁ - (length b₁ - length ds) ≡ length ds = omega arith in
     let d : take (length b₁ - (length b₁ - length ds)) b₁ ≡ ds =
     ap₂ take m e
     ∙ ap (λ (l : List ℕ). take (length ds) (l ++ drop (0 + length ds) block)) (take-length ds)
     ∙ take-at ds (drop (0 + length ds) block) (length ds) refl in
-    f ∙ ap (λ (w : List ℕ). withParity w (parityOf 0x163 1 (length b₁ - length ds) w)) d
+    f ∙ ap (λ (x : ℕ). writtenOf 0x163 1 (length b₁ - x) b₁) all ∙ ap (λ (w : List ℕ). withParity w (parityOf 0x163 1 (length b₁ - length ds) w)) d
     ∙ ap (λ (x : ℕ). withParity ds (parityOf 0x163 1 (x - length ds) ds)) n
 
 pub prepared-as : (n m : ℕ) (t : List ℕ) → n ≡ m → Prepared n t → Prepared m t

@@ -12,7 +12,7 @@ returns c =
     let start = c .before .before .before .before .before .before .before in
     let correct-with = c .before .before .before .correct-with in
     corrects-as _ _ refl _ _ _ _ _ (c .answer .ensures)
-    (one-corrects (start .args .info) (start .args .parity) (start .args .from) _ (start .args .stream .now) refl (omega (arith, start .pre .4)) (start .pre .1) (start .pre .2) (start .pre .3) _ _ (correct-with .ensures))
+    (one-corrects (start .args .info) (start .args .parity) (start .args .from) _ (start .args .stream .now) refl (omega (arith, start .pre .4)) (start .pre .1) (start .pre .2) (start .pre .3) _ _ _ (correct-with .ensures) (omega arith))
 
 pub correct-block-spec : {M : Type 1} → statement M
 correct-block-spec =

@@ -22,7 +22,7 @@ returns c =
     let fits = only-fit (start .args .row .now) (start .args .k) (number .result) (number2 .result) (start .pre .4) (number .ensures .0) (number2 .ensures .0) (start .pre .2) in
     corrects-as _ _ (only-is (start .args .row .now) (start .args .k) (number .result) (number2 .result) (start .pre .4) (number .ensures .0) (number2 .ensures .0)) _ _ _ _ _ (c .answer .ensures)
     (one-corrects (number .result) (number2 .result) (start .args .from) _ (start .args .stream .now) refl
-    (omega (arith, start .pre .3, only-size (start .args .row .now) (start .args .k) (number .result) (number2 .result) (start .pre .4) (number .ensures .0) (number2 .ensures .0))) (fits .0) (fits .1) (fits .2) _ _ (c .before .before .before .correct-short .ensures))
+    (omega (arith, start .pre .3, only-size (start .args .row .now) (start .args .k) (number .result) (number2 .result) (start .pre .4) (number .ensures .0) (number2 .ensures .0))) (fits .0) (fits .1) (fits .2) _ _ _ (c .before .before .before .correct-short .ensures) (omega arith))
 
 pub correct-one-spec : {M : Type 1} → statement M
 correct-one-spec =
