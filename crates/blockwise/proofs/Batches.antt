@@ -95,6 +95,10 @@ accepted bs a s s′ r n e C = subst (Corrects bs a s s′) e C
 pub stopped : (bs : List Shape) (a : ℕ) (s s′ : List ℕ) (r : Blocks) → r ≡ Refused → Corrects bs a s s′ r → refusalOf (corrected bs (drop a s)) ≡ 6
 stopped bs a s s′ r e C = subst (Corrects bs a s s′) e C
 
+-- the same blocks and the same answer under other names
+pub corrects-as : (bs cs : List Shape) → bs ≡ cs → (a : ℕ) (s s′ : List ℕ) (x y : Blocks) → x ≡ y → Corrects cs a s s′ y → Corrects bs a s s′ x
+corrects-as bs cs e a s s′ x y f C = subst (Corrects bs a s s′) (sym f) (subst (λ (ds : List Shape). Corrects ds a s s′ y) (sym e) C)
+
 -- no more corrections than codewords
 pub done-le : (bs : List Shape) (a : ℕ) (s s′ : List ℕ) (n : ℕ) → Done bs a s s′ n → n ≤ totalSize bs
 done-le bs a s s′ n D = omega (arith, D .count, count-le bs (drop a s))
@@ -105,6 +109,17 @@ pub batch-split : (i m d p : ℕ) → batch (i + m) d p ≡ batch i d p ++ batch
 unfolding batch
 batch-split zero m d p = let e : 0 + m ≡ m = omega arith in ap (λ (k : ℕ). batch k d p) e
 batch-split (suc i) m d p = ap (λ (k : ℕ). batch k d p) (suc-add i m) ∙ ap (λ (bs : List Shape). record { info = d; parity = p } ∷ bs) (batch-split i m d p)
+
+-- the only block of a batch
+module _ (r : List ℕ) (k d p : ℕ) (one : getD r (3 * k) 0 ≡ 1) (ed : d ≡ getD r (3 * k + 1) 0) (ep : p ≡ getD r (3 * k + 2) 0) where
+  pub only-is : batchAt r k ≡ batch 1 d p
+  only-is = batch-is r k 1 d p (sym one) ed ep
+
+  pub only-size : totalSize (batchAt r k) ≡ d + p
+  only-size = omega (arith, ap totalSize only-is, total-batch 1 d p)
+
+  pub only-fit : T (batchHolds (getD r (3 * k) 0) (getD r (3 * k + 1) 0) (getD r (3 * k + 2) 0)) → (0 < d) × (0 < p) × (d + p ≤ 255)
+  only-fit t = numbers-fit r k 1 d p (sym one) ed ep t (omega arith)
 
 -- a block before the last of n has room
 pub room : (i n m : ℕ) → i < n → i * m + m ≤ n * m

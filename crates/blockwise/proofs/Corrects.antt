@@ -14,13 +14,15 @@ use Rattle.reed_solomon.specs.Block.{nearest, unfit}
 use Rattle.reed_solomon.proofs.Nearest.{some-near}
 use Rattle.reed_solomon.proofs.Fit.{fit}
 use Rattle.corrector.specs.Correct.{Outcome, refused, settled, orOutcome, correctOf, outcome}
+use Rattle.corrector.specs.declared.Correction.{Correction}
+use Rattle.corrector.specs.declared.Correction.the-variants.{Corrected, Unfit, OutOfReach}
 use Rattle.corrector.proofs.Settle.{fit-settled}
 use Rattle.parity.proofs.Followed.{distance-le}
 use Rattle.blocks.specs.Blocks.{Shape, size, totalSize, batch, cut, joined}
 use Rattle.blocks.proofs.Rows.{total-append}
 use Rattle.blocks.proofs.Cuts.{Shaped, cut-shaped, length-joined}
 use Rattle.blockwise.specs.Blockwise.{outcomes, refusalOf, countOf, blocksOf, corrected}
-use Rattle.blockwise.specs.Inner.{spliced, Done}
+use Rattle.blockwise.specs.Inner.{spliced, Done, Corrects, answerOf}
 use Rattle.blockwise.proofs.Splice.{part-back, spliced-behind, spliced-more}
 
 -- ---- one block
@@ -170,18 +172,18 @@ unfolding settled refused
 settled-number w none = inr refl
 settled-number w (some v) = inl refl
 
-module _ (poly : ℕ) (han : poly ≡ 0x163) (info p a e : ℕ) (s : List ℕ) (end : e ≡ a + (info + p)) (room : e ≤ length s) where
+module _ (info p a e : ℕ) (s : List ℕ) (end : e ≡ a + (info + p)) (room : e ≤ length s) where
   abbrev lent : List ℕ
   lent = take (e - a) (drop a s)
 
   its : lent ≡ take (info + p) (drop a s)
   its = let n : e - a ≡ info + p = omega arith in ap (λ (k : ℕ). take k (drop a s)) n
 
-  same : (o : Outcome) → o ≡ correctOf poly 1 p lent → corrected (batch 1 info p) (drop a s) ≡ o ∷ []
+  same : (o : Outcome) → o ≡ correctOf 0x163 1 p lent → corrected (batch 1 info p) (drop a s) ≡ o ∷ []
   unfolding batch cut outcomes
-  same o h = sym (ap (λ (q : Outcome). q ∷ []) (h ∙ ap₂ (λ (k : ℕ) (w : List ℕ). correctOf k 1 p w) han its))
+  same o h = sym (ap (λ (q : Outcome). q ∷ []) (h ∙ ap (correctOf 0x163 1 p) its))
 
-  pub one-done : (n : ℕ) (xs : List ℕ) → record { number = 0; count = n; block = xs } ≡ correctOf poly 1 p lent
+  one-done : (n : ℕ) (xs : List ℕ) → record { number = 0; count = n; block = xs } ≡ correctOf 0x163 1 p lent
       → Done (batch 1 info p) a s (take a s ++ (xs ++ drop (e - a) (drop a s))) n
   unfolding refusalOf countOf blocksOf joined totalSize batch
   one-done n xs h =
@@ -195,15 +197,26 @@ module _ (poly : ℕ) (han : poly ≡ 0x163) (info p a e : ℕ) (s : List ℕ) (
             ∙ ap₂ (λ (m : ℕ) (ys : List ℕ). spliced a m ys s) k (sym (ap (λ (l : List Outcome). joined (blocksOf l)) q ∙ append-nil xs));
       }
 
-  pub one-refused : (xs : List ℕ) → refused 6 xs ≡ correctOf poly 1 p lent → refusalOf (corrected (batch 1 info p) (drop a s)) ≡ 6
+  one-refused : (xs : List ℕ) → refused 6 xs ≡ correctOf 0x163 1 p lent → refusalOf (corrected (batch 1 info p) (drop a s)) ≡ 6
   unfolding refusalOf refused
   one-refused xs h = ap refusalOf (same (refused 6 xs) h)
 
   -- the corrector never finds it unfit
-  pub one-fit : 0 < info → 0 < p → info + p ≤ 255 → (xs : List ℕ) → refused 5 xs ≡ correctOf poly 1 p lent → ⊥
+  one-fit : 0 < info → 0 < p → info + p ≤ 255 → (xs : List ℕ) → refused 5 xs ≡ correctOf 0x163 1 p lent → ⊥
   unfolding refused
   one-fit i q small xs h =
       let l : length lent ≡ info + p = ap length its ∙ length-take-le (info + p) (drop a s) (omega (arith, length-drop a s)) in
-      let f = fit-settled poly 1 p lent (fit p lent (λ z. omega arith) (omega arith) (omega arith)) in
-      let five : settled lent (nearest poly 1 p lent) .number ≡ 5 = ap (λ (o : Outcome). o .number) (f ∙ sym h) in
-      elim (settled-number lent (nearest poly 1 p lent)) [ inl z ↦ omega (arith, five, z) | inr z ↦ omega (arith, five, z) ]
+      let f = fit-settled 0x163 1 p lent (fit p lent (λ z. omega arith) (omega arith) (omega arith)) in
+      let five : settled lent (nearest 0x163 1 p lent) .number ≡ 5 = ap (λ (o : Outcome). o .number) (f ∙ sym h) in
+      elim (settled-number lent (nearest 0x163 1 p lent)) [ inl z ↦ omega (arith, five, z) | inr z ↦ omega (arith, five, z) ]
+
+  -- one case of the corrector's answer after the other, where the parity q is that of the block
+  pub one-corrects : 0 < info → 0 < p → info + p ≤ 255 → (c : Correction) (xs : List ℕ) (q : ℕ) → outcome c xs ≡ correctOf 0x163 1 q lent → q ≡ p
+      → Corrects (batch 1 info p) a s (take a s ++ (xs ++ drop (e - a) (drop a s))) (answerOf c)
+  unfolding outcome answerOf
+  one-corrects i o small c xs q h f = go c (h ∙ ap (λ (x : ℕ). correctOf 0x163 1 x lent) f)
+    where
+      go : (c : Correction) → outcome c xs ≡ correctOf 0x163 1 p lent → Corrects (batch 1 info p) a s (take a s ++ (xs ++ drop (e - a) (drop a s))) (answerOf c)
+      go (Corrected n) h = one-done n xs h
+      go Unfit h = absurd (one-fit i o small xs h)
+      go OutOfReach h = one-refused xs h

@@ -112,6 +112,12 @@ module _ (r : List ℕ) (k c d p : ℕ) (few : k < 3) (ec : c ≡ getD r (3 * k)
   pub data-room : totalData (batches k r) + (i * d + d) ≤ totalData (shapes r)
   data-room = omega (arith, batch-room totalData data-append r k few, ap totalData (batch-is r k c d p ec ed ep), data-batch c d p, room i c d l)
 
+-- room for the only block of batch k
+pub only-room : (r : List ℕ) (k d p : ℕ) → k < 3 → getD r (3 * k) 0 ≡ 1 → d ≡ getD r (3 * k + 1) 0 → p ≡ getD r (3 * k + 2) 0
+    → (totalSize (batches k r) + (d + p) ≤ rowLength r) × (totalData (batches k r) + d ≤ totalData (shapes r))
+only-room r k d p few one ed ep =
+    (omega (arith, stream-room r k 1 d p few (sym one) ed ep 0 (omega arith)), omega (arith, data-room r k 1 d p few (sym one) ed ep 0 (omega arith)))
+
 -- ---- one block
 
 pub one-gathered : (d p a from : ℕ) (t s s′ : List ℕ) → length s′ ≡ length s → s′ ≡ spliced a d (take d (drop from t)) s → Gathers (batch 1 d p) a (drop from t) s s′
@@ -231,16 +237,16 @@ module _ (r : List ℕ) (k : ℕ) (lo : k ≤ 3) (hi : 3 ≤ k) (t s s₁ : List
 
 -- ---- a block with its data in front
 
-pub front-written : (block ds b₁ b₂ : List ℕ) → length ds ≤ length block → b₁ ≡ spliced 0 (length ds) (take (length ds) (drop 0 ds)) block
-    → b₂ ≡ writtenOf 0x163 1 (length b₁ - length ds) b₁ → length b₁ ≡ length block → b₂ ≡ withParity ds (parityOf 0x163 1 (length block - length ds) ds)
+pub front-written : (block ds b₁ b₂ : List ℕ) (k : ℕ) → length ds ≤ length block → b₁ ≡ spliced 0 (length ds) (take (length ds) (drop 0 ds)) block
+    → b₂ ≡ writtenOf 0x163 1 (length b₁ - k) b₁ → length b₁ ≡ length block → k ≡ length ds → b₂ ≡ withParity ds (parityOf 0x163 1 (length block - length ds) ds)
 unfolding writtenOf spliced
-front-written block ds b₁ b₂ h e f n =
+front-written block ds b₁ b₂ k h e f n all =
     let m : length b₁ - (length b₁ - length ds) ≡ length ds = omega arith in
     let d : take (length b₁ - (length b₁ - length ds)) b₁ ≡ ds =
     ap₂ take m e
     ∙ ap (λ (l : List ℕ). take (length ds) (l ++ drop (0 + length ds) block)) (take-length ds)
     ∙ take-at ds (drop (0 + length ds) block) (length ds) refl in
-    f ∙ ap (λ (w : List ℕ). withParity w (parityOf 0x163 1 (length b₁ - length ds) w)) d
+    f ∙ ap (λ (x : ℕ). writtenOf 0x163 1 (length b₁ - x) b₁) all ∙ ap (λ (w : List ℕ). withParity w (parityOf 0x163 1 (length b₁ - length ds) w)) d
     ∙ ap (λ (x : ℕ). withParity ds (parityOf 0x163 1 (x - length ds) ds)) n
 
 pub prepared-as : (n m : ℕ) (t : List ℕ) → n ≡ m → Prepared n t → Prepared m t
@@ -251,3 +257,7 @@ pub writes-zero : (r : List ℕ) (k c a : ℕ) (ds s : List ℕ) → c ≡ getD 
 unfolding batch
 writes-zero r k c a ds s e z =
     subst (λ (x : ℕ). Writes (batch x (getD r (3 * k + 1) 0) (getD r (3 * k + 2) 0)) a ds s s) (sym z ∙ e) (writes-none a ds s)
+
+-- the only block of a batch, at its places
+pub only-written : (bs cs : List Shape) (a from b at : ℕ) (t s s′ : List ℕ) → bs ≡ cs → from ≡ a → at ≡ b → Writes cs from (drop at t) s s′ → Writes bs a (drop b t) s s′
+only-written bs cs a from b at t s s′ e f g W = rw (e, ← f, ← g) W

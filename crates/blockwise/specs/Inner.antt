@@ -4,6 +4,8 @@ use mathlib.Core.List.{List, [], _++_}
 use Prim.Native.Nat.{ℕ, zero, suc, _+_, _*_}
 use lib.ListN.{length, take, drop, getD}
 use Rattle.blocks.specs.Blocks.{Shape, batch, totalSize, totalData, cut, joined, dataParts, cutData}
+use Rattle.corrector.specs.declared.Correction.{Correction}
+use Rattle.corrector.specs.declared.Correction.the-variants as Correction
 use Rattle.blockwise.specs.Blockwise.{corrected, refusalOf, countOf, blocksOf, encoded}
 use Rattle.blockwise.specs.declared.Blocks.{Blocks}
 use Rattle.blockwise.specs.declared.Blocks.the-variants.{Corrected, Refused}
@@ -31,6 +33,12 @@ pub record Done (bs : List Shape) (a : ℕ) (s s′ : List ℕ) (n : ℕ) : Type
 abbrev pub Corrects : List Shape → ℕ → List ℕ → List ℕ → Blocks → Type 0
 Corrects bs a s s′ (Corrected n) = Done bs a s s′ n
 Corrects bs a s s′ Refused = refusalOf (corrected bs (drop a s)) ≡ 6
+
+-- the answer for a block as that for blocks
+unfoldable pub answerOf : Correction → Blocks
+answerOf (Correction.Corrected n) = Corrected n
+answerOf Correction.Unfit = Refused
+answerOf Correction.OutOfReach = Refused
 
 -- the blocks of the data ds stand from a on
 pub record Writes (bs : List Shape) (a : ℕ) (ds s s′ : List ℕ) : Type 0 where

@@ -1,17 +1,17 @@
-// Blocks corrected and made, one after the other (document 01, "Blocks"). The table of the field is lent, and the row of the version and
-// level: three batches of count, data, parity.
+// Blocks corrected and made, one after the other (document 01, "Blocks"). The row of the version and level is lent: three batches of count,
+// data, parity.
 ghost use mathlib.Core.Path.{_≡_};
+ghost use mathlib.Core.Bool.{true};
 ghost use mathlib.Core.List.{[], _∷_, _++_};
 ghost use Prim.Native.Nat.{ℕ, _+_, _-_, _*_, _≤_, _<_};
 ghost use lib.Dec.{T};
 ghost use lib.ListN.{length, take, drop, getD};
-ghost use Rattle.field.specs.Table.{Field, polyOf};
 ghost use Rattle.reed_solomon.specs.Block.{parityOf};
 ghost use Rattle.remainder.specs.Words.{Prepared};
 ghost use Rattle.parity.specs.Encode.{withParity};
 ghost use Rattle.blocks.specs.Blocks.{batchHolds, rowLength, rowHolds, batch, shapes, totalSize, totalData, cut, joined, dataParts};
 ghost use Rattle.blockwise.specs.Blockwise.{corrected, refusalOf, countOf, blocksOf, streamOf, numberOf, correctionsOf};
-ghost use Rattle.blockwise.specs.Inner.{batchAt, batches, spliced, Corrects, Writes, Gathers};
+ghost use Rattle.blockwise.specs.Inner.{batchAt, batches, spliced, answerOf, Corrects, Writes, Gathers};
 use corrector::Correction;
 
 // What became of the blocks: the count of all corrections, or the refusal 6 of document 01.
@@ -28,36 +28,39 @@ fn number(row: &[u8], n: usize) -> usize
     row[n] as usize
 }
 
-// One block, lent to the corrector as a part of the stream from its place on.
-fn correct_block(
-    field: &[u16; 1280],
-    rows: &[u64],
-    stream: &mut [u8],
-    from: usize,
-    info: usize,
-    parity: usize,
-) -> Blocks
-    requires { ⌜ Field (now field) × (polyOf (now field) ≡ 0x163) × Prepared parity (now rows) ⌝ }
-    requires { ⌜ (0 < info) × (0 < parity) × (info + parity ≤ 255) × (from + (info + parity) ≤ length (now stream)) ⌝ }
-    ensures { λ r. ⌜ Corrects (batch 1 info parity) from (now (stream .entry)) (now (stream .exit)) r ⌝ }
+// Whether batch k of the row is one short block: a table for it would cost more than it saves.
+fn is_one_short(row: &[u8], k: usize) -> bool
+    requires { ⌜ (length (now row) ≡ 9) × (k < 3) ⌝ }
+    ensures { λ b. ⌜ (b ≡ true → getD (now (row .entry)) (3 * k) 0 ≡ 1) ⌝ }
 {
-    let to = from + (info + parity);
-    match corrector::correct_with(field, rows, &mut stream[from..to], parity) {
+    if number(row, 3 * k) != 1 {
+        return false;
+    }
+    number(row, 3 * k + 1) + number(row, 3 * k + 2) < 64
+}
+
+// The corrector's answer for a block as the answer for blocks. No block of a row is unfit.
+fn answer(c: Correction) -> Blocks
+    ensures { λ r. ⌜ r ≡ answerOf c ⌝ }
+{
+    match c {
         Correction::Corrected(n) => Blocks::Corrected(n),
         Correction::Unfit => Blocks::Refused,
         Correction::OutOfReach => Blocks::Refused,
     }
 }
 
+// One block, lent to the corrector as a part of the stream from its place on.
+fn correct_block(rows: &[u64], stream: &mut [u8], from: usize, info: usize, parity: usize) -> Blocks
+    requires { ⌜ Prepared parity (now rows) × (0 < info) × (0 < parity) × (info + parity ≤ 255) × (from + (info + parity) ≤ length (now stream)) ⌝ }
+    ensures { λ r. ⌜ Corrects (batch 1 info parity) from (now (stream .entry)) (now (stream .exit)) r ⌝ }
+{
+    let to = from + (info + parity);
+    answer(corrector::correct_with(rows, &mut stream[from..to], parity))
+}
+
 // The blocks of batch k of the row, whose first begins at `from`. The corrector's table is made once for all of them.
-fn correct_batch(
-    field: &[u16; 1280],
-    stream: &mut [u8],
-    from: usize,
-    row: &[u8],
-    k: usize,
-) -> Blocks
-    requires { ⌜ Field (now field) × (polyOf (now field) ≡ 0x163) ⌝ }
+fn correct_many(stream: &mut [u8], from: usize, row: &[u8], k: usize) -> Blocks
     requires { ⌜ (length (now row) ≡ 9) × (k < 3) × T (batchHolds (getD (now row) (3 * k) 0) (getD (now row) (3 * k + 1) 0) (getD (now row) (3 * k + 2) 0)) × (from + totalSize (batchAt (now row) k) ≤ length (now stream)) ⌝ }
     ensures { λ r. ⌜ Corrects (batchAt (now (row .entry)) k) from (now (stream .entry)) (now (stream .exit)) r ⌝ }
 {
@@ -73,7 +76,7 @@ fn correct_batch(
     let mut at = from;
     let mut i: usize = 0;
     while i < count {
-        let r = correct_block(field, &rows, stream, at, info, parity);
+        let r = correct_block(&rows, stream, at, info, parity);
         let Blocks::Corrected(m) = r else {
             return Blocks::Refused;
         };
@@ -82,6 +85,28 @@ fn correct_batch(
         i += 1;
     }
     Blocks::Corrected(n)
+}
+
+// The only block of batch k of the row, with no table.
+fn correct_one(stream: &mut [u8], from: usize, row: &[u8], k: usize) -> Blocks
+    requires { ⌜ (length (now row) ≡ 9) × (k < 3) × T (batchHolds (getD (now row) (3 * k) 0) (getD (now row) (3 * k + 1) 0) (getD (now row) (3 * k + 2) 0)) × (from + totalSize (batchAt (now row) k) ≤ length (now stream)) × (getD (now row) (3 * k) 0 ≡ 1) ⌝ }
+    ensures { λ r. ⌜ Corrects (batchAt (now (row .entry)) k) from (now (stream .entry)) (now (stream .exit)) r ⌝ }
+{
+    let info = number(row, 3 * k + 1);
+    let parity = number(row, 3 * k + 2);
+    let to = from + (info + parity);
+    answer(corrector::correct_short(&mut stream[from..to], parity))
+}
+
+// The blocks of batch k of the row, whose first begins at `from`.
+fn correct_batch(stream: &mut [u8], from: usize, row: &[u8], k: usize) -> Blocks
+    requires { ⌜ (length (now row) ≡ 9) × (k < 3) × T (batchHolds (getD (now row) (3 * k) 0) (getD (now row) (3 * k + 1) 0) (getD (now row) (3 * k + 2) 0)) × (from + totalSize (batchAt (now row) k) ≤ length (now stream)) ⌝ }
+    ensures { λ r. ⌜ Corrects (batchAt (now (row .entry)) k) from (now (stream .entry)) (now (stream .exit)) r ⌝ }
+{
+    if is_one_short(row, k) {
+        return correct_one(stream, from, row, k);
+    }
+    correct_many(stream, from, row, k)
 }
 
 // How many codewords batch k of the row has.
@@ -93,8 +118,7 @@ fn batch_length(row: &[u8], k: usize) -> usize
 }
 
 // All blocks of the stream, first to last, each set to its codeword in reach; the first that has none ends it.
-pub fn correct_blocks(field: &[u16; 1280], stream: &mut [u8], row: &[u8]) -> Blocks
-    requires { ⌜ Field (now field) × (polyOf (now field) ≡ 0x163) ⌝ }
+pub fn correct_blocks(stream: &mut [u8], row: &[u8]) -> Blocks
     requires { ⌜ (length (now row) ≡ 9) × T (rowHolds (now row) (rowLength (now row))) × (rowLength (now row) ≤ length (now stream)) ⌝ }
     ensures { λ r. ⌜ (numberOf r ≡ refusalOf (corrected (shapes (now (row .entry))) (take (rowLength (now (row .entry))) (now (stream .entry))))) × (numberOf r ≡ 0 → (correctionsOf r ≡ countOf (corrected (shapes (now (row .entry))) (take (rowLength (now (row .entry))) (now (stream .entry))))) × (now (stream .exit) ≡ joined (blocksOf (corrected (shapes (now (row .entry))) (take (rowLength (now (row .entry))) (now (stream .entry))))) ++ drop (rowLength (now (row .entry))) (now (stream .entry)))) ⌝ }
 {
@@ -102,7 +126,7 @@ pub fn correct_blocks(field: &[u16; 1280], stream: &mut [u8], row: &[u8]) -> Blo
     let mut at: usize = 0;
     let mut k: usize = 0;
     while k < 3 {
-        let r = correct_batch(field, stream, at, row, k);
+        let r = correct_batch(stream, at, row, k);
         let Blocks::Corrected(n) = r else {
             return Blocks::Refused;
         };
@@ -202,19 +226,17 @@ pub fn gather_data(out: &mut [u8], stream: &[u8], row: &[u8]) -> usize
 }
 
 // Data at the front of a block, and their parity behind them.
-fn write_block(field: &[u16; 1280], rows: &[u64], block: &mut [u8], info: &[u8])
-    requires { ⌜ Field (now field) × (polyOf (now field) ≡ 0x163) ⌝ }
+fn write_block(rows: &[u64], block: &mut [u8], info: &[u8])
     requires { ⌜ (length (now info) ≤ length (now block)) × (length (now block) ≤ 255) × Prepared (length (now block) - length (now info)) (now rows) × (0 < length (now info)) ⌝ }
     ensures { λ _. ⌜ now (block .exit) ≡ withParity (now (info .entry)) (parityOf 0x163 1 (length (now (block .entry)) - length (now (info .entry))) (now (info .entry))) ⌝ }
 {
     let n = info.len();
     copy(block, 0, info, 0, n);
-    parity::write_with(field, rows, block, n);
+    parity::write_with(rows, block, n);
 }
 
 // The blocks of batch k of the row. The table for their parity is made once for all of them.
-fn write_batch(field: &[u16; 1280], stream: &mut [u8], data: &[u8], row: &[u8], k: usize)
-    requires { ⌜ Field (now field) × (polyOf (now field) ≡ 0x163) ⌝ }
+fn write_many(stream: &mut [u8], data: &[u8], row: &[u8], k: usize)
     requires { ⌜ (length (now row) ≡ 9) × (k < 3) × T (rowHolds (now row) (rowLength (now row))) × (rowLength (now row) ≤ length (now stream)) × (totalData (shapes (now row)) ≤ length (now «data»)) ⌝ }
     ensures { λ _. ⌜ Writes (batchAt (now (row .entry)) k) (totalSize (batches k (now (row .entry)))) (drop (totalData (batches k (now (row .entry)))) (now («data» .entry))) (now (stream .entry)) (now (stream .exit)) ⌝ }
 {
@@ -231,7 +253,6 @@ fn write_batch(field: &[u16; 1280], stream: &mut [u8], data: &[u8], row: &[u8], 
     let mut i: usize = 0;
     while i < count {
         write_block(
-            field,
             &rows,
             &mut stream[from..from + (info + parity)],
             &data[at..at + info],
@@ -242,15 +263,51 @@ fn write_batch(field: &[u16; 1280], stream: &mut [u8], data: &[u8], row: &[u8], 
     }
 }
 
+// Data at the front of a short block, and their parity behind them.
+fn write_short_block(block: &mut [u8], info: &[u8])
+    requires { ⌜ (length (now info) ≤ length (now block)) × (length (now block) ≤ 255) × (0 < length (now info)) ⌝ }
+    ensures { λ _. ⌜ now (block .exit) ≡ withParity (now (info .entry)) (parityOf 0x163 1 (length (now (block .entry)) - length (now (info .entry))) (now (info .entry))) ⌝ }
+{
+    let n = info.len();
+    copy(block, 0, info, 0, n);
+    parity::write_short(block, n);
+}
+
+// The only block of batch k of the row, with no table.
+fn write_one(stream: &mut [u8], data: &[u8], row: &[u8], k: usize)
+    requires { ⌜ (length (now row) ≡ 9) × (k < 3) × T (rowHolds (now row) (rowLength (now row))) × (rowLength (now row) ≤ length (now stream)) × (totalData (shapes (now row)) ≤ length (now «data»)) × (getD (now row) (3 * k) 0 ≡ 1) ⌝ }
+    ensures { λ _. ⌜ Writes (batchAt (now (row .entry)) k) (totalSize (batches k (now (row .entry)))) (drop (totalData (batches k (now (row .entry)))) (now («data» .entry))) (now (stream .entry)) (now (stream .exit)) ⌝ }
+{
+    let info = number(row, 3 * k + 1);
+    let parity = number(row, 3 * k + 2);
+    let at = data_before(row, k);
+    let from = length_before(row, k);
+    write_short_block(
+        &mut stream[from..from + (info + parity)],
+        &data[at..at + info],
+    );
+}
+
+// The blocks of batch k of the row.
+fn write_batch(stream: &mut [u8], data: &[u8], row: &[u8], k: usize)
+    requires { ⌜ (length (now row) ≡ 9) × (k < 3) × T (rowHolds (now row) (rowLength (now row))) × (rowLength (now row) ≤ length (now stream)) × (totalData (shapes (now row)) ≤ length (now «data»)) ⌝ }
+    ensures { λ _. ⌜ Writes (batchAt (now (row .entry)) k) (totalSize (batches k (now (row .entry)))) (drop (totalData (batches k (now (row .entry)))) (now («data» .entry))) (now (stream .entry)) (now (stream .exit)) ⌝ }
+{
+    if is_one_short(row, k) {
+        write_one(stream, data, row, k);
+        return;
+    }
+    write_many(stream, data, row, k);
+}
+
 // The stream of data codewords: each block's data followed by their parity.
-pub fn write_blocks(field: &[u16; 1280], stream: &mut [u8], data: &[u8], row: &[u8])
-    requires { ⌜ Field (now field) × (polyOf (now field) ≡ 0x163) ⌝ }
+pub fn write_blocks(stream: &mut [u8], data: &[u8], row: &[u8])
     requires { ⌜ (length (now row) ≡ 9) × T (rowHolds (now row) (rowLength (now row))) × (rowLength (now row) ≤ length (now stream)) × (totalData (shapes (now row)) ≤ length (now «data»)) ⌝ }
     ensures { λ _. ⌜ now (stream .exit) ≡ streamOf (shapes (now (row .entry))) (now («data» .entry)) ++ drop (rowLength (now (row .entry))) (now (stream .entry)) ⌝ }
 {
     let mut k: usize = 0;
     while k < 3 {
-        write_batch(field, stream, data, row, k);
+        write_batch(stream, data, row, k);
         k += 1;
     }
 }

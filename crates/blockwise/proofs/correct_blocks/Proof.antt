@@ -13,10 +13,10 @@ use Rattle.blockwise.proofs.correct_blocks.Statement.{statement}
 use Rattle.blockwise.proofs.correct_blocks.Tie as tie
 
 abbrev Inv-loop : tie.InvT-loop
-Inv-loop field stream₀ row total₀ at₀ k₀ stream total at k = (k ≤ 3) × (at ≡ totalSize (batches k row)) × (length stream ≡ length stream₀) × Done (batches k row) 0 stream₀ stream total
+Inv-loop stream₀ row total₀ at₀ k₀ stream total at k = (k ≤ 3) × (at ≡ totalSize (batches k row)) × (length stream ≡ length stream₀) × Done (batches k row) 0 stream₀ stream total
 
 abbrev μ-loop : tie.MeasureT-loop
-μ-loop field stream₀ row total₀ at₀ k₀ stream total at k = 3 - k
+μ-loop stream₀ row total₀ at₀ k₀ stream total at k = 3 - k
 
 loop-holds : tie.Need-loop-holds Inv-loop μ-loop
 unfolding batches totalSize
@@ -27,7 +27,7 @@ correct-batch-requires c κs =
     let start = c .before .before .before .before .before in
     let loop = c .before .before .loop in
     let loop-test = c .before .loop-test in
-    (start .pre .0, (start .pre .1 .0, loop-test .taken, row-batch _ _ (start .pre .1 .1) (loop .k) (loop-test .taken), omega (arith, loop .inv .2, batch-in (start .args .row .now) (start .args .stream .now) (start .pre .1 .2) (loop .k) (loop .at) (loop .total) (loop .stream) (loop-test .taken) (loop .inv .1) (loop .inv .3))))
+    (start .pre .0, loop-test .taken, row-batch _ _ (start .pre .1) (loop .k) (loop-test .taken), omega (arith, loop .inv .2, batch-in (start .args .row .now) (start .args .stream .now) (start .pre .2) (loop .k) (loop .at) (loop .total) (loop .stream) (loop-test .taken) (loop .inv .1) (loop .inv .3)))
 
 enum-known-r : tie.Need-enum-known-r Inv-loop μ-loop
 enum-known-r c = search needs
@@ -45,7 +45,7 @@ returns c =
     let loop = c .before .before .before .before .before .before .before .loop in
     let loop-test = c .before .before .before .before .before .before .loop-test in
     let correct-batch = c .before .before .before .before .correct-batch in (
-      sym (ap refusalOf (corrected-front (start .args .row .now) (start .args .stream .now) (start .pre .1 .2)) ∙ batch-refused (start .args .row .now) (start .args .stream .now) (start .pre .1 .2) (loop .k) (loop .at) (loop .total) (loop .stream) (loop-test .taken) (loop .inv .1) (loop .inv .3) (stopped (batchAt (start .args .row .now) (loop .k)) (loop .at) (loop .stream) (correct-batch .last .1 .0) (correct-batch .result) (c .enum-told .given .1) (correct-batch .ensures))),
+      sym (ap refusalOf (corrected-front (start .args .row .now) (start .args .stream .now) (start .pre .2)) ∙ batch-refused (start .args .row .now) (start .args .stream .now) (start .pre .2) (loop .k) (loop .at) (loop .total) (loop .stream) (loop-test .taken) (loop .inv .1) (loop .inv .3) (stopped (batchAt (start .args .row .now) (loop .k)) (loop .at) (loop .stream) (correct-batch .last .0) (correct-batch .result) (c .enum-told .given .1) (correct-batch .ensures))),
       λ e. absurd (omega (arith, e)),
     )
 
@@ -55,7 +55,7 @@ add-total c =
     let loop = c .before .before .before .before .before .before .before .before .loop in
     let loop-test = c .before .before .before .before .before .before .before .loop-test in
     let correct-batch = c .before .before .before .before .before .correct-batch in
-    omega (arith, batch-count (start .args .row .now) (start .args .stream .now) (start .pre .1 .2) (loop .k) (loop .at) (loop .total) (loop .stream) (loop-test .taken) (loop .inv .1) (loop .inv .3) _ _ (accepted (batchAt (start .args .row .now) (loop .k)) (loop .at) (loop .stream) (correct-batch .last .1 .0) (correct-batch .result) _ (c .before .r .given .1) (correct-batch .ensures)))
+    omega (arith, batch-count (start .args .row .now) (start .args .stream .now) (start .pre .2) (loop .k) (loop .at) (loop .total) (loop .stream) (loop-test .taken) (loop .inv .1) (loop .inv .3) _ _ (accepted (batchAt (start .args .row .now) (loop .k)) (loop .at) (loop .stream) (correct-batch .last .0) (correct-batch .result) _ (c .before .r .given .1) (correct-batch .ensures)))
 
 batch-length-requires : tie.Need-batch-length-requires Inv-loop μ-loop
 batch-length-requires c κs = search needs
@@ -65,7 +65,7 @@ add-at c =
     let start = c .before .before .before .before .before .before .before .before .before .before .before .before in
     let loop = c .before .before .before .before .before .before .before .before .before .loop in
     let loop-test = c .before .before .before .before .before .before .before .before .loop-test in
-    omega (arith, c .batch-length .ensures .0, batch-in (start .args .row .now) (start .args .stream .now) (start .pre .1 .2) (loop .k) (loop .at) (loop .total) (loop .stream) (loop-test .taken) (loop .inv .1) (loop .inv .3))
+    omega (arith, c .batch-length .ensures .0, batch-in (start .args .row .now) (start .args .stream .now) (start .pre .2) (loop .k) (loop .at) (loop .total) (loop .stream) (loop-test .taken) (loop .inv .1) (loop .inv .3))
 
 add-k : tie.Need-add-k Inv-loop μ-loop
 add-k c = search needs
@@ -81,8 +81,8 @@ loop-again c =
     let correct-batch = c .before .before .before .before .before .before .correct-batch in (
       omega arith,
       batch-place _ _ _ _ (loop .inv .1) (c .batch-length .ensures .0),
-      correct-batch .kept .1 .0 ∙ loop .inv .2,
-      batch-done (start .args .row .now) (start .args .stream .now) (start .pre .1 .2) (loop .k) (loop .at) (loop .total) (loop .stream) (loop-test .taken) (loop .inv .1) (loop .inv .3) _ _ (accepted (batchAt (start .args .row .now) (loop .k)) (loop .at) (loop .stream) (correct-batch .last .1 .0) (correct-batch .result) _ (c .before .before .r .given .1) (correct-batch .ensures)),
+      correct-batch .kept .0 ∙ loop .inv .2,
+      batch-done (start .args .row .now) (start .args .stream .now) (start .pre .2) (loop .k) (loop .at) (loop .total) (loop .stream) (loop-test .taken) (loop .inv .1) (loop .inv .3) _ _ (accepted (batchAt (start .args .row .now) (loop .k)) (loop .at) (loop .stream) (correct-batch .last .0) (correct-batch .result) _ (c .before .before .r .given .1) (correct-batch .ensures)),
     )
 
 same-length-2 : tie.Need-same-length-2 Inv-loop μ-loop
@@ -93,7 +93,7 @@ unfolding numberOf correctionsOf
 returns-2 c =
     let start = c .before .before .before .before in
     let loop = c .before .loop in
-    let q = row-done _ _ _ _ _ (start .pre .1 .2) (loop .inv .0) (omega arith) (loop .inv .3) in (q .0, λ e. (q .1, q .2))
+    let q = row-done _ _ _ _ _ (start .pre .2) (loop .inv .0) (omega arith) (loop .inv .3) in (q .0, λ e. (q .1, q .2))
 
 pub correct-blocks-spec : {M : Type 1} → statement M
 correct-blocks-spec =

@@ -15,13 +15,13 @@ write-with-requires : tie.Need-write-with-requires
 write-with-requires c κs =
     let start = c .before .before .before .before .before .before .before .before in
     let copy = c .before .before .before .copy in
-    (start .pre .0, (omega (arith, copy .kept .0, start .pre .1 .0), omega (arith, copy .kept .0, start .pre .1 .1), prepared-as _ _ _ (ap (λ (n : ℕ). n - length (start .args .info .now)) (sym (copy .kept .0))) (start .pre .1 .2), start .pre .1 .3))
+    (omega (arith, copy .kept .0, start .pre .0), omega (arith, copy .kept .0, start .pre .1), prepared-as _ _ _ (ap (λ (n : ℕ). n - length (start .args .info .now)) (sym (copy .kept .0))) (start .pre .2), start .pre .3)
 
 returns : tie.Need-returns
 returns c =
     let start = c .before .before .before .before .before .before .before .before .before .before .before in
     let copy = c .before .before .before .before .before .before .copy in
-    front-written (start .args .block .now) (start .args .info .now) (copy .last .0) _ (start .pre .1 .0) (copy .ensures) (c .before .before .write-with .ensures) (copy .kept .0)
+    front-written (start .args .block .now) (start .args .info .now) (copy .last .0) _ _ (start .pre .0) (copy .ensures) (c .before .before .write-with .ensures) (copy .kept .0) (omega arith)
 
 pub write-block-spec : {M : Type 1} → statement M
 write-block-spec = tie.close (tie.spec copy-requires write-with-requires (λ c. search needs) returns)

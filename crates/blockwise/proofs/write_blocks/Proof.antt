@@ -10,10 +10,10 @@ use Rattle.blockwise.proofs.write_blocks.Statement.{statement}
 use Rattle.blockwise.proofs.write_blocks.Tie as tie
 
 abbrev Inv-loop : tie.InvT-loop
-Inv-loop field stream₀ «data» row k₀ stream k = (k ≤ 3) × Writes (batches k row) 0 «data» stream₀ stream
+Inv-loop stream₀ «data» row k₀ stream k = (k ≤ 3) × Writes (batches k row) 0 «data» stream₀ stream
 
 abbrev μ-loop : tie.MeasureT-loop
-μ-loop field stream₀ «data» row k₀ stream k = 3 - k
+μ-loop stream₀ «data» row k₀ stream k = 3 - k
 
 loop-holds : tie.Need-loop-holds Inv-loop μ-loop
 unfolding batches
@@ -22,7 +22,7 @@ loop-holds c = (omega arith, writes-none _ _ _)
 write-batch-requires : tie.Need-write-batch-requires Inv-loop μ-loop
 write-batch-requires c κs =
     let start = c .before .before .before .before .before .before in
-    (start .pre .0, (start .pre .1 .0, c .before .loop-test .taken, start .pre .1 .1, omega (arith, start .pre .1 .2, c .before .before .loop .inv .1 .size), start .pre .1 .3))
+    (start .pre .0, c .before .loop-test .taken, start .pre .1, omega (arith, start .pre .2, c .before .before .loop .inv .1 .size), start .pre .3)
 
 add-k : tie.Need-add-k Inv-loop μ-loop
 add-k c = search needs
@@ -35,7 +35,7 @@ loop-again c =
     let start = c .before .before .before .before .before .before .before .before .before in
     let loop = c .before .before .before .before .before .loop in
     let loop-test = c .before .before .before .before .loop-test in
-    (omega arith, writes-batch (start .args .row .now) (loop .k) (loop-test .taken) (start .args .«data» .now) _ _ _ (start .pre .1 .2) (loop .inv .1) (c .before .before .write-batch .ensures))
+    (omega arith, writes-batch (start .args .row .now) (loop .k) (loop-test .taken) (start .args .«data» .now) _ _ _ (start .pre .2) (loop .inv .1) (c .before .before .write-batch .ensures))
 
 same-length : tie.Need-same-length Inv-loop μ-loop
 same-length c = c .before .loop .inv .1 .size
