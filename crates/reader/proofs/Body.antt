@@ -9,15 +9,17 @@ use native.Mathlib.Decide.{ℕ-discrete}
 use borrow.Author.Tests.{eq-eqb, ne-eqb}
 use lib.Dec.{eqb}
 use lib.ListN.{length, take, drop, replicate}
-use lib.Seq.{take-at}
+use lib.Seq.{take-at, take-all}
 use Rattle.symbol.specs.Version.{sideOf}
 use Rattle.symbol.specs.Layout.{layoutOf, layoutWritten}
 use Rattle.symbol.proofs.Coordinates.{square-le}
+use Rattle.symbol.proofs.Theorems.{layout-length}
 use Rattle.blocks.specs.Blocks.{totalOf, rowOf, rowLength, dataModules, Shape, shapes, shapesOf, totalSize, cut, joined, dataParts}
 use Rattle.blocks.proofs.Rows.{Sound, total-shapes}
 use Rattle.blocks.proofs.Theorems.{shapes-sound}
 use Rattle.codewords.specs.Codewords.{maskBit, dataBits, codewordsOf, streamOf, streamIn}
 use Rattle.placement.specs.Walk.{Legible}
+use Rattle.placement.proofs.Open.{open-enough}
 use Rattle.codewords.proofs.Placement.{data-front, length-data}
 use Rattle.blockwise.specs.declared.Blocks.{Blocks}
 use Rattle.blockwise.specs.declared.Blocks.the-variants.{Corrected, Refused}
@@ -120,6 +122,15 @@ module _ (m : Mark) (sq ks : List ℕ) (F : Fitting m sq) (D : Drawn (m .version
     pub with-blocks : 8 * total ≤ n → (r : Reading) → r ≡ bodyOf v (m .level) (m .mask) (m .distance) sq p s → r ≡ bodyOr1 m sq p s
     unfolding bodyOr1
     with-blocks h r e = e ∙ sym (simp (has-blocks v (m .level) (F .low) (F .high) (F .level) (enough h)))
+
+-- ---- a version with no alignment patterns: its layout need not be drawn
+
+pub open-drawn : (v : ℕ) → Drawn v (layoutOf v)
+open-drawn v = record { room = omega (arith, layout-length v); front = take-all (sideOf v * sideOf v) (layoutOf v) (omega (arith, layout-length v)) }
+
+pub open-blocks : (m : Mark) (sq p s : List ℕ) (r : Reading) → Fitting m sq → m .version < 4 → r ≡ bodyOf (m .version) (m .level) (m .mask) (m .distance) sq p s → r ≡ bodyOr1 m sq p s
+unfolding bodyOr1
+open-blocks m sq p s r F h e = e ∙ sym (simp (has-blocks (m .version) (m .level) (F .low) (F .high) (F .level) (open-enough (m .version) (F .low) (omega arith))))
 
 -- ---- the blocks of a stream, corrected
 

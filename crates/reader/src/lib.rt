@@ -81,6 +81,16 @@ fn read_stream(stream: &mut [u8], found: &mut [u8], kinds: &[u8], square: &[u8],
     codewords::to_stream(stream, found, total);
 }
 
+// The same for a version with no alignment patterns, whose layout need not be drawn.
+fn read_open_stream(stream: &mut [u8], found: &mut [u8], square: &[u8], m: Mark)
+    requires { ⌜ Fitting m (now square) × (m .version < 4) × (totalOf (m .version) ≤ length (now stream)) × (totalOf (m .version) ≤ length (now found)) ⌝ }
+    ensures { λ _. ⌜ Streamed m (now (square .entry)) (now (stream .exit)) ⌝ }
+{
+    let total = blocks::total_codewords(m.version);
+    placement::read_open(found, total, square, m.version, m.mask);
+    codewords::to_stream(stream, found, total);
+}
+
 fn low(n: usize) -> u8
     ensures { λ r. ⌜ r ≡ n % 256 ⌝ }
 {
@@ -207,9 +217,8 @@ fn tell_stream(
     requires { ⌜ Ranged m × (totalOf (m .version) ≤ length (now stream)) × (totalOf (m .version) ≤ length (now «data»)) ⌝ }
     ensures { λ r. ⌜ Body m (now (stream .entry)) (now (payload .entry)) (now (script .entry)) r (now (payload .exit)) (now (script .exit)) ⌝ }
 {
-    let field = field::han_xin();
     let row = blocks::block_row(m.version, m.level);
-    match blockwise::correct_blocks(&field, stream, &row) {
+    match blockwise::correct_blocks(stream, &row) {
         Blocks::Corrected(count) => tell_segments(
             stream,
             data,
@@ -241,7 +250,13 @@ fn tell_blocks(
 }
 
 // The same, or 1 for a version with too few data modules: the rows of the table hold their rule.
-fn tell(kinds: &mut [u8], square: &[u8], m: Mark, payload: &mut [u8], script: &mut [u8]) -> Told
+fn tell_drawn(
+    kinds: &mut [u8],
+    square: &[u8],
+    m: Mark,
+    payload: &mut [u8],
+    script: &mut [u8],
+) -> Told
     requires { ⌜ Fitting m (now square) × Drawn (m .version) (now kinds) ⌝ }
     ensures { λ r. ⌜ (readingIn m r (now (payload .exit)) (now (script .exit)) ≡ bodyOr1 m (now (square .entry)) (now (payload .entry)) (now (script .entry))) × Small r ⌝ }
 {
@@ -251,7 +266,36 @@ fn tell(kinds: &mut [u8], square: &[u8], m: Mark, payload: &mut [u8], script: &m
     tell_blocks(kinds, square, m, payload, script)
 }
 
-// A square that has passed the first refusals is read, its layout drawn into a lent buffer, and the receipt written.
+// What is told of a square of version 1 to 3, which have no alignment patterns: no layout, and small buffers, which are sooner cleared.
+fn tell_open(
+    spare: &mut [u8],
+    square: &[u8],
+    m: Mark,
+    payload: &mut [u8],
+    script: &mut [u8],
+) -> Told
+    requires { ⌜ Fitting m (now square) × (m .version < 4) ⌝ }
+    ensures { λ r. ⌜ (readingIn m r (now (payload .exit)) (now (script .exit)) ≡ bodyOr1 m (now (square .entry)) (now (payload .entry)) (now (script .entry))) × Small r ⌝ }
+{
+    let mut stream = [0u8; 50];
+    let mut found = [0u8; 50];
+    read_open_stream(&mut stream, &mut found, square, m);
+    tell_stream(&mut stream, &mut found, spare, m, payload, script)
+}
+
+// What is told of a square that has passed the first refusals. The buffer for its layout is lent.
+fn tell(kinds: &mut [u8], square: &[u8], m: Mark, payload: &mut [u8], script: &mut [u8]) -> Told
+    requires { ⌜ Fitting m (now square) × (sideOf (m .version) * sideOf (m .version) ≤ length (now kinds)) ⌝ }
+    ensures { λ r. ⌜ (readingIn m r (now (payload .exit)) (now (script .exit)) ≡ bodyOr1 m (now (square .entry)) (now (payload .entry)) (now (script .entry))) × Small r ⌝ }
+{
+    if m.version < 4 {
+        return tell_open(kinds, square, m, payload, script);
+    }
+    symbol::layout(m.version, kinds);
+    tell_drawn(kinds, square, m, payload, script)
+}
+
+// A square that has passed the first refusals is read and the receipt written. The buffer for its layout is lent.
 fn finish_in(
     kinds: &mut [u8],
     square: &[u8],
@@ -263,7 +307,6 @@ fn finish_in(
     requires { ⌜ Fitting m (now square) × (length (now receipt) ≡ 12) × (sideOf (m .version) * sideOf (m .version) ≤ length (now kinds)) ⌝ }
     ensures { λ r. ⌜ readingOf r (now (receipt .exit)) (now (payload .exit)) (now (script .exit)) ≡ bodyOr1 m (now (square .entry)) (now (payload .entry)) (now (script .entry)) ⌝ }
 {
-    symbol::layout(m.version, kinds);
     let t = tell(kinds, square, m, payload, script);
     let number = t.number;
     write_receipt(receipt, m, t);

@@ -74,8 +74,7 @@ fn encode_stream(stream: &mut [u8], data: &mut [u8], row: &[u8], script: &[u8], 
     ensures { λ _. ⌜ take (rowLength (now (row .entry))) (now (stream .exit)) ≡ streamOf (shapes (now (row .entry))) (encoded (totalData (shapes (now (row .entry)))) (commandsOf (now (script .entry)) (now (payload .entry)))) ⌝ }
 {
     encoding::encode(script, payload, data);
-    let field = field::han_xin();
-    blockwise::write_blocks(&field, stream, data, row);
+    blockwise::write_blocks(stream, data, row);
 }
 
 // The same for the row of a version and level. The data codewords are made in a lent buffer.

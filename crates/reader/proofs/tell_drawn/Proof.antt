@@ -1,0 +1,69 @@
+-- `tell_drawn` meets its contract. Assumes nothing.
+use Rattle.reader.proofs.Body.{too-few, enough, with-blocks}
+use borrow.Author.Needs.{needs}
+use Rattle.reader.proofs.tell_drawn.Statement.{statement}
+use Rattle.reader.proofs.tell_drawn.Tie as tie
+
+data-modules-requires : tie.Need-data-modules-requires
+data-modules-requires c κs = search needs
+
+total-codewords-requires : tie.Need-total-codewords-requires
+total-codewords-requires c κs = search needs
+
+mul-if1 : tie.Need-mul-if1
+mul-if1 c = search needs
+
+refused-requires : tie.Need-refused-requires
+refused-requires c κs = search needs
+
+returns : tie.Need-returns
+returns c =
+    let before = c .before .before .before .before .before .before .before .before .before in
+    let a = before in
+    too-few (a .args .m) _ _ (a .pre .0) (a .pre .1) _ _ (c .before .before .before .data-modules .ensures) (c .before .before .total-codewords .ensures .0) _ _ (c .before .if1 .taken) _ (c .refused .ensures)
+
+tell-blocks-requires : tie.Need-tell-blocks-requires
+tell-blocks-requires c κs =
+    let before = c .before .before .before .before .before .before .before .before .before .before .before in
+    let data-modules = c .before .before .before .before .before .data-modules in
+    let a = before in
+    (a .pre .0, a .pre .1, enough (a .args .m) _ _ (a .pre .0) (a .pre .1) _ _ (data-modules .ensures) (c .before .before .before .before .total-codewords .ensures .0) (a .args .payload .now) (a .args .script .now) (c .before .before .before .if1 .left))
+
+same-length : tie.Need-same-length
+same-length c = search needs
+
+same-length-2 : tie.Need-same-length-2
+same-length-2 c = search needs
+
+returns-2 : tie.Need-returns-2
+returns-2 c =
+    let before = c .before .before .before .before .before .before .before .before .before .before .before .before .before .before .before .before .before .before in
+    let data-modules = c .before .before .before .before .before .before .before .before .before .before .before .before .data-modules in
+    let total-codewords = c .before .before .before .before .before .before .before .before .before .before .before .total-codewords in
+    let if1 = c .before .before .before .before .before .before .before .before .before .before .if1 in
+    let tell-blocks = c .before .before .before .before .before .before .tell-blocks in
+    let a = before in
+    let q = tell-blocks .ensures in
+    (with-blocks (a .args .m) _ _ (a .pre .0) (a .pre .1) _ _ (data-modules .ensures) (total-codewords .ensures .0) _ _ (if1 .left) _ (q .0), q .1)
+
+same-length-3 : tie.Need-same-length-3
+same-length-3 c = search needs
+
+same-length-4 : tie.Need-same-length-4
+same-length-4 c = search needs
+
+pub tell-drawn-spec : {M : Type 1} → statement M
+tell-drawn-spec =
+    tie.close
+    (tie.spec
+    data-modules-requires
+    total-codewords-requires
+    mul-if1
+    refused-requires
+    same-length
+    returns
+    tell-blocks-requires
+    same-length-2
+    same-length-3
+    same-length-4
+    returns-2)
