@@ -5,6 +5,7 @@ pub mod Coordinates
 pub mod Plots
 pub mod Places
 pub mod Stored
+pub mod Fours
 pub mod CornerRows
 pub mod Lines
 pub mod Walk

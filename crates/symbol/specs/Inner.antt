@@ -2,7 +2,8 @@
 use mathlib.Core.Path.{_≡_}
 use mathlib.Core.Bool.{cond}
 use mathlib.Core.List.{List}
-use Prim.Native.Nat.{ℕ, _+_, _*_, _<_, _≤_}
+use Prim.Native.Nat.{ℕ, _+_, _*_, _/_, _<_, _≤_}
+use lib.Bits.{bitAnd}
 use lib.Dec.{eqb}
 use lib.IntN.{ℤ, pos, natAbs}
 use lib.ListN.{length, getD}
@@ -16,6 +17,10 @@ pub record Stored (f : ℕ → ℕ) (from to : ℕ) (g g' : List ℕ) : Type 0 w
   pub here : (i : ℕ) → from ≤ i → i < to → getD g' i 0 ≡ f i
   pub before : (i : ℕ) → i < from → getD g' i 0 ≡ getD g i 0
   pub after : (i : ℕ) → to ≤ i → getD g' i 0 ≡ getD g i 0
+
+-- four modules by the bits of a digit, as the bytes of one number
+abbrev pub fourModules : ℕ → ℕ
+fourModules d = bitAnd (d * 134480385 / 8) 16843009 + 33686018
 
 -- the first and last nine places from `from` to below `to` were given what f says, and no other byte changed
 pub record Ends (f : ℕ → ℕ) (from to : ℕ) (g g' : List ℕ) : Type 0 where

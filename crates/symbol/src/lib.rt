@@ -10,7 +10,7 @@ ghost use lib.Signed.{mag};
 ghost use Rattle.symbol.specs.Version.{sideOf, sideRefusal, sideVersion, versionOf};
 ghost use Rattle.symbol.specs.Version as version;
 ghost use Rattle.symbol.specs.Layout.{finders, edge, half, within, finderRow, cornerKind, plot, each, when, stepOf, mOf, rowOf, columnOf, threeAt, assistant, rowEnds, columnEnds, lineModule, lineLeft, lineDown, crossing, crossings, alignment, layoutRefusal, layoutWritten, refusalOf};
-ghost use Rattle.symbol.specs.Inner.{Stored, Ends, UpTo, Beyond, Plotted, Spaced, Roomy, OnLine, InSquare, drawn};
+ghost use Rattle.symbol.specs.Inner.{Stored, Ends, UpTo, Beyond, Plotted, Spaced, Roomy, OnLine, InSquare, drawn, fourModules};
 
 pub struct Version {
     pub number: usize,
@@ -331,6 +331,12 @@ fn wide(x: u8) -> usize
     x as usize
 }
 
+fn wide32(x: u8) -> u32
+    ensures { λ r. ⌜ r ≡ x ⌝ }
+{
+    x as u32
+}
+
 // How far row i lies from the nearer edge.
 fn edge(side: usize, i: usize) -> usize
     requires { ⌜ i < side ⌝ }
@@ -376,16 +382,32 @@ fn run(out: &mut [u8], from: usize, to: usize, kind: u8)
     }
 }
 
+// Four modules, light or dark by the bits of a digit, the high bit first, as the bytes of one number: a product sets the bits apart.
+fn four_modules(digit: u8) -> u32
+    requires { ⌜ digit < 16 ⌝ }
+    ensures { λ r. ⌜ r ≡ fourModules digit ⌝ }
+{
+    ((wide32(digit) * 134480385 / 8) & 16843009) + 33686018
+}
+
+// Four bytes of one number: a single store.
+fn put_four(out: &mut [u8], at: usize, x: u32)
+    requires { ⌜ at + 4 ≤ length (now out) ⌝ }
+    ensures { λ _. ⌜ Stored (λ i. x / 256 ^ (i - at) % 256) at (at + 4) (now (out .entry)) (now (out .exit)) ⌝ }
+{
+    out[at] = (x % 256) as u8;
+    out[at + 1] = (x / 256 % 256) as u8;
+    out[at + 2] = (x / 65536 % 256) as u8;
+    out[at + 3] = (x / 16777216 % 256) as u8;
+}
+
 // Eight modules, light or dark by the bits of a byte, the high bit first.
 fn modules(out: &mut [u8], at: usize, bits: u8)
     requires { ⌜ at + 8 ≤ length (now out) ⌝ }
     ensures { λ _. ⌜ Stored (λ i. 2 + bits / 2 ^ (7 - (i - at)) % 2) at (at + 8) (now (out .entry)) (now (out .exit)) ⌝ }
 {
-    let mut i = at;
-    while i < at + 8 {
-        out[i] = 2 + (bits >> (7 - (i - at))) % 2;
-        i += 1;
-    }
+    put_four(out, at, four_modules(bits / 16));
+    put_four(out, at + 4, four_modules(bits % 16));
 }
 
 // The ends of a row through two finders or their separators.

@@ -1,76 +1,40 @@
-use mathlib.Core.Path.{_≡_, refl, subst}
-use Rattle.symbol.proofs.Stored.{stored-none, stored-more}
-use Rattle.symbol.specs.Inner.{Stored}
-use Prim.Native.Nat.{ℕ, _+_, _-_, _/_, _%_, _^_, _≤_}
+-- `modules` meets its contract. Assumes nothing.
 use native.Mathlib.Omega.{arith}
+use Rattle.symbol.proofs.Fours.{stored-eight}
 use borrow.Author.Needs.{needs}
 use Rattle.symbol.proofs.modules.Statement.{statement}
 use Rattle.symbol.proofs.modules.Tie as tie
 
-abbrev Inv-loop : tie.InvT-loop
-Inv-loop out₀ at bits i₀ out i = Stored (λ k. 2 + bits / 2 ^ (7 - (k - at)) % 2) at i out₀ out × (at ≤ i) × (i ≤ at + 8)
+four-modules-requires : tie.Need-four-modules-requires
+four-modules-requires c κs = search needs
 
-abbrev μ-loop : tie.MeasureT-loop
-μ-loop out₀ at bits i₀ out i = at + 8 - i
+put-four-requires : tie.Need-put-four-requires
+put-four-requires c κs = search needs
 
-loop-holds : tie.Need-loop-holds Inv-loop μ-loop
-loop-holds c = (stored-none _ _ _, omega arith, omega arith)
+add-put-four : tie.Need-add-put-four
+add-put-four c = search needs
 
-add-loop : tie.Need-add-loop Inv-loop μ-loop
-add-loop c = omega arith
+four-modules-requires-2 : tie.Need-four-modules-requires-2
+four-modules-requires-2 c κs = search needs
 
-sub-out : tie.Need-sub-out Inv-loop μ-loop
-sub-out c = omega arith
+put-four-requires-2 : tie.Need-put-four-requires-2
+put-four-requires-2 c κs = search needs
 
-sub-out-2 : tie.Need-sub-out-2 Inv-loop μ-loop
-sub-out-2 c = omega arith
+same-length : tie.Need-same-length
+same-length c = search needs
 
-cast-out : tie.Need-cast-out Inv-loop μ-loop
-cast-out c = search needs
-
-shr-out : tie.Need-shr-out Inv-loop μ-loop
-shr-out c = omega arith
-
-add-out : tie.Need-add-out Inv-loop μ-loop
-add-out c = search needs
-
-slice-write-out : tie.Need-slice-write-out Inv-loop μ-loop
-slice-write-out c = omega (arith, c .before .loop .inv .0 .size)
-
-add-i : tie.Need-add-i Inv-loop μ-loop
-add-i c = omega arith
-
-loop-less : tie.Need-loop-less Inv-loop μ-loop
-loop-less c = omega arith
-
-loop-again : tie.Need-loop-again Inv-loop μ-loop
-loop-again c = (stored-more (c .before .loop .inv .1) (omega (arith, c .before .loop .inv .0 .size)) refl (c .before .loop .inv .0), omega arith, omega arith)
-
-same-length : tie.Need-same-length Inv-loop μ-loop
-same-length c = c .before .loop .inv .0 .size
-
-returns : tie.Need-returns Inv-loop μ-loop
+returns : tie.Need-returns
 returns c =
-    let start = c .before .before in
-    let loop = c .before .loop in
-    let e : loop .i ≡ start .args .at + 8 = omega arith in subst (λ (n : ℕ). Stored (λ k. 2 + start .args .bits / 2 ^ (7 - (k - start .args .at)) % 2) (start .args .at) n (start .args .out .now) (loop .out)) e (loop .inv .0)
+    stored-eight (c .before .before .before .before .before .before .before .before .before .before .before .args .bits) (c .before .before .before .before .before .before .before .before .before .before .before .args .at) _ _ (omega arith) (c .before .before .before .before .before .before .before .before .four-modules .ensures) (c .before .before .before .four-modules2 .ensures) (c .before .before .before .before .before .before .before .put-four .ensures) (c .before .before .put-four2 .ensures)
 
 pub modules-spec : {M : Type 1} → statement M
 modules-spec =
     tie.close
     (tie.spec
-    Inv-loop
-    μ-loop
-    loop-holds
-    add-loop
-    sub-out
-    sub-out-2
-    cast-out
-    shr-out
-    add-out
-    slice-write-out
-    add-i
-    loop-less
-    loop-again
+    four-modules-requires
+    put-four-requires
+    add-put-four
+    four-modules-requires-2
+    put-four-requires-2
     same-length
     returns)
