@@ -1,13 +1,15 @@
 -- Eight bytes as one number.
 use mathlib.Core.Path.{_≡_, refl, ap, ap₂, _∙_, sym}
-use mathlib.Core.List.{List}
-use Prim.Native.Nat.{ℕ, zero, suc, _+_, _*_, _/_, _%_, _^_, _<_}
+use mathlib.Core.List.{List, [], _∷_}
+use Prim.Native.Nat.{ℕ, zero, suc, _+_, _*_, _/_, _%_, _^_, _<_, _≤_}
 use native.Mathlib.Nat.{add-comm}
 use native.Mathlib.Omega.{arith}
 use lib.Arith.{digits-mod, digits-div}
 use lib.Bits.{bitXor, xor-block}
+use lib.Pow.{shr-shr}
 use lib.ListN.{getD}
-use Rattle.placement.specs.Walk.{fourOf, eightOf, byteOf, behind}
+use Rattle.placement.specs.Walk.{fourOf, eightOf, byteOf, run, behind}
+use Rattle.placement.specs.Puts.{bytesOf}
 
 four-lt : (a b c d : ℕ) → a < 256 → b < 256 → c < 256 → d < 256 → fourOf a b c d < 4294967296
 four-lt a b c d p q r s = omega arith
@@ -66,3 +68,49 @@ module _ (a b : ℕ → ℕ) (ha : (k : ℕ) → a k < 256) (hb : (k : ℕ) → 
       xor-block 32 (fourOf (a 4) (a 5) (a 6) (a 7)) (fourOf (b 4) (b 5) (b 6) (b 7)) (fourOf (a 0) (a 1) (a 2) (a 3)) (fourOf (b 0) (b 1) (b 2) (b 3))
       (four-lt (a 0) (a 1) (a 2) (a 3) (ha 0) (ha 1) (ha 2) (ha 3)) (four-lt (b 0) (b 1) (b 2) (b 3) (hb 0) (hb 1) (hb 2) (hb 3))
       ∙ ap₂ (λ (x y : ℕ). x * 4294967296 + y) (xor-four 4 5 6 7) (xor-four 0 1 2 3)
+
+-- the bytes of eight
+four-bytes : (a b c d : ℕ) → a < 256 → b < 256 → c < 256 → d < 256 → (fourOf a b c d % 256 ≡ a) × (fourOf a b c d / 256 % 256 ≡ b) × (fourOf a b c d / 65536 % 256 ≡ c) × (fourOf a b c d / 16777216 % 256 ≡ d)
+four-bytes a b c d p q r s = (omega arith, omega arith, omega arith, omega arith)
+
+lower : (x q : ℕ) → x % 4294967296 ≡ q → (x % 256 ≡ q % 256) × (x / 256 % 256 ≡ q / 256 % 256) × (x / 65536 % 256 ≡ q / 65536 % 256) × (x / 16777216 % 256 ≡ q / 16777216 % 256)
+lower x q e = (omega arith, omega arith, omega arith, omega arith)
+
+upper : (x q : ℕ) → x / 4294967296 ≡ q → (x / 4294967296 % 256 ≡ q % 256) × (x / 1099511627776 % 256 ≡ q / 256 % 256) × (x / 281474976710656 % 256 ≡ q / 65536 % 256) × (x / 72057594037927936 % 256 ≡ q / 16777216 % 256)
+upper x q e = (omega arith, omega arith, omega arith, omega arith)
+
+pub bytes-eight : (b : ℕ → ℕ) → ((k : ℕ) → b k < 256) → bytesOf (eightOf b) ≡ run 8 b
+unfolding run
+bytes-eight b h =
+    let l = lower (eightOf b) (fourOf (b 0) (b 1) (b 2) (b 3)) (low-four b h) in
+    let u = upper (eightOf b) (fourOf (b 4) (b 5) (b 6) (b 7)) (high-four b h) in
+    let r = four-bytes (b 0) (b 1) (b 2) (b 3) (h 0) (h 1) (h 2) (h 3) in
+    let s = four-bytes (b 4) (b 5) (b 6) (b 7) (h 4) (h 5) (h 6) (h 7) in
+    ap₂ _∷_ (l .0 ∙ r .0) (ap₂ _∷_ (l .1 ∙ r .1) (ap₂ _∷_ (l .2 ∙ r .2) (ap₂ _∷_ (l .3 ∙ r .3) (ap₂ _∷_ (u .0 ∙ s .0) (ap₂ _∷_ (u .1 ∙ s .1) (ap₂ _∷_ (u .2 ∙ s .2) (ap₂ _∷_ (u .3 ∙ s .3) refl)))))))
+
+pub eight-byte : (b : ℕ → ℕ) → ((k : ℕ) → b k < 256) → (j : ℕ) → j < 8 → eightOf b / 2 ^ (8 * j) % 256 ≡ b j
+unfolding run
+eight-byte b h zero l = let e : eightOf b / 1 ≡ eightOf b = omega arith in ap (λ (x : ℕ). x % 256) e ∙ ap (λ (s : List ℕ). getD s 0 0) (bytes-eight b h)
+eight-byte b h (suc zero) l = ap (λ (s : List ℕ). getD s 1 0) (bytes-eight b h)
+eight-byte b h (suc (suc zero)) l = ap (λ (s : List ℕ). getD s 2 0) (bytes-eight b h)
+eight-byte b h (suc (suc (suc zero))) l = ap (λ (s : List ℕ). getD s 3 0) (bytes-eight b h)
+eight-byte b h (suc (suc (suc (suc zero)))) l = ap (λ (s : List ℕ). getD s 4 0) (bytes-eight b h)
+eight-byte b h (suc (suc (suc (suc (suc zero))))) l = ap (λ (s : List ℕ). getD s 5 0) (bytes-eight b h)
+eight-byte b h (suc (suc (suc (suc (suc (suc zero)))))) l = ap (λ (s : List ℕ). getD s 6 0) (bytes-eight b h)
+eight-byte b h (suc (suc (suc (suc (suc (suc (suc zero))))))) l = ap (λ (s : List ℕ). getD s 7 0) (bytes-eight b h)
+eight-byte b h (suc (suc (suc (suc (suc (suc (suc (suc j)))))))) l = absurd (omega arith)
+
+eight-ext : (a b : ℕ → ℕ) → ((k : ℕ) → a k ≡ b k) → eightOf a ≡ eightOf b
+eight-ext a b e = rw (e 0, e 1, e 2, e 3, e 4, e 5, e 6, e 7)
+
+-- shifted down by d bytes, where those behind the eight are 0
+pub eight-down : (d : ℕ) (a b : ℕ → ℕ) → ((k : ℕ) → b k < 256) → ((k : ℕ) → 8 ≤ k → b k ≡ 0) → ((k : ℕ) → b (d + k) ≡ a k) → eightOf b / 2 ^ (8 * d) ≡ eightOf a
+eight-down zero a b h z e = let i : eightOf b / 1 ≡ eightOf b = omega arith in i ∙ eight-ext (λ k. b (0 + k)) a e
+eight-down (suc d) a b h z e =
+    let i : 8 * suc d ≡ 8 * d + 8 = omega arith in
+    let j : (k : ℕ) → d + suc k ≡ suc d + k = λ k. omega arith in
+    ap (λ (n : ℕ). eightOf b / 2 ^ n) i ∙ sym (shr-shr (eightOf b) (8 * d) 8) ∙ ap (λ (x : ℕ). x / 256) (eight-down d (λ k. b (d + k)) b h z (λ k. refl))
+    ∙ down (λ k. b (d + k)) (h (d + 0)) (z (d + 8) (omega arith)) ∙ eight-ext (λ k. b (d + suc k)) a (λ k. ap b (j k) ∙ e k)
+  where
+    down : (c : ℕ → ℕ) → c 0 < 256 → c 8 ≡ 0 → eightOf c / 256 ≡ eightOf (λ k. c (suc k))
+    down c l n = let s : eightOf c ≡ eightOf (λ k. c (suc k)) * 256 + c 0 = omega arith in ap (λ (x : ℕ). x / 256) s ∙ digits-div (eightOf (λ k. c (suc k))) l

@@ -4,3 +4,4 @@ pub mod Rows
 pub mod Puts
 pub mod Squares
 pub mod Open
+pub mod Runs

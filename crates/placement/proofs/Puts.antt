@@ -23,7 +23,7 @@ use Rattle.placement.specs.Walk.{fourOf, eightOf, run, behind, Skipped}
 use Rattle.placement.specs.Puts.{bytesOf, patternOf, getD₀, Drawn, Placing, PutBit, PutEight, Blank, Puts, PutsAll}
 use Rattle.placement.specs.declared.Cursor.{Cursor}
 use Rattle.placement.proofs.Walk.{length-run, run-ext, run-front, skipped-from}
-use Rattle.placement.proofs.Eights.{low-four, high-four, eight-zero, xor-eight}
+use Rattle.placement.proofs.Eights.{bytes-eight, eight-zero, xor-eight}
 
 -- Eight bits set apart: a test that antt computes.
 
@@ -72,25 +72,6 @@ put-is s at a b c d e f g h =
     let p6 : at + 6 ≡ suc (suc (suc (suc (suc (suc at))))) = omega arith in
     let p7 : at + 7 ≡ suc (suc (suc (suc (suc (suc (suc at)))))) = omega arith in
     rw (p1, p2, p3, p4, p5, p6, p7) refl
-
--- the bytes of eight
-four-bytes : (a b c d : ℕ) → a < 256 → b < 256 → c < 256 → d < 256 → (fourOf a b c d % 256 ≡ a) × (fourOf a b c d / 256 % 256 ≡ b) × (fourOf a b c d / 65536 % 256 ≡ c) × (fourOf a b c d / 16777216 % 256 ≡ d)
-four-bytes a b c d p q r s = (omega arith, omega arith, omega arith, omega arith)
-
-lower : (x q : ℕ) → x % 4294967296 ≡ q → (x % 256 ≡ q % 256) × (x / 256 % 256 ≡ q / 256 % 256) × (x / 65536 % 256 ≡ q / 65536 % 256) × (x / 16777216 % 256 ≡ q / 16777216 % 256)
-lower x q e = (omega arith, omega arith, omega arith, omega arith)
-
-upper : (x q : ℕ) → x / 4294967296 ≡ q → (x / 4294967296 % 256 ≡ q % 256) × (x / 1099511627776 % 256 ≡ q / 256 % 256) × (x / 281474976710656 % 256 ≡ q / 65536 % 256) × (x / 72057594037927936 % 256 ≡ q / 16777216 % 256)
-upper x q e = (omega arith, omega arith, omega arith, omega arith)
-
-bytes-eight : (b : ℕ → ℕ) → ((k : ℕ) → b k < 256) → bytesOf (eightOf b) ≡ run 8 b
-unfolding run
-bytes-eight b h =
-    let l = lower (eightOf b) (fourOf (b 0) (b 1) (b 2) (b 3)) (low-four b h) in
-    let u = upper (eightOf b) (fourOf (b 4) (b 5) (b 6) (b 7)) (high-four b h) in
-    let r = four-bytes (b 0) (b 1) (b 2) (b 3) (h 0) (h 1) (h 2) (h 3) in
-    let s = four-bytes (b 4) (b 5) (b 6) (b 7) (h 4) (h 5) (h 6) (h 7) in
-    ap₂ _∷_ (l .0 ∙ r .0) (ap₂ _∷_ (l .1 ∙ r .1) (ap₂ _∷_ (l .2 ∙ r .2) (ap₂ _∷_ (l .3 ∙ r .3) (ap₂ _∷_ (u .0 ∙ s .0) (ap₂ _∷_ (u .1 ∙ s .1) (ap₂ _∷_ (u .2 ∙ s .2) (ap₂ _∷_ (u .3 ∙ s .3) refl)))))))
 
 -- eight bits of the codewords under their mask, as bytes
 pub masked-bytes : {v u x : ℕ} (cw row : List ℕ) (bit c : ℕ) → bit + 8 ≤ 8 * length cw → ((k : ℕ) → getD row k 0 < 2) → v ≡ value 0 (take 8 (drop bit (bitsOf cw))) → u ≡ eightOf (behind (lowBits 8 v) 0) → x ≡ eightOf (behind row c)

@@ -108,10 +108,6 @@ module _ (f : ℕ → ℕ) (small : (k : ℕ) → f k < 2) where
       ap (λ (y : ℕ). y / 2 ^ p % 2 ^ w) (value-split (n + w) p) ∙ ap (λ (y : ℕ). y % 2 ^ w) (high (value 0 (run (n + w) f)) p (run-lt p (λ k. f (n + w + k)) (λ k. small (n + w + k))))
       ∙ ap (λ (y : ℕ). y % 2 ^ w) (value-split n w) ∙ low (value 0 (run n f)) w (run-lt w (λ k. f (n + k)) (λ k. small (n + k)))
 
-pub run-one : (b : ℕ → ℕ) → value 0 (run 1 b) ≡ b 0
-unfolding run value
-run-one b = omega arith
-
 -- Codewords.
 
 module _ {total : ℕ} {all out : List ℕ} {n : ℕ} where
@@ -288,16 +284,10 @@ module _ {ks sq row : List ℕ} (a : Aligned ks sq row) where
         (subst (λ (l : List ℕ). Walk total all out l r) (ap (λ (l : List ℕ). l ++ rest) b ∙ append-assoc (lowBits n x) (rowBits ks sq row (s .column)) rest) k);
   }
 
-  pub goes-one : {out out′ : List ℕ} {r s : Run} {x : ℕ} → r .column < length ks → getD ks (r .column) 0 ≡ 0 → x ≡ bitXor (getD sq (r .column) 0) (getD row (r .column) 0) → s .column ≡ r .column + 1
-      → Pushed 1 x out out′ r s → Goes ks sq row out out′ r s
-  goes-one {out} {out′} {r} {s} {x} h z e f q =
-      let o : r .column + 0 ≡ r .column = omega arith in
-      goes-push 1 x (omega arith) (λ k l. let y : r .column + k ≡ r .column = omega arith in ap (λ (i : ℕ). getD ks i 0) y ∙ z)
-      (e ∙ sym (run-one (unmaskedAt sq row (r .column)) ∙ ap (λ (i : ℕ). bitXor (getD sq i 0) (getD row i 0)) o)) f q
-
-  pub goes-skip : {out : List ℕ} {r s : Run} → r .column < length ks → getD ks (r .column) 0 ≢ 0 → Skipped ks (r .column + 1) (s .column)
+  -- modules that are no data passed
+  pub goes-skip : {out : List ℕ} {r s : Run} → r .column ≤ s .column → s .column ≤ length ks → ((k : ℕ) → r .column ≤ k → k < s .column → getD ks k 0 ≢ 0)
       → s .n ≡ r .n → s .value ≡ r .value → s .bits ≡ r .bits → Goes ks sq row out out r s
-  goes-skip {out} {r} {s} h z q n v b = record {
+  goes-skip {out} {r} {s} lo hi z n v b = record {
     go = λ total all rest k. record {
       words = subst (λ (i : ℕ). Words total all out (lowBits (s .bits) (s .value) ++ (rowBits ks sq row (s .column) ++ rest)) i) (sym n)
           (same-words (ap₂ (λ (l t : List ℕ). l ++ (t ++ rest)) (sym (ap₂ lowBits b v)) passed) (k .words));
@@ -306,8 +296,8 @@ module _ {ks sq row : List ℕ} (a : Aligned ks sq row) where
     where
       passed : rowBits ks sq row (r .column) ≡ rowBits ks sq row (s .column)
       passed =
-          let e : r .column + (s .column - r .column) ≡ s .column = omega (arith, q .least) in
-          from-misses (λ k. getD row k 0) ks sq (omega (arith, a .size)) (s .column - r .column) (r .column) (omega (arith, a .size, q .most, q .least)) (λ k lo hi. skipped-from q z k lo (omega arith)) ∙ ap (rowBits ks sq row) e
+          let e : r .column + (s .column - r .column) ≡ s .column = omega arith in
+          from-misses (λ k. getD row k 0) ks sq (omega (arith, a .size)) (s .column - r .column) (r .column) (omega (arith, a .size)) (λ k l h. z k l (omega arith)) ∙ ap (rowBits ks sq row) e
 
 pub goes-none : {ks sq row out : List ℕ} {r : Run} → Goes ks sq row out out r r
 goes-none = record { go = λ total all rest k. k }

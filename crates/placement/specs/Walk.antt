@@ -2,10 +2,10 @@
 use mathlib.Core.Path.{_≡_}
 use mathlib.Core.Logic.{_≢_, _⊎_}
 use mathlib.Core.List.{List, [], _∷_, _++_}
-use Prim.Native.Nat.{ℕ, zero, suc, _+_, _-_, _*_, _^_, _<_, _≤_}
+use Prim.Native.Nat.{ℕ, zero, suc, _+_, _-_, _*_, _/_, _%_, _^_, _<_, _≤_}
 use lib.ListN.{length, getD, take, drop, set}
 use lib.Bits.{bitXor}
-use Rattle.bits.specs.Bits.{lowBits}
+use Rattle.bits.specs.Bits.{lowBits, value}
 use Rattle.codewords.specs.Codewords.{codewordsOf, dataBits}
 use Rattle.placement.specs.declared.Run.{Run}
 
@@ -105,6 +105,33 @@ pub record Goes (ks sq row out out′ : List ℕ) (r s : Run) : Type 0 where
 -- the same for all kinds by which the modules from the one column on and before the other are data
 pub record Spans (sq row out out′ : List ℕ) (r s : Run) : Type 0 where
   pub go : (ks : List ℕ) → length sq ≡ length ks → ((k : ℕ) → r .column ≤ k → k < s .column → getD ks k 0 ≡ 0) → Goes ks sq row out out′ r s
+
+-- Runs of modules of one sort.
+
+-- the first w bytes of x are 0; and the first is none of them only where it is not 0
+pub record Leads (x w : ℕ) : Type 0 where
+  pub most : w ≤ 8
+  pub zeros : x % 2 ^ (8 * w) ≡ 0
+  pub first : x % 256 ≡ 0 → 1 ≤ w
+
+-- the first w bytes of k are not 0, whatever the first is
+pub record Walls (k w : ℕ) : Type 0 where
+  pub least : 1 ≤ w
+  pub most : w ≤ 8
+  pub none : (j : ℕ) → 0 < j → j < w → k / 2 ^ (8 * j) % 256 ≢ 0
+
+-- the next `left` columns of a row from c on: k has the kinds from c on, and `eight` are the bits of the eight columns from `at` on, which end with them
+pub record Next (ks sq row : List ℕ) (at c k eight left : ℕ) : Type 0 where
+  pub aligned : Aligned ks sq row
+  pub bytes : (i : ℕ) → getD ks i 0 < 256
+  pub kinds : k ≡ eightOf (behind ks c)
+  pub ends : c + left ≡ at + 8
+  pub inside : c + left ≤ length ks
+  pub bits : eight ≡ value 0 (run 8 (unmaskedAt sq row at))
+
+-- some of them are passed, in every such row
+pub record Moves (k eight left : ℕ) (out out′ : List ℕ) (r s : Run) : Type 0 where
+  pub go : (ks sq row : List ℕ) (at : ℕ) → Next ks sq row at (r .column) k eight left → (r .column < s .column) × (s .column ≤ length ks) × Goes ks sq row out out′ r s
 
 -- Layouts with no alignment patterns.
 

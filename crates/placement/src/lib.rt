@@ -11,7 +11,7 @@ ghost use Rattle.blocks.specs.Blocks.{dataModules};
 ghost use Rattle.placement.specs.Puts.{bytesOf, patternOf, getD₀, Drawn, PutBit, PutEight, Blank, Puts, PutsAll};
 ghost use Rattle.symbol.specs.Version.{sideOf};
 ghost use Rattle.symbol.specs.Layout.{layoutOf};
-ghost use Rattle.placement.specs.Walk.{Legible, fourOf, eightOf, run, behind, Gathered, Pending, Stored, Pushed, Masked, unmaskedAt, Aligned, Skipped, Goes, Spans, Margin};
+ghost use Rattle.placement.specs.Walk.{Legible, fourOf, eightOf, run, behind, Gathered, Pending, Stored, Pushed, Masked, unmaskedAt, Aligned, Skipped, Goes, Spans, Margin, Leads, Walls, Moves};
 
 // Where a row is read: the column, the codewords so far, and the first bits of the next, which are the lowest of `value`.
 pub struct Run {
@@ -96,23 +96,6 @@ fn skip(kinds: &[u8], first: usize) -> usize
     c
 }
 
-// One data module, or all modules up to the next. `row` is the row's mask.
-fn one(out: &mut [u8], kinds: &[u8], square: &[u8], row: &[u8], r: Run) -> Run
-    requires { ⌜ Aligned (now kinds) (now square) (now row) × Pending r × (r .column < length (now kinds)) ⌝ }
-    ensures { λ s. ⌜ Pending s × (r .column < s .column) × (s .column ≤ length (now (kinds .entry))) × Goes (now (kinds .entry)) (now (square .entry)) (now (row .entry)) (now (out .entry)) (now (out .exit)) r s ⌝ }
-{
-    let c = r.column;
-    if kinds[c] == 0 {
-        return push(out, r, bits::wide(square[c] ^ row[c]), 1);
-    }
-    Run {
-        column: skip(kinds, c + 1),
-        n: r.n,
-        value: r.value,
-        bits: r.bits,
-    }
-}
-
 // The eight bits of a row from a column on.
 fn unmasked(square: &[u8], row: &[u8], at: usize) -> usize
     requires { ⌜ Masked (now square) (now row) × (at + 8 ≤ length (now square)) ⌝ }
@@ -121,33 +104,89 @@ fn unmasked(square: &[u8], row: &[u8], at: usize) -> usize
     gather(eight(square, at) ^ eight(row, at))
 }
 
+// Of eight bits the first w of the last `left`.
+fn inner(bits: usize, left: usize, w: usize) -> usize
+    requires { ⌜ (w ≤ left) × (left ≤ 8) ⌝ }
+    ensures { λ r. ⌜ r ≡ bits / 2 ^ (left - w) % 2 ^ w ⌝ }
+{
+    (bits >> (left - w)) % (1 << w)
+}
+
+fn least(a: usize, b: usize) -> usize
+    ensures { λ r. ⌜ (r ≤ a) × (r ≤ b) × (r < b → r ≡ a) ⌝ }
+{
+    if a < b {
+        return a;
+    }
+    b
+}
+
+// How many of the bytes of x come before the first that is not 0.
+fn lead(x: usize) -> usize
+    ensures { λ r. ⌜ Leads x r ⌝ }
+{
+    (u64::trailing_zeros(x as u64) as usize) / 8
+}
+
+// How many of eight kinds come before the first data module, if the first kind is none. The factor has a bit for each of the other seven: it
+// is 1 where both low bits of a kind are 0.
+fn walls(k: usize) -> usize
+    ensures { λ r. ⌜ Walls k r ⌝ }
+{
+    lead(((k | (k / 2)) & 72340172838076672) ^ 72340172838076672)
+}
+
+// The data modules that come first of the next `left` columns, or the others up to the first of them. The kinds k are those from the column
+// on, and `eight` are the bits of the eight columns that end there.
+fn advance(out: &mut [u8], k: usize, eight: usize, left: usize, r: Run) -> Run
+    requires { ⌜ Pending r × (0 < left) × (left ≤ 8) × (r .column ≤ 192) ⌝ }
+    ensures { λ s. ⌜ Pending s × Moves k eight left (now (out .entry)) (now (out .exit)) r s ⌝ }
+{
+    let w = least(lead(k), left);
+    if w == 0 {
+        return Run {
+            column: r.column + walls(k),
+            n: r.n,
+            value: r.value,
+            bits: r.bits,
+        };
+    }
+    push(out, r, inner(eight, left, w), w)
+}
+
 // Eight data modules, or as above.
 fn step(out: &mut [u8], kinds: &[u8], square: &[u8], row: &[u8], r: Run) -> Run
     requires { ⌜ Aligned (now kinds) (now square) (now row) × Pending r × (r .column + 8 ≤ length (now kinds)) ⌝ }
     ensures { λ s. ⌜ Pending s × (r .column < s .column) × (s .column ≤ length (now (kinds .entry))) × Goes (now (kinds .entry)) (now (square .entry)) (now (row .entry)) (now (out .entry)) (now (out .exit)) r s ⌝ }
 {
     let c = r.column;
-    if eight(kinds, c) == 0 {
-        return push(out, r, unmasked(square, row, c), 8);
+    let k = eight(kinds, c);
+    let bits = unmasked(square, row, c);
+    if k == 0 {
+        return push(out, r, bits, 8);
     }
-    one(out, kinds, square, row, r)
+    advance(out, k, bits, 8, r)
 }
 
-// The last modules of a row.
+// The last modules of a row, fewer than eight: the kinds of the eight that end the row are shifted down.
 fn read_last(out: &mut [u8], kinds: &[u8], square: &[u8], row: &[u8], first: Run) -> Run
-    requires { ⌜ Aligned (now kinds) (now square) (now row) × Pending first × (first .column ≤ length (now kinds)) ⌝ }
+    requires { ⌜ Aligned (now kinds) (now square) (now row) × Pending first × (first .column ≤ length (now kinds)) × (8 ≤ length (now kinds)) × (length (now kinds) ≤ first .column + 8) ⌝ }
     ensures { λ s. ⌜ Pending s × (s .column ≡ length (now (kinds .entry))) × Goes (now (kinds .entry)) (now (square .entry)) (now (row .entry)) (now (out .entry)) (now (out .exit)) first s ⌝ }
 {
+    let end = kinds.len();
+    let k = eight(kinds, end - 8);
+    let bits = unmasked(square, row, end - 8);
     let mut r = first;
-    while r.column < kinds.len() {
-        r = one(out, kinds, square, row, r);
+    while r.column < end {
+        let left = end - r.column;
+        r = advance(out, k >> (64 - 8 * left), bits, left, r);
     }
     r
 }
 
 // The columns before this one have seven more behind them. Computed once for a row: the loop then tests one number.
 fn groups_end(side: usize) -> usize
-    ensures { λ r. ⌜ ((c : ℕ) → c < r → c + 8 ≤ side) ⌝ }
+    ensures { λ r. ⌜ ((c : ℕ) → c < r → c + 8 ≤ side) × (side ≤ r + 7) ⌝ }
 {
     if side < 8 {
         return 0;
@@ -157,7 +196,7 @@ fn groups_end(side: usize) -> usize
 
 // One row.
 fn read_row(out: &mut [u8], kinds: &[u8], square: &[u8], row: &[u8], first: Run) -> Run
-    requires { ⌜ Aligned (now kinds) (now square) (now row) × Pending first × (first .column ≡ 0) ⌝ }
+    requires { ⌜ Aligned (now kinds) (now square) (now row) × Pending first × (first .column ≡ 0) × (8 ≤ length (now kinds)) ⌝ }
     ensures { λ s. ⌜ Pending s × (s .column ≡ length (now (kinds .entry))) × Goes (now (kinds .entry)) (now (square .entry)) (now (row .entry)) (now (out .entry)) (now (out .exit)) first s ⌝ }
 {
     let end = groups_end(kinds.len());
@@ -170,7 +209,7 @@ fn read_row(out: &mut [u8], kinds: &[u8], square: &[u8], row: &[u8], first: Run)
 
 // As many codewords of a square as `out` has room for.
 fn read_rows(out: &mut [u8], kinds: &[u8], square: &[u8], side: usize, mask: usize)
-    requires { ⌜ Legible (now kinds) (now square) × (0 < side) × (side ≤ 189) × (length (now square) ≡ side * side) × (8 * length (now out) ≤ length (dataBits (maskBit side mask) 0 (now kinds) (now square))) ⌝ }
+    requires { ⌜ Legible (now kinds) (now square) × (8 ≤ side) × (side ≤ 189) × (length (now square) ≡ side * side) × (8 * length (now out) ≤ length (dataBits (maskBit side mask) 0 (now kinds) (now square))) ⌝ }
     ensures { λ _. ⌜ now (out .exit) ≡ codewordsOf (length (now (out .entry))) (dataBits (maskBit side mask) 0 (now (kinds .entry)) (now (square .entry))) ⌝ }
 {
     let mut table = [0u16; 576];
@@ -208,19 +247,11 @@ pub fn read_codewords(
     side: usize,
     mask: usize,
 )
-    requires { ⌜ Legible (now kinds) (now square) × (0 < side) × (side ≤ 189) × (length (now square) ≡ side * side) ⌝ }
+    requires { ⌜ Legible (now kinds) (now square) × (8 ≤ side) × (side ≤ 189) × (length (now square) ≡ side * side) ⌝ }
     requires { ⌜ (total ≤ length (now out)) × (8 * total ≤ length (dataBits (maskBit side mask) 0 (now kinds) (now square))) ⌝ }
     ensures { λ _. ⌜ now (out .exit) ≡ codewordsOf total (dataBits (maskBit side mask) 0 (now (kinds .entry)) (now (square .entry))) ++ drop total (now (out .entry)) ⌝ }
 {
     read_rows(&mut out[..total], kinds, square, side, mask);
-}
-
-// Of eight bits the first w of the last `left`.
-fn inner(bits: usize, left: usize, w: usize) -> usize
-    requires { ⌜ (w ≤ left) × (left ≤ 8) ⌝ }
-    ensures { λ r. ⌜ r ≡ bits / 2 ^ (left - w) % 2 ^ w ⌝ }
-{
-    (bits >> (left - w)) % (1 << w)
 }
 
 // All modules from a column on and before another. Those left behind the groups of eight are the last of the eight that end there.

@@ -19,7 +19,7 @@ loop-holds : tie.Need-loop-holds Inv-loop μ-loop
 loop-holds c = let start = c .before .before .before .before .before in (start .pre .0, omega arith, puts-none)
 
 put-step-requires : tie.Need-put-step-requires Inv-loop μ-loop
-put-step-requires c κs = let loop = c .before .before .before .loop in (loop .inv .0, c .before .before .before .before .groups-end .ensures (loop .p .column) (c .before .if1 .taken))
+put-step-requires c κs = let loop = c .before .before .before .loop in (loop .inv .0, c .before .before .before .before .groups-end .ensures .0 (loop .p .column) (c .before .if1 .taken))
 
 loop-less : tie.Need-loop-less Inv-loop μ-loop
 loop-less c = omega (arith, c .before .before .put-step .ensures .0, c .before .before .put-step .ensures .1)

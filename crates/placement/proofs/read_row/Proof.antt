@@ -18,7 +18,7 @@ loop-holds : tie.Need-loop-holds Inv-loop μ-loop
 loop-holds c = let start = c .before .before .before .before .before in (start .pre .1, omega (arith, start .pre .2), goes-none, refl)
 
 step-requires : tie.Need-step-requires Inv-loop μ-loop
-step-requires c κs = let start = c .before .before .before .before .before .before .before .before .before in let loop = c .before .before .before .loop in (start .pre .0, loop .inv .0, c .before .before .before .before .groups-end .ensures (loop .r .column) (c .before .if1 .taken))
+step-requires c κs = let start = c .before .before .before .before .before .before .before .before .before in let loop = c .before .before .before .loop in (start .pre .0, loop .inv .0, c .before .before .before .before .groups-end .ensures .0 (loop .r .column) (c .before .if1 .taken))
 
 loop-less : tie.Need-loop-less Inv-loop μ-loop
 loop-less c = omega (arith, c .before .before .step .ensures .1, c .before .before .step .ensures .2)
@@ -29,7 +29,7 @@ loop-again c =
     let loop = c .before .before .before .before .before .before .loop in (step .ensures .0, step .ensures .2, goes-on (loop .inv .2) (step .ensures .3), step .kept .0 ∙ loop .inv .3)
 
 read-last-requires : tie.Need-read-last-requires Inv-loop μ-loop
-read-last-requires c κs = let start = c .before .before .before .before .before .before .before .before .before in let loop = c .before .before .before .loop in (start .pre .0, loop .inv .0, loop .inv .1)
+read-last-requires c κs = let start = c .before .before .before .before .before .before .before .before .before in let loop = c .before .before .before .loop in (start .pre .0, loop .inv .0, loop .inv .1, start .pre .3, omega (arith, c .before .before .before .before .groups-end .ensures .1, c .before .if1 .left))
 
 same-length : tie.Need-same-length Inv-loop μ-loop
 same-length c = c .before .before .read-last .kept .0 ∙ c .before .before .before .before .before .before .loop .inv .3

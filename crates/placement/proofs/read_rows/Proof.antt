@@ -66,7 +66,8 @@ read-row-requires : tie.Need-read-row-requires Inv-loop μ-loop
 read-row-requires c κs =
     let start = c .before .before .before .before .before .before .before .before .before .before .before .before .before .before .before .before in
     let loop = c .before .before .before .before .before .before .before .before .before .loop in
-    (aligned (loop .i * start .args .side) (start .args .side) (start .pre .0) (c .before .before .before .before .before .mask-row .ensures .0) (start .pre .2) (omega (arith, row-inside (c .before .before .before .before .before .before .before .before .before .loop .i) (c .before .before .before .before .before .before .before .before .before .before .before .before .before .before .before .before .args .side) (c .before .before .before .before .before .before .before .before .loop-test .taken), c .before .before .before .before .before .before .before .before .before .before .before .before .before .before .before .before .pre .3)), record { few = loop .inv .1 .few; small = loop .inv .1 .small }, refl)
+    let h : loop .i * start .args .side + start .args .side ≤ length (start .args .square .now) = omega (arith, row-inside (c .before .before .before .before .before .before .before .before .before .loop .i) (c .before .before .before .before .before .before .before .before .before .before .before .before .before .before .before .before .args .side) (c .before .before .before .before .before .before .before .before .loop-test .taken), c .before .before .before .before .before .before .before .before .before .before .before .before .before .before .before .before .pre .3) in
+    (aligned (loop .i * start .args .side) (start .args .side) (start .pre .0) (c .before .before .before .before .before .mask-row .ensures .0) (start .pre .2) h, record { few = loop .inv .1 .few; small = loop .inv .1 .small }, refl, omega (arith, start .pre .1, part-length (loop .i * start .args .side) (start .args .side) (start .args .kinds .now) (omega (arith, h, start .pre .0 .kinds))))
 
 add-i : tie.Need-add-i Inv-loop μ-loop
 add-i c = omega (arith, c .before .before .before .before .before .before .before .before .before .before .before .loop-test .taken, c .before .before .before .before .before .before .before .before .before .before .before .before .before .before .before .before .before .before .before .pre .2)
