@@ -1,4 +1,4 @@
-// What is left of a block by division by its generator, four bytes a time. The register is 32 bytes in four words, the first byte the
+// What is left of a block by division by its generator, four bytes a time, or one in a short block. The register is 32 bytes in four words, the first byte the
 // highest of the first word; a table has what four bytes leave, by hexadecimal digits. Two reads of the table stand for the products of
 // a byte with all coefficients of the generator.
 ghost use mathlib.Core.Path.{_≡_};
