@@ -167,11 +167,11 @@ module _ (r s₀ : List ℕ) (room : rowLength r ≤ length s₀) (k at m : ℕ)
   there : 0 + totalSize (batches k r) ≡ at
   there = omega (arith, place)
 
-  pub batch-done : (s′ : List ℕ) (j : ℕ) → Done (batchAt r k) at s s′ j → Done (batches (k + 1) r) 0 s₀ s′ (m + j)
+  pub batch-done : (s′ : List ℕ) (j n : ℕ) → Done (batchAt r k) at s s′ j → n ≡ m + j → Done (batches (k + 1) r) 0 s₀ s′ n
   unfolding batches
-  batch-done s′ j E =
-      subst (λ (x : ℕ). Done (batches x r) 0 s₀ s′ (m + j)) (sym (add-one k))
-      (done-behind (batches k r) 0 s₀ s m D upto (batchAt r k) s′ j (subst (λ (x : ℕ). Done (batchAt r k) x s s′ j) (sym there) E))
+  batch-done s′ j n E e =
+      rw e (subst (λ (x : ℕ). Done (batches x r) 0 s₀ s′ (m + j)) (sym (add-one k))
+      (done-behind (batches k r) 0 s₀ s m D upto (batchAt r k) s′ j (subst (λ (x : ℕ). Done (batchAt r k) x s s′ j) (sym there) E)))
 
   pub batch-count : (s′ : List ℕ) (j : ℕ) → Done (batchAt r k) at s s′ j → m + j ≤ length s₀
   unfolding batches
@@ -193,9 +193,9 @@ module _ (r s₀ : List ℕ) (room : rowLength r ≤ length s₀) (k at m : ℕ)
       go (suc (suc (suc k))) h q = absurd (omega arith)
 
 -- the place of the next batch
-pub batch-place : (r : List ℕ) (k at n : ℕ) → at ≡ totalSize (batches k r) → n ≡ totalSize (batchAt r k) → at + n ≡ totalSize (batches (k + 1) r)
+pub batch-place : (r : List ℕ) (k : ℕ) → totalSize (batches k r) + totalSize (batchAt r k) ≡ totalSize (batches (k + 1) r)
 unfolding batches
-batch-place r k at n e f = ap₂ _+_ e f ∙ sym (total-append (batches k r) (batchAt r k)) ∙ ap (λ (x : ℕ). totalSize (batches x r)) (sym (add-one k))
+batch-place r k = sym (total-append (batches k r) (batchAt r k)) ∙ ap (λ (x : ℕ). totalSize (batches x r)) (sym (add-one k))
 
 -- ---- the whole stream
 

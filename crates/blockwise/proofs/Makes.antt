@@ -249,8 +249,8 @@ front-written block ds b₁ b₂ k h e f n all =
     f ∙ ap (λ (x : ℕ). writtenOf 0x163 1 (length b₁ - x) b₁) all ∙ ap (λ (w : List ℕ). withParity w (parityOf 0x163 1 (length b₁ - length ds) w)) d
     ∙ ap (λ (x : ℕ). withParity ds (parityOf 0x163 1 (x - length ds) ds)) n
 
-pub prepared-as : (n m : ℕ) (t : List ℕ) → n ≡ m → Prepared n t → Prepared m t
-prepared-as n m t e Q = subst (λ (x : ℕ). Prepared x t) e Q
+pub prepared-as : {n m : ℕ} {t : List ℕ} → Prepared n t → n ≡ m → Prepared m t
+prepared-as Q e = rw e at Q
 
 -- a batch of no blocks
 pub writes-zero : (r : List ℕ) (k c a : ℕ) (ds s : List ℕ) → c ≡ getD r (3 * k) 0 → c ≡ 0 → Writes (batchAt r k) a ds s s

@@ -104,7 +104,7 @@ pub timesAlpha-zero : (poly : ℕ) → timesAlpha poly 0 ≡ 0
 unfolding timesAlpha
 timesAlpha-zero poly = refl
 
-raised-zero : (poly i : ℕ) → raised poly i 0 ≡ 0
+pub raised-zero : (poly i : ℕ) → raised poly i 0 ≡ 0
 unfolding raised
 raised-zero poly zero = refl
 raised-zero poly (suc i) = ap (timesAlpha poly) (raised-zero poly i) ∙ timesAlpha-zero poly

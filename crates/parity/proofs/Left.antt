@@ -2,11 +2,11 @@
 use mathlib.Core.Path.{_≡_, refl, sym, ap, ap₂, _∙_}
 use mathlib.Core.Logic.{if-pos, if-neg}
 use mathlib.Core.List.{List, [], _∷_, _++_}
-use Prim.Native.Nat.{ℕ, zero, suc, _+_, _-_, _*_, _%_, _≤_, _<_}
+use Prim.Native.Nat.{ℕ, suc, _+_, _-_, _*_, _%_, _≤_, _<_}
 use native.Mathlib.Omega.{arith}
 use native.Mathlib.Nat.{suc-mul}
 use native.Mathlib.Decide.{decLt}
-use lib.ListN.{length, getD, take, drop, length-drop, take-append-drop, List·getD-eq-default}
+use lib.ListN.{length, take, drop, length-drop, take-append-drop, List·getD-eq-default}
 use lib.Seq.{ext-getD, getD-drop, getD-take, length-take-le}
 use lib.Bits.{bitXor, xor-zero-r, xor-zero-l}
 use Rattle.field.specs.Field.{power, mul}
@@ -15,7 +15,7 @@ use Rattle.field.proofs.Instances.{passes-163}
 use Rattle.field.proofs.Entries.{mul-left-zero}
 use Rattle.field.proofs.Xor.{xor-assoc}
 use Rattle.algebra.specs.Sum.{_⊕_, seq}
-use Rattle.reed_solomon.specs.Block.{evalFrom, eval, isCodeword}
+use Rattle.reed_solomon.specs.Block.{evalFrom, eval}
 use Rattle.reed_solomon.specs.Inner.{Each}
 use Rattle.reed_solomon.proofs.Search.{Bytes}
 use Rattle.reed_solomon.proofs.Codeword.{zero-codeword}

@@ -1,5 +1,5 @@
 // The parity of a block, for the writer: data followed by what makes them a codeword. The table of the field and the first root are lent
-// to every function but the outermost.
+// to the functions for any field; those for the field of Han Xin copy its table where they need it.
 ghost use mathlib.Core.Path.{_≡_};
 ghost use Prim.Native.Nat.{ℕ, _+_, _-_, _≤_, _<_};
 ghost use lib.ListN.{length, getD};

@@ -8,7 +8,7 @@ use native.Mathlib.Nat.{add-mul, mul-assoc, mul-comm, add-comm}
 use lib.Bits.{bitXor, bitAnd, xor-block, and-block, and-mask, and-zero-r, xor-zero-r, xor-self}
 use Rattle.field.specs.Field.{timesAlpha, raised, mul, power, log}
 use Rattle.field.proofs.Field as Field
-use Rattle.field.proofs.Field.{Passes, timesAlpha-zero, raised-add, power-log, mul-lt, mul-sum, mul-power}
+use Rattle.field.proofs.Field.{Passes, raised-zero, raised-add, power-log, mul-lt, mul-sum, mul-power}
 use Rattle.field.proofs.Entries.{mul-left-zero}
 use Rattle.remainder.specs.declared.Register.{Register}
 use Rattle.remainder.specs.Words.{digits, behind, Zero, doubleOf, doubledOf}
@@ -82,11 +82,6 @@ in-one-go low ll (suc n) w =
     bit-times (suc (suc b)) c h l = absurd (omega arith)
 
 -- ---- a product with α
-
-raised-zero : (poly i : ℕ) → raised poly i 0 ≡ 0
-unfolding raised
-raised-zero poly zero = refl
-raised-zero poly (suc i) = ap (timesAlpha poly) (raised-zero poly i) ∙ timesAlpha-zero poly
 
 module _ (poly : ℕ) (P : Passes poly) where
   pub mul-raised : (a k : ℕ) → a < 256 → mul poly a (power poly k) ≡ raised poly k a

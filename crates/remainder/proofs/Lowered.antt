@@ -5,7 +5,7 @@ use Prim.Native.Nat.{ℕ, zero, suc, _+_, _-_, _*_, _/_, _%_, _^_, _≤_, _<_}
 use native.Mathlib.Omega.{arith}
 use native.Mathlib.Decide.{decLt}
 use native.Mathlib.Nat.{add-zero, add-mul, suc-mul}
-use lib.ListN.{length, getD, take, List·getD-eq-default}
+use lib.ListN.{length, take, List·getD-eq-default}
 use lib.Pow.{shr-shr}
 use lib.Seq.{length-take-le, getD-take}
 use lib.Bits.{bitXor, xor-zero-l, xor-zero-r}
@@ -20,7 +20,7 @@ use Rattle.reed_solomon.specs.Block.{eval}
 use Rattle.reed_solomon.specs.Inner.{Each, Syndromes}
 use Rattle.reed_solomon.proofs.Codeword.{eval-horner}
 use Rattle.remainder.specs.declared.Register.{Register}
-use Rattle.remainder.specs.Words.{digits, behind, sumOf, none, wordAt, byteAt, Kept, Remains, Leaves, Left, tabled}
+use Rattle.remainder.specs.Words.{digits, behind, none, wordAt, byteAt, Kept, Remains, Leaves, Left, tabled}
 use Rattle.remainder.proofs.Digits.{behind-sum}
 use Rattle.remainder.proofs.Places.{register-eq}
 use Rattle.remainder.proofs.Steps.{empty-zero}

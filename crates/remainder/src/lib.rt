@@ -1,12 +1,11 @@
-// What is left of a block by division by its generator, four bytes a time. The register is 32 bytes in four words, the first byte the
+// What is left of a block by division by its generator, four bytes a time, or one in a short block. The register is 32 bytes in four words, the first byte the
 // highest of the first word; a table has what four bytes leave, by hexadecimal digits. Two reads of the table stand for the products of
 // a byte with all coefficients of the generator.
 ghost use mathlib.Core.Path.{_≡_};
 ghost use mathlib.Core.List.{List};
 ghost use Prim.Native.Nat.{ℕ, _+_, _-_, _*_, _/_, _%_, _^_, _≤_, _<_};
-ghost use lib.ListN.{length, getD, take};
-ghost use lib.Bits.{bitXor};
-ghost use Rattle.remainder.specs.Words.{digits, behind, Zero, rowAt, sumOf, doubleOf, doubledOf, movedOf, none, Rows, Adds, Keeps, Front, Put, Extended, Filling, Bytewise, Shifts, Prepared, wordAt, byteAt, Kept, tabled, Remains, Leaves};
+ghost use lib.ListN.{length, getD};
+ghost use Rattle.remainder.specs.Words.{Zero, rowAt, sumOf, doubleOf, doubledOf, movedOf, none, Rows, Adds, Keeps, Front, Put, Extended, Filling, Bytewise, Shifts, Prepared, wordAt, byteAt, Kept, tabled, Remains, Leaves};
 ghost use mathlib.Core.Bool.{true};
 ghost use Rattle.field.specs.Field.{power, mul};
 ghost use Rattle.field.specs.Table.{Field, polyOf};

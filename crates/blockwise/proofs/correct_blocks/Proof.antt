@@ -1,6 +1,6 @@
 -- `correct_blocks` meets its contract: one batch more in each turn. Assumes nothing.
 use mathlib.Core.Path.{_≡_, refl, sym, ap, _∙_}
-use Prim.Native.Nat.{ℕ, _+_, _-_, _≤_}
+use Prim.Native.Nat.{_-_, _≤_}
 use native.Mathlib.Omega.{arith}
 use lib.ListN.{length}
 use Rattle.blocks.specs.Blocks.{totalSize}
@@ -80,9 +80,9 @@ loop-again c =
     let loop-test = c .before .before .before .before .before .before .before .before .loop-test in
     let correct-batch = c .before .before .before .before .before .before .correct-batch in (
       omega arith,
-      batch-place _ _ _ _ (loop .inv .1) (c .batch-length .ensures .0),
+      omega (arith, loop .inv .1, c .batch-length .ensures .0, batch-place (start .args .row .now) (loop .k)),
       correct-batch .kept .0 ∙ loop .inv .2,
-      batch-done (start .args .row .now) (start .args .stream .now) (start .pre .2) (loop .k) (loop .at) (loop .total) (loop .stream) (loop-test .taken) (loop .inv .1) (loop .inv .3) _ _ (accepted (batchAt (start .args .row .now) (loop .k)) (loop .at) (loop .stream) (correct-batch .last .0) (correct-batch .result) _ (c .before .before .r .given .1) (correct-batch .ensures)),
+      batch-done (start .args .row .now) (start .args .stream .now) (start .pre .2) (loop .k) (loop .at) (loop .total) (loop .stream) (loop-test .taken) (loop .inv .1) (loop .inv .3) _ _ _ (accepted (batchAt (start .args .row .now) (loop .k)) (loop .at) (loop .stream) (correct-batch .last .0) (correct-batch .result) _ (c .before .before .r .given .1) (correct-batch .ensures)) (omega arith),
     )
 
 same-length-2 : tie.Need-same-length-2 Inv-loop μ-loop

@@ -32,7 +32,9 @@ loop-less : tie.Need-loop-less Inv-loop μ-loop
 loop-less c = search needs
 
 loop-again : tie.Need-loop-again Inv-loop μ-loop
-loop-again c = (omega arith, batch-place _ _ _ _ (c .before .before .loop .inv .1) (c .batch-length .ensures .0), omega (arith, c .batch-length .ensures .1))
+loop-again c =
+    let loop = c .before .before .loop in
+    (omega arith, omega (arith, loop .inv .1, c .batch-length .ensures .0, batch-place (c .before .before .before .before .args .row .now) (loop .i)), omega (arith, c .batch-length .ensures .1))
 
 returns : tie.Need-returns Inv-loop μ-loop
 returns c =

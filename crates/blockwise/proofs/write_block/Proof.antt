@@ -1,8 +1,6 @@
 -- `write_block` meets its contract: data at the front, then their parity. Assumes nothing.
-use mathlib.Core.Path.{_≡_, refl, sym, ap, _∙_}
-use Prim.Native.Nat.{ℕ, _-_}
+use Prim.Native.Nat.{_-_}
 use native.Mathlib.Omega.{arith}
-use lib.ListN.{length}
 use Rattle.blockwise.proofs.Makes.{front-written, prepared-as}
 use borrow.Author.Needs.{needs}
 use Rattle.blockwise.proofs.write_block.Statement.{statement}
@@ -15,7 +13,7 @@ write-with-requires : tie.Need-write-with-requires
 write-with-requires c κs =
     let start = c .before .before .before .before .before .before .before .before in
     let copy = c .before .before .before .copy in
-    (omega (arith, copy .kept .0, start .pre .0), omega (arith, copy .kept .0, start .pre .1), prepared-as _ _ _ (ap (λ (n : ℕ). n - length (start .args .info .now)) (sym (copy .kept .0))) (start .pre .2), start .pre .3)
+    (omega (arith, copy .kept .0, start .pre .0), omega (arith, copy .kept .0, start .pre .1), prepared-as (start .pre .2) (omega (arith, copy .kept .0)), omega (arith, start .pre .3))
 
 returns : tie.Need-returns
 returns c =

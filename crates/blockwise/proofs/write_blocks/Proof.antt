@@ -1,8 +1,6 @@
 -- `write_blocks` meets its contract: one batch more in each turn. Assumes nothing.
-use mathlib.Core.Path.{_≡_, refl, _∙_}
 use Prim.Native.Nat.{_-_, _≤_}
 use native.Mathlib.Omega.{arith}
-use lib.ListN.{length}
 use Rattle.blockwise.specs.Inner.{batches, Writes}
 use Rattle.blockwise.proofs.Makes.{writes-none, writes-batch, writes-row}
 use borrow.Author.Needs.{needs}

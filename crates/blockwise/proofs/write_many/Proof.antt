@@ -1,6 +1,6 @@
 -- `write_many` meets its contract: one block more in each turn. Assumes nothing.
-use mathlib.Core.Path.{_≡_, refl, sym, ap₂, _∙_}
-use Prim.Native.Nat.{ℕ, _+_, _-_, _*_, _≤_, _<_}
+use mathlib.Core.Path.{_≡_, refl, sym}
+use Prim.Native.Nat.{_+_, _-_, _*_, _≤_}
 use native.Mathlib.Omega.{arith}
 use lib.ListN.{length, take, drop}
 use Rattle.reed_solomon.proofs.Massey.{zeros}
@@ -146,7 +146,7 @@ write-block-requires c κs =
     let m = part-length (l .from) (l .from + (d + p)) (d + p) (l .stream) refl (omega (arith, loop .inv .2, loop .inv .3 .size, start .pre .3, stream-room (start .args .row .now) (start .args .k) (number .result) (number2 .result) (number3 .result) (start .pre .1) (number .ensures .0) (number2 .ensures .0) (number3 .ensures .0) (loop .i) (loop-test .taken))) in
     let n = part-length (l .at) (l .at + d) d (start .args .«data» .now) refl (omega (arith, loop .inv .1, start .pre .4, data-room (start .args .row .now) (start .args .k) (number .result) (number2 .result) (number3 .result) (start .pre .1) (number .ensures .0) (number2 .ensures .0) (number3 .ensures .0) (loop .i) (loop-test .taken))) in
     let e : p ≡ length (take (l .from + (d + p) - l .from) (drop (l .from) (l .stream))) - length (take (l .at + d - l .at) (drop (l .at) (start .args .«data» .now))) = omega (arith, m, n) in
-    (omega (arith, m, n), omega (arith, m, q .2), prepared-as _ _ _ e (prepare .ensures), omega (arith, n, q .0))
+    (omega (arith, m, n), omega (arith, m, q .2), prepared-as (prepare .ensures) e, omega (arith, n, q .0))
 
 add-at : tie.Need-add-at Inv-loop μ-loop
 add-at c =

@@ -1,5 +1,4 @@
 -- `write_with` meets its contract: the table is that of the parity. Assumes nothing.
-use native.Mathlib.Omega.{arith}
 use borrow.Author.Needs.{needs}
 use Rattle.parity.proofs.write_with.Statement.{statement}
 use Rattle.parity.proofs.write_with.Tie as tie

@@ -1,9 +1,8 @@
 -- `fill_rows` meets its contract. Assumes nothing.
-use mathlib.Core.Path.{_≡_, sym, _∙_}
-use Prim.Native.Nat.{_+_, _-_, _*_, _≤_}
+use mathlib.Core.Path.{sym, _∙_}
+use Prim.Native.Nat.{_-_, _≤_}
 use native.Mathlib.Omega.{arith}
 use borrow.Author.Needs.{needs}
-use lib.ListN.{length}
 use Rattle.remainder.specs.Words.{Filled}
 use Rattle.remainder.proofs.Fill.{filled-start, filled-next, filled-end}
 use Rattle.remainder.proofs.fill_rows.Statement.{statement}

@@ -1,11 +1,9 @@
 -- `remainder` meets its contract. Assumes nothing.
-use mathlib.Core.Path.{_≡_, sym, ap, _∙_}
-use Prim.Native.Nat.{ℕ, _+_, _-_, _%_, _≤_}
+use mathlib.Core.Path.{_≡_}
+use Prim.Native.Nat.{_-_, _%_, _≤_}
 use native.Mathlib.Omega.{arith}
-use lib.ListN.{take}
 use borrow.Author.Needs.{needs}
-use Rattle.reed_solomon.specs.Block.{evalFrom}
-use Rattle.remainder.specs.Words.{behind, Rows, Left}
+use Rattle.remainder.specs.Words.{Rows, Left}
 use Rattle.remainder.proofs.Steps.{front-lt, left-start, left-next}
 use Rattle.remainder.proofs.Lowered.{leaves}
 use Rattle.remainder.proofs.remainder.Statement.{statement}
