@@ -14,10 +14,10 @@ use lib.ListN.{length, getD, List·getD-eq-default}
 use lib.Pow.{shr-shr, mod-pow-add, mod-mod-pow, field}
 use Rattle.symbol.proofs.Finite.{upTo, every}
 use Rattle.bits.specs.Bits.{value}
-use Rattle.placement.specs.Walk.{eightOf, run, behind, unmaskedAt, Pushed, Aligned, Goes, Leads, Walls, Next, Moves}
+use Rattle.placement.specs.Walk.{eightOf, run, behind, unmaskedAt, Gathered, Pushed, Aligned, Goes, Leads, Walls, Next, Moves}
 use Rattle.placement.specs.declared.Run.{Run}
 use Rattle.placement.proofs.Eights.{eight-byte, eight-down}
-use Rattle.placement.proofs.Walk.{inner-is, goes-push, goes-skip}
+use Rattle.placement.proofs.Walk.{length-run, run-small, run-at, run-front, first-value, gathered-is, bits-small, goes-push, goes-skip}
 
 -- Zeros at a number's end.
 
@@ -104,46 +104,75 @@ walls-are {k} {w} l = record {
 
 -- From column to column.
 
-byte-is : {ks sq row : List ℕ} {at c k eight left : ℕ} → Next ks sq row at c k eight left → (j : ℕ) → j < 8 → k / 2 ^ (8 * j) % 256 ≡ getD ks (c + j) 0
-byte-is {ks} {c = c} n j h = ap (λ (x : ℕ). x / 2 ^ (8 * j) % 256) (n .kinds) ∙ eight-byte (behind ks c) (λ i. n .bytes (c + i)) j h
+byte-is : {ks sq row : List ℕ} {b : ℕ → ℕ} {c k x left : ℕ} → Next ks sq row b c k x left → (j : ℕ) → j < 8 → k / 2 ^ (8 * j) % 256 ≡ getD ks (c + j) 0
+byte-is {ks} {c = c} n j h = ap (λ (y : ℕ). y / 2 ^ (8 * j) % 256) (n .kinds) ∙ eight-byte (behind ks c) (λ i. n .bytes (c + i)) j h
 
-module _ {k eight left : ℕ} {out : List ℕ} {r s : Run} (some : 0 < left) (few : left ≤ 8) where
-  pub moves-push : {out′ : List ℕ} {l x : ℕ} (w : ℕ) → Leads k l → w ≤ l → w ≤ left → 0 < w → x ≡ eight / 2 ^ (left - w) % 2 ^ w → s .column ≡ r .column + w → Pushed w x out out′ r s → Moves k eight left out out′ r s
-  moves-push {x = x} w l a b p e f q = record {
-    go = λ ks sq row at n. (
+first-are : {ks sq row : List ℕ} {b : ℕ → ℕ} {c k x left g : ℕ} → Next ks sq row b c k x left → Gathered x g → (w : ℕ) → w ≤ left → left ≤ 8 → g / 2 ^ (8 - w) ≡ value 0 (run w (unmaskedAt sq row c))
+first-are {sq = sq} {row = row} {b = b} {c = c} n g w h l =
+    let e : 8 ≡ w + (8 - w) = omega arith in
+    ap (λ (y : ℕ). y / 2 ^ (8 - w)) (gathered-is b (n .small) (n .modules) g ∙ ap (λ (i : ℕ). value 0 (run i b)) e) ∙ first-value b (n .small) w (8 - w)
+    ∙ ap (value 0) (run-front w b (unmaskedAt sq row c) (λ i q. n .bits i (omega arith)))
+
+module _ {k x left : ℕ} {out : List ℕ} {r s : Run} (some : 0 < left) (few : left ≤ 8) where
+  pub moves-push : {out′ : List ℕ} {l g : ℕ} (w : ℕ) → Leads k l → w ≤ l → w ≤ left → 0 < w → Gathered x g → s .column ≡ r .column + w → Pushed w (g / 2 ^ (8 - w)) out out′ r s → Moves k x left out out′ r s
+  moves-push {g = g} w l a b p e f q = record {
+    go = λ ks sq row u n. (
       omega arith,
       omega (arith, n .inside),
-      goes-push (n .aligned) w x (omega (arith, n .inside)) (λ j h. sym (byte-is n j (omega arith)) ∙ lead-byte l j (omega arith)) (inner-is (n .aligned .masked) at left w (r .column) b few (n .ends) (n .bits) e) f q,
+      goes-push (n .aligned) w (g / 2 ^ (8 - w)) (omega (arith, n .inside)) (λ j h. sym (byte-is n j (omega arith)) ∙ lead-byte l j (omega arith)) (first-are n e w b few) f q,
     );
   }
 
-  pub moves-skip : {w : ℕ} → Leads k 0 → Walls k w → s .column ≡ r .column + w → s .n ≡ r .n → s .value ≡ r .value → s .bits ≡ r .bits → Moves k eight left out out r s
+  pub moves-skip : {w : ℕ} → Leads k 0 → Walls k w → s .column ≡ r .column + w → s .n ≡ r .n → s .value ≡ r .value → s .bits ≡ r .bits → Moves k x left out out r s
   moves-skip {w} l u e f g h = record {
-    go = λ ks sq row at n. (omega (arith, u .least), end n, goes-skip (n .aligned) (omega arith) (end n) (λ i lo hi. let z : r .column + (i - r .column) ≡ i = omega arith in subst (λ (c : ℕ). getD ks c 0 ≢ 0) z (kind n (i - r .column) (omega arith))) f g h);
+    go = λ ks sq row b n. (
+      omega (arith, u .least),
+      end n,
+      goes-skip (n .aligned) (omega arith) (end n) (λ i lo hi. let z : r .column + (i - r .column) ≡ i = omega arith in subst (λ (c : ℕ). getD ks c 0 ≢ 0) z (kind n (i - r .column) (omega arith))) f g h,
+    );
   }
     where
-      kind : {ks sq row : List ℕ} {at : ℕ} → Next ks sq row at (r .column) k eight left → (j : ℕ) → j < w → getD ks (r .column + j) 0 ≢ 0
-      kind n zero q z = omega (arith, l .first (let y : k / 1 ≡ k = omega arith in ap (λ (x : ℕ). x % 256) (sym y) ∙ byte-is n 0 (omega arith) ∙ z))
+      kind : {ks sq row : List ℕ} {b : ℕ → ℕ} → Next ks sq row b (r .column) k x left → (j : ℕ) → j < w → getD ks (r .column + j) 0 ≢ 0
+      kind n zero q z = omega (arith, l .first (let y : k / 1 ≡ k = omega arith in ap (λ (i : ℕ). i % 256) (sym y) ∙ byte-is n 0 (omega arith) ∙ z))
       kind n (suc j) q z = u .none (suc j) (omega arith) q (byte-is n (suc j) (omega (arith, u .most)) ∙ z)
 
       -- behind the row there is no kind
-      end : {ks sq row : List ℕ} {at : ℕ} → Next ks sq row at (r .column) k eight left → s .column ≤ length ks
+      end : {ks sq row : List ℕ} {b : ℕ → ℕ} → Next ks sq row b (r .column) k x left → s .column ≤ length ks
       end {ks} n = elim (decLt (length ks) (s .column)) [
         | yes q ↦ absurd (kind n (length ks - r .column) (omega arith) (List·getD-eq-default ks 0 {n = r .column + (length ks - r .column)} (omega arith)))
         | no q ↦ omega arith
       ]
 
--- the kinds of the eight columns that end a row, shifted down
-pub kinds-down : (ks : List ℕ) (c left : ℕ) {k : ℕ} → left ≤ 8 → 8 ≤ length ks → c + left ≡ length ks → ((i : ℕ) → getD ks i 0 < 256) → k ≡ eightOf (behind ks (length ks - 8)) → k / 2 ^ (64 - 8 * left) ≡ eightOf (behind ks c)
-kinds-down ks c left {k} few big e bytes f =
+-- Eight bytes of a list that end with it, shifted down.
+down : (s : List ℕ) (c left : ℕ) {x : ℕ} → left ≤ 8 → 8 ≤ length s → c + left ≡ length s → ((i : ℕ) → getD s i 0 < 256) → x ≡ eightOf (behind s (length s - 8)) → x / 2 ^ (64 - 8 * left) ≡ eightOf (behind s c)
+down s c left {x} few big e bytes f =
     let i : 64 - 8 * left ≡ 8 * (8 - left) = omega arith in
-    let j : (x : ℕ) → length ks - 8 + (8 - left + x) ≡ c + x = λ x. omega arith in
-    ap₂ (λ (x y : ℕ). x / 2 ^ y) f i
-    ∙ eight-down (8 - left) (behind ks c) (behind ks (length ks - 8)) (λ x. bytes (length ks - 8 + x)) (λ x h. List·getD-eq-default ks 0 {n = length ks - 8 + x} (omega arith)) (λ x. ap (λ (y : ℕ). getD ks y 0) (j x))
+    let j : (y : ℕ) → length s - 8 + (8 - left + y) ≡ c + y = λ y. omega arith in
+    ap₂ (λ (y z : ℕ). y / 2 ^ z) f i
+    ∙ eight-down (8 - left) (behind s c) (behind s (length s - 8)) (λ y. bytes (length s - 8 + y)) (λ y h. List·getD-eq-default s 0 {n = length s - 8 + y} (omega arith)) (λ y. ap (λ (z : ℕ). getD s z 0) (j y))
 
-pub last-moves : {ks sq row out out′ : List ℕ} {r s : Run} {k eight : ℕ} → Aligned ks sq row → ((i : ℕ) → getD ks i 0 < 256) → 8 ≤ length ks → r .column < length ks → length ks ≤ r .column + 8
-    → k ≡ eightOf (behind ks (length ks - 8)) → eight ≡ value 0 (run 8 (unmaskedAt sq row (length ks - 8))) → Moves (k / 2 ^ (64 - 8 * (length ks - r .column))) eight (length ks - r .column) out out′ r s
-    → (r .column < s .column) × (s .column ≤ length ks) × Goes ks sq row out out′ r s
-last-moves {ks} {sq} {row} {r = r} a bytes big lo hi e f m =
-    m .go ks sq row (length ks - 8)
-    (record { aligned = a; bytes = bytes; kinds = kinds-down ks (r .column) (length ks - r .column) (omega arith) big (omega arith) bytes e; ends = omega arith; inside = omega arith; bits = f })
+module _ {ks sq row : List ℕ} (a : Aligned ks sq row) (bytes : (i : ℕ) → getD ks i 0 < 256) (big : 8 ≤ length ks) where
+  -- the bits of the eight columns that end a row
+  abbrev tail : List ℕ
+  tail = run 8 (unmaskedAt sq row (length ks - 8))
+
+  pub last-moves : {out out′ : List ℕ} {r s : Run} {k x : ℕ} → r .column < length ks → length ks ≤ r .column + 8
+      → k ≡ eightOf (behind ks (length ks - 8)) → x ≡ eightOf (unmaskedAt sq row (length ks - 8))
+      → Moves (k / 2 ^ (64 - 8 * (length ks - r .column))) (x / 2 ^ (64 - 8 * (length ks - r .column))) (length ks - r .column) out out′ r s
+      → (r .column < s .column) × (s .column ≤ length ks) × Goes ks sq row out out′ r s
+  unfolding run
+  last-moves {r = r} lo hi e f m =
+      let left = length ks - r .column in
+      let n : length (run 8 (unmaskedAt sq row (length ks - 8))) ≡ 8 = length-run 8 (unmaskedAt sq row (length ks - 8)) in
+      let small = run-small 8 (unmaskedAt sq row (length ks - 8)) (bits-small (a .masked) (length ks - 8)) in
+      m .go ks sq row (behind tail (8 - left))
+      (record {
+        aligned = a;
+        bytes = bytes;
+        kinds = down ks (r .column) left (omega arith) big (omega arith) bytes e;
+        inside = omega arith;
+        modules = down tail (8 - left) left (omega arith) (omega arith) (omega arith) (λ i. omega (arith, small i)) f;
+        small = λ i. small (8 - left + i);
+        bits = λ i h. let z : length ks - 8 + (8 - (length ks - r .column) + i) ≡ r .column + i = omega arith in
+            run-at 8 (unmaskedAt sq row (length ks - 8)) (8 - left + i) (omega arith) ∙ ap (λ (j : ℕ). bitXor (getD sq j 0) (getD row j 0)) z;
+      })

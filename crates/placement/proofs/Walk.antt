@@ -56,11 +56,17 @@ unfolding run
 length-run zero b = refl
 length-run (suc n) b = ap suc (length-run n (λ k. b (suc k)))
 
-run-small : (n : ℕ) (b : ℕ → ℕ) → ((k : ℕ) → b k < 2) → (i : ℕ) → getD (run n b) i 0 < 2
+pub run-small : (n : ℕ) (b : ℕ → ℕ) → ((k : ℕ) → b k < 2) → (i : ℕ) → getD (run n b) i 0 < 2
 unfolding run
 run-small zero b h i = omega arith
 run-small (suc n) b h zero = h 0
 run-small (suc n) b h (suc i) = run-small n (λ k. b (suc k)) (λ k. h (suc k)) i
+
+pub run-at : (n : ℕ) (b : ℕ → ℕ) (i : ℕ) → i < n → getD (run n b) i 0 ≡ b i
+unfolding run
+run-at zero b i h = absurd (omega arith)
+run-at (suc n) b zero h = refl
+run-at (suc n) b (suc i) h = run-at n (λ k. b (suc k)) i (omega arith)
 
 pub run-front : (n : ℕ) (a b : ℕ → ℕ) → ((k : ℕ) → k < n → a k ≡ b k) → run n a ≡ run n b
 unfolding run
@@ -102,11 +108,15 @@ module _ (f : ℕ → ℕ) (small : (k : ℕ) → f k < 2) where
       let l = run b (λ k. f (a + k)) in
       ap (value 0) (run-split a b f) ∙ value-behind 0 (run a f) l ∙ value-add (value 0 (run a f)) l ∙ ap (λ (n : ℕ). value 0 (run a f) * 2 ^ n + value 0 l) (length-run b (λ k. f (a + k)))
 
-  -- w of them with n in front and p behind
-  inner-value : (n w p : ℕ) → value 0 (run (n + w + p) f) / 2 ^ p % 2 ^ w ≡ value 0 (run w (λ k. f (n + k)))
-  inner-value n w p =
-      ap (λ (y : ℕ). y / 2 ^ p % 2 ^ w) (value-split (n + w) p) ∙ ap (λ (y : ℕ). y % 2 ^ w) (high (value 0 (run (n + w) f)) p (run-lt p (λ k. f (n + w + k)) (λ k. small (n + w + k))))
-      ∙ ap (λ (y : ℕ). y % 2 ^ w) (value-split n w) ∙ low (value 0 (run n f)) w (run-lt w (λ k. f (n + k)) (λ k. small (n + k)))
+  -- the first n, and the others
+  pub first-value : (n p : ℕ) → value 0 (run (n + p) f) / 2 ^ p ≡ value 0 (run n f)
+  first-value n p = ap (λ (y : ℕ). y / 2 ^ p) (value-split n p) ∙ high (value 0 (run n f)) p (run-lt p (λ k. f (n + k)) (λ k. small (n + k)))
+
+  last-value : (n w : ℕ) → value 0 (run (n + w) f) % 2 ^ w ≡ value 0 (run w (λ k. f (n + k)))
+  last-value n w = ap (λ (y : ℕ). y % 2 ^ w) (value-split n w) ∙ low (value 0 (run n f)) w (run-lt w (λ k. f (n + k)) (λ k. small (n + k)))
+
+pub gathered-is : {x g : ℕ} (b : ℕ → ℕ) → ((k : ℕ) → b k < 2) → x ≡ eightOf b → Gathered x g → g ≡ value 0 (run 8 b)
+gathered-is b h e g = g .is b h e ∙ sym (run-eight b)
 
 -- Codewords.
 
@@ -254,22 +264,22 @@ pub skipped-from : {ks : List ℕ} {c r : ℕ} → Skipped ks (c + 1) r → getD
 skipped-from {ks} {c} q z k lo hi = elim (decLt c k) [ yes l ↦ q .none k (omega arith) hi | no l ↦ (let e : k ≡ c = omega arith in λ y. z (sym (ap (λ (i : ℕ). getD ks i 0) e) ∙ y)) ]
 
 module _ {sq row : List ℕ} (a : Masked sq row) where
-  bits-small : (c k : ℕ) → unmaskedAt sq row c k < 2
+  pub bits-small : (c k : ℕ) → unmaskedAt sq row c k < 2
   bits-small c k = xor-lt 1 (getD sq (c + k) 0) (getD row (c + k) 0) (a .modules (c + k)) (a .masks (c + k))
 
-  pub unmasked-is : (at : ℕ) {u v x : ℕ} → u ≡ eightOf (behind sq at) → v ≡ eightOf (behind row at) → Gathered (bitXor u v) x → x ≡ value 0 (run 8 (unmaskedAt sq row at))
-  unmasked-is at eu ev g =
-      let both = xor-eight (behind sq at) (behind row at) (λ k. omega (arith, a .modules (at + k))) (λ k. omega (arith, a .masks (at + k))) in
-      g .is (unmaskedAt sq row at) (bits-small at) (ap₂ bitXor eu ev ∙ both) ∙ sym (run-eight (unmaskedAt sq row at))
+  pub modules-are : (at : ℕ) {u v : ℕ} → u ≡ eightOf (behind sq at) → v ≡ eightOf (behind row at) → bitXor u v ≡ eightOf (unmaskedAt sq row at)
+  modules-are at eu ev = ap₂ bitXor eu ev ∙ xor-eight (behind sq at) (behind row at) (λ k. omega (arith, a .modules (at + k))) (λ k. omega (arith, a .masks (at + k)))
 
-  -- the first w of the last `left` of eight bits are the w bits from a column on
-  pub inner-is : (at left w c : ℕ) {g x : ℕ} → w ≤ left → left ≤ 8 → c + left ≡ at + 8 → g ≡ value 0 (run 8 (unmaskedAt sq row at)) → x ≡ g / 2 ^ (left - w) % 2 ^ w → x ≡ value 0 (run w (unmaskedAt sq row c))
-  inner-is at left w c {g} {x} few most e eg ex =
-      let n : 8 ≡ 8 - left + w + (left - w) = omega arith in
-      let i : (k : ℕ) → at + (8 - left + k) ≡ c + k = λ k. omega arith in
-      ex ∙ ap (λ (y : ℕ). y / 2 ^ (left - w) % 2 ^ w) (eg ∙ ap (λ (j : ℕ). value 0 (run j (unmaskedAt sq row at))) n)
-      ∙ inner-value (unmaskedAt sq row at) (bits-small at) (8 - left) w (left - w)
-      ∙ ap (value 0) (run-ext w (λ k. unmaskedAt sq row at (8 - left + k)) (unmaskedAt sq row c) (λ k. ap (λ (j : ℕ). bitXor (getD sq j 0) (getD row j 0)) (i k)))
+  pub unmasked-is : (at : ℕ) {x g : ℕ} → x ≡ eightOf (unmaskedAt sq row at) → Gathered x g → g ≡ value 0 (run 8 (unmaskedAt sq row at))
+  unmasked-is at e g = gathered-is (unmaskedAt sq row at) (bits-small at) e g
+
+  -- the last w of eight bits are the w bits from a column on
+  pub lowest-is : (at w c : ℕ) {g x : ℕ} → w ≤ 8 → c + w ≡ at + 8 → g ≡ value 0 (run 8 (unmaskedAt sq row at)) → x ≡ g % 2 ^ w → x ≡ value 0 (run w (unmaskedAt sq row c))
+  lowest-is at w c {g} {x} few e eg ex =
+      let n : 8 ≡ 8 - w + w = omega arith in
+      let i : (k : ℕ) → at + (8 - w + k) ≡ c + k = λ k. omega arith in
+      ex ∙ ap (λ (y : ℕ). y % 2 ^ w) (eg ∙ ap (λ (j : ℕ). value 0 (run j (unmaskedAt sq row at))) n) ∙ last-value (unmaskedAt sq row at) (bits-small at) (8 - w) w
+      ∙ ap (value 0) (run-ext w (λ k. unmaskedAt sq row at (8 - w + k)) (unmaskedAt sq row c) (λ k. ap (λ (j : ℕ). bitXor (getD sq j 0) (getD row j 0)) (i k)))
 
 module _ {ks sq row : List ℕ} (a : Aligned ks sq row) where
   -- n data modules pushed

@@ -96,20 +96,19 @@ fn skip(kinds: &[u8], first: usize) -> usize
     c
 }
 
-// The eight bits of a row from a column on.
+// The eight bits of a row from a column on, as bytes, and as the number that they say.
+fn modules(square: &[u8], row: &[u8], at: usize) -> usize
+    requires { ⌜ Masked (now square) (now row) × (at + 8 ≤ length (now square)) ⌝ }
+    ensures { λ r. ⌜ r ≡ eightOf (unmaskedAt (now (square .entry)) (now (row .entry)) at) ⌝ }
+{
+    eight(square, at) ^ eight(row, at)
+}
+
 fn unmasked(square: &[u8], row: &[u8], at: usize) -> usize
     requires { ⌜ Masked (now square) (now row) × (at + 8 ≤ length (now square)) ⌝ }
     ensures { λ r. ⌜ (r ≡ value 0 (run 8 (unmaskedAt (now (square .entry)) (now (row .entry)) at))) × (r < 256) ⌝ }
 {
-    gather(eight(square, at) ^ eight(row, at))
-}
-
-// Of eight bits the first w of the last `left`.
-fn inner(bits: usize, left: usize, w: usize) -> usize
-    requires { ⌜ (w ≤ left) × (left ≤ 8) ⌝ }
-    ensures { λ r. ⌜ r ≡ bits / 2 ^ (left - w) % 2 ^ w ⌝ }
-{
-    (bits >> (left - w)) % (1 << w)
+    gather(modules(square, row, at))
 }
 
 fn least(a: usize, b: usize) -> usize
@@ -136,11 +135,10 @@ fn walls(k: usize) -> usize
     lead(((k | (k / 2)) & 72340172838076672) ^ 72340172838076672)
 }
 
-// The data modules that come first of the next `left` columns, or the others up to the first of them. The kinds k are those from the column
-// on, and `eight` are the bits of the eight columns that end there.
-fn advance(out: &mut [u8], k: usize, eight: usize, left: usize, r: Run) -> Run
+// The data modules that come first of the next `left` columns, or the others up to the first of them; k and x have their kinds and bits.
+fn advance(out: &mut [u8], k: usize, x: usize, left: usize, r: Run) -> Run
     requires { ⌜ Pending r × (0 < left) × (left ≤ 8) × (r .column ≤ 192) ⌝ }
-    ensures { λ s. ⌜ Pending s × Moves k eight left (now (out .entry)) (now (out .exit)) r s ⌝ }
+    ensures { λ s. ⌜ Pending s × Moves k x left (now (out .entry)) (now (out .exit)) r s ⌝ }
 {
     let w = least(lead(k), left);
     if w == 0 {
@@ -151,7 +149,7 @@ fn advance(out: &mut [u8], k: usize, eight: usize, left: usize, r: Run) -> Run
             bits: r.bits,
         };
     }
-    push(out, r, inner(eight, left, w), w)
+    push(out, r, gather(x) >> (8 - w), w)
 }
 
 // Eight data modules, or as above.
@@ -161,25 +159,26 @@ fn step(out: &mut [u8], kinds: &[u8], square: &[u8], row: &[u8], r: Run) -> Run
 {
     let c = r.column;
     let k = eight(kinds, c);
-    let bits = unmasked(square, row, c);
+    let x = modules(square, row, c);
     if k == 0 {
-        return push(out, r, bits, 8);
+        return push(out, r, gather(x), 8);
     }
-    advance(out, k, bits, 8, r)
+    advance(out, k, x, 8, r)
 }
 
-// The last modules of a row, fewer than eight: the kinds of the eight that end the row are shifted down.
+// The last modules of a row, fewer than eight: the eight that end the row are shifted down.
 fn read_last(out: &mut [u8], kinds: &[u8], square: &[u8], row: &[u8], first: Run) -> Run
     requires { ⌜ Aligned (now kinds) (now square) (now row) × Pending first × (first .column ≤ length (now kinds)) × (8 ≤ length (now kinds)) × (length (now kinds) ≤ first .column + 8) ⌝ }
     ensures { λ s. ⌜ Pending s × (s .column ≡ length (now (kinds .entry))) × Goes (now (kinds .entry)) (now (square .entry)) (now (row .entry)) (now (out .entry)) (now (out .exit)) first s ⌝ }
 {
     let end = kinds.len();
     let k = eight(kinds, end - 8);
-    let bits = unmasked(square, row, end - 8);
+    let x = modules(square, row, end - 8);
     let mut r = first;
     while r.column < end {
         let left = end - r.column;
-        r = advance(out, k >> (64 - 8 * left), bits, left, r);
+        let s = 64 - 8 * left;
+        r = advance(out, k >> s, x >> s, left, r);
     }
     r
 }
@@ -254,6 +253,13 @@ pub fn read_codewords(
     read_rows(&mut out[..total], kinds, square, side, mask);
 }
 
+fn lowest(bits: usize, w: usize) -> usize
+    requires { ⌜ w ≤ 8 ⌝ }
+    ensures { λ r. ⌜ r ≡ bits % 2 ^ w ⌝ }
+{
+    bits % (1 << w)
+}
+
 // All modules from a column on and before another. Those left behind the groups of eight are the last of the eight that end there.
 fn read_span(out: &mut [u8], square: &[u8], row: &[u8], to: usize, first: Run) -> Run
     requires { ⌜ Masked (now square) (now row) × Pending first × (first .column ≤ to) × (8 ≤ to) × (to ≤ length (now square)) ⌝ }
@@ -264,7 +270,7 @@ fn read_span(out: &mut [u8], square: &[u8], row: &[u8], to: usize, first: Run) -
         r = push(out, r, unmasked(square, row, r.column), 8);
     }
     let w = to - r.column;
-    push(out, r, inner(unmasked(square, row, to - 8), w, w), w)
+    push(out, r, lowest(unmasked(square, row, to - 8), w), w)
 }
 
 // How many modules at either end of a row are no data, where there are no alignment patterns.
