@@ -1,16 +1,14 @@
 -- Bits into data modules.
 use mathlib.Core.Path.{_≡_, refl, ap, ap₂, _∙_, sym, subst}
 use mathlib.Core.Logic.{_≢_}
-use mathlib.Core.Bool.{Bool}
 use mathlib.Core.List.{List, [], _∷_, _++_, append-assoc, append-nil}
 use Prim.Native.Nat.{ℕ, zero, suc, _+_, _-_, _*_, _/_, _%_, _^_, _<_, _≤_}
-use native.Mathlib.Nat.{mod-lt, mod-eq-of-lt}
 use native.Mathlib.Numerals.{add-one}
 use native.Mathlib.Omega.{arith}
 use native.Mathlib.Decide.{decLt, ℕ-discrete}
-use lib.Dec.{T, eqb, eqb→eq, lit<}
-use lib.ListN.{length, getD, take, drop, set, length-set, length-append, length-drop, take-append-drop, drop-of-length-le}
-use lib.Seq.{sets, sets-eq, length-sets, take-at, drop-at, drop-cons, drop-nil, drop-drop, take-suc, take-suc-set, take-all, getD-take, getD-drop, getD-set-other, length-take-le, drop-append-add, take-append-add}
+use lib.Dec.{T, eqb, eqb→eq}
+use lib.ListN.{length, getD, take, drop, set, length-set, length-append, drop-of-length-le}
+use lib.Seq.{sets, sets-eq, length-sets, take-at, drop-at, drop-cons, drop-nil, take-suc, take-all, getD-take, getD-drop, length-take-le, drop-append-add}
 use lib.Bits.{bitXor, bitAnd, xor-lt, and-le-r}
 use Rattle.symbol.proofs.Finite.{upTo, every}
 use Rattle.bits.specs.Bits.{lowBits, bitsOf, value}
@@ -19,7 +17,7 @@ use Rattle.bits.proofs.Window.{window-none, window-more, window-read}
 use Rattle.bits.proofs.Bytes.{low-value, take-small}
 use Rattle.blocks.specs.Blocks.{dataModules}
 use Rattle.codewords.specs.Codewords.{placed}
-use Rattle.placement.specs.Walk.{fourOf, eightOf, run, behind, Skipped}
+use Rattle.placement.specs.Walk.{eightOf, run, behind, Skipped}
 use Rattle.placement.specs.Puts.{bytesOf, patternOf, getD₀, Drawn, Placing, PutBit, PutEight, Blank, Puts, PutsAll}
 use Rattle.placement.specs.declared.Cursor.{Cursor}
 use Rattle.placement.proofs.Walk.{length-run, run-ext, run-front, skipped-from}

@@ -1,5 +1,5 @@
 use Rattle.placement.proofs.Walk.{two-power}
-use mathlib.Core.Path.{_≡_, ap}
+use mathlib.Core.Path.{ap}
 use Prim.Native.Nat.{ℕ, _%_}
 use lib.Pow.{pow-pos}
 use native.Mathlib.Omega.{arith}

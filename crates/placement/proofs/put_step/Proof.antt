@@ -1,5 +1,4 @@
 use Rattle.placement.proofs.Puts.{puts-eight}
-use mathlib.Core.Path.{sym, _∙_}
 use native.Mathlib.Omega.{arith}
 use borrow.Author.Needs.{needs}
 use Rattle.placement.proofs.put_step.Statement.{statement}

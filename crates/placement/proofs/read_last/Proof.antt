@@ -5,7 +5,6 @@ use lib.ListN.{length}
 use mathlib.Core.Path.{_≡_, refl, _∙_}
 use Prim.Native.Nat.{_-_, _≤_}
 use native.Mathlib.Omega.{arith}
-use borrow.Author.Needs.{needs}
 use Rattle.placement.proofs.read_last.Statement.{statement}
 use Rattle.placement.proofs.read_last.Tie as tie
 
