@@ -14,7 +14,7 @@ use lib.ListN.{length, getD, List·getD-eq-default}
 use lib.Pow.{shr-shr, mod-pow-add, mod-mod-pow, field}
 use Rattle.symbol.proofs.Finite.{upTo, every}
 use Rattle.bits.specs.Bits.{value}
-use Rattle.placement.specs.Walk.{eightOf, run, behind, unmaskedAt, Gathered, Pushed, Aligned, Goes, Leads, Walls, Next, Moves}
+use Rattle.placement.specs.Walk.{eightOf, run, behind, unmaskedAt, Gathered, Pushed, Aligned, Goes, Leads, NoData, Next, Moves}
 use Rattle.placement.specs.declared.Run.{Run}
 use Rattle.placement.proofs.Eights.{eight-byte, eight-down}
 use Rattle.placement.proofs.Walk.{length-run, run-small, run-at, run-front, first-value, gathered-is, bits-small, goes-push, goes-skip}
@@ -64,7 +64,7 @@ lead-byte {x} {w} l j h =
 -- Kinds that are not 0. A bit for each of seven bytes: tests that antt computes.
 
 abbrev bits : ℕ
-bits = 72340172838076672
+bits = 0x0101010101010100
 
 bits-test : T (upTo (λ (i : ℕ). eqb (bits / 2 ^ (8 * (i + 1)) % 2) 1) 7)
 bits-test = tt
@@ -95,8 +95,8 @@ holes-at k j p h z =
     let and = ap (λ (y : ℕ). y % 2) (and-shr (bitOr k (k / 2)) bits n) ∙ and-mod (bitOr k (k / 2) / 2 ^ n) (bits / 2 ^ n) 1 ∙ ap₂ bitAnd or m in
     ap (λ (y : ℕ). y % 2) (xor-shr (bitAnd (bitOr k (k / 2)) bits) bits n) ∙ xor-mod (bitAnd (bitOr k (k / 2)) bits / 2 ^ n) (bits / 2 ^ n) 1 ∙ ap₂ bitXor and m
 
-pub walls-are : {k w : ℕ} → Leads (holes k) w → Walls k w
-walls-are {k} {w} l = record {
+pub no-data-are : {k w : ℕ} → Leads (holes k) w → NoData k w
+no-data-are {k} {w} l = record {
   least = l .first (holes-first k);
   most = l .most;
   none = λ j p h z. omega (arith, lead-byte l j h, holes-at k j p (omega (arith, l .most)) z);
@@ -123,7 +123,7 @@ module _ {k x left : ℕ} {out : List ℕ} {r s : Run} (some : 0 < left) (few : 
     );
   }
 
-  pub moves-skip : {w : ℕ} → Leads k 0 → Walls k w → s .column ≡ r .column + w → s .n ≡ r .n → s .value ≡ r .value → s .bits ≡ r .bits → Moves k x left out out r s
+  pub moves-skip : {w : ℕ} → Leads k 0 → NoData k w → s .column ≡ r .column + w → s .n ≡ r .n → s .value ≡ r .value → s .bits ≡ r .bits → Moves k x left out out r s
   moves-skip {w} l u e f g h = record {
     go = λ ks sq row b n. (
       omega (arith, u .least),

@@ -108,14 +108,14 @@ pub record Spans (sq row out out′ : List ℕ) (r s : Run) : Type 0 where
 
 -- Runs of modules of one sort.
 
--- the first w bytes of x are 0; and the first is none of them only where it is not 0
+-- the first w bytes of x are 0, and w is not 0 where the first byte is
 pub record Leads (x w : ℕ) : Type 0 where
   pub most : w ≤ 8
   pub zeros : x % 2 ^ (8 * w) ≡ 0
   pub first : x % 256 ≡ 0 → 1 ≤ w
 
--- the first w bytes of k are not 0, whatever the first is
-pub record Walls (k w : ℕ) : Type 0 where
+-- the bytes of k behind the first and before the place w are not 0
+pub record NoData (k w : ℕ) : Type 0 where
   pub least : 1 ≤ w
   pub most : w ≤ 8
   pub none : (j : ℕ) → 0 < j → j < w → k / 2 ^ (8 * j) % 256 ≢ 0

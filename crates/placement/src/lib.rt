@@ -11,7 +11,7 @@ ghost use Rattle.blocks.specs.Blocks.{dataModules};
 ghost use Rattle.placement.specs.Puts.{bytesOf, patternOf, getD₀, Drawn, PutBit, PutEight, Blank, Puts, PutsAll};
 ghost use Rattle.symbol.specs.Version.{sideOf};
 ghost use Rattle.symbol.specs.Layout.{layoutOf};
-ghost use Rattle.placement.specs.Walk.{Legible, fourOf, eightOf, run, behind, Gathered, Pending, Stored, Pushed, Masked, unmaskedAt, Aligned, Skipped, Goes, Spans, Margin, Leads, Walls, Moves};
+ghost use Rattle.placement.specs.Walk.{Legible, fourOf, eightOf, run, behind, Gathered, Pending, Stored, Pushed, Masked, unmaskedAt, Aligned, Skipped, Goes, Spans, Margin, Leads, NoData, Moves};
 
 // Where a row is read: the column, the codewords so far, and the first bits of the next, which are the lowest of `value`.
 pub struct Run {
@@ -81,21 +81,6 @@ fn push(out: &mut [u8], r: Run, x: usize, w: usize) -> Run
     }
 }
 
-// The first column from one on with a data module, or the row's end: patterns are passed in a loop of a few instructions.
-fn skip(kinds: &[u8], first: usize) -> usize
-    requires { ⌜ first ≤ length (now kinds) ⌝ }
-    ensures { λ r. ⌜ Skipped (now (kinds .entry)) first r ⌝ }
-{
-    let mut c = first;
-    while c < kinds.len() {
-        if kinds[c] == 0 {
-            return c;
-        }
-        c += 1;
-    }
-    c
-}
-
 // The eight bits of a row from a column on, as bytes, and as the number that they say.
 fn modules(square: &[u8], row: &[u8], at: usize) -> usize
     requires { ⌜ Masked (now square) (now row) × (at + 8 ≤ length (now square)) ⌝ }
@@ -127,12 +112,12 @@ fn lead(x: usize) -> usize
     (u64::trailing_zeros(x as u64) as usize) / 8
 }
 
-// How many of eight kinds come before the first data module, if the first kind is none. The factor has a bit for each of the other seven: it
-// is 1 where both low bits of a kind are 0.
-fn walls(k: usize) -> usize
-    ensures { λ r. ⌜ Walls k r ⌝ }
+// How many of eight modules come before the first data module, where the first is none: the lowest bit of each other byte becomes 1 where the
+// two low bits of its kind are 0. The first byte stays 0, so that at least one module is passed.
+fn no_data(k: usize) -> usize
+    ensures { λ r. ⌜ NoData k r ⌝ }
 {
-    lead(((k | (k / 2)) & 72340172838076672) ^ 72340172838076672)
+    lead(((k | (k / 2)) & 0x0101010101010100) ^ 0x0101010101010100)
 }
 
 // The data modules that come first of the next `left` columns, or the others up to the first of them; k and x have their kinds and bits.
@@ -143,7 +128,7 @@ fn advance(out: &mut [u8], k: usize, x: usize, left: usize, r: Run) -> Run
     let w = least(lead(k), left);
     if w == 0 {
         return Run {
-            column: r.column + walls(k),
+            column: r.column + no_data(k),
             n: r.n,
             value: r.value,
             bits: r.bits,
@@ -402,6 +387,21 @@ fn put_bit(square: &mut [u8], at: usize, codewords: &[u8], bit: usize, inverted:
     }
     square[at] = (bits::bit(codewords, bit) as u8) ^ inverted;
     bit + 1
+}
+
+// The first column from one on with a data module, or the row's end: patterns are passed in a loop of a few instructions.
+fn skip(kinds: &[u8], first: usize) -> usize
+    requires { ⌜ first ≤ length (now kinds) ⌝ }
+    ensures { λ r. ⌜ Skipped (now (kinds .entry)) first r ⌝ }
+{
+    let mut c = first;
+    while c < kinds.len() {
+        if kinds[c] == 0 {
+            return c;
+        }
+        c += 1;
+    }
+    c
 }
 
 // One data module, or all modules up to the next. `row` is the row's mask.

@@ -9,14 +9,14 @@ use Rattle.placement.proofs.advance.Statement.{statement}
 use Rattle.placement.proofs.advance.Tie as tie
 
 add-t10 : tie.Need-add-t10
-add-t10 c = omega (arith, c .before .walls .ensures .most, c .before .before .before .before .before .before .pre .3)
+add-t10 c = omega (arith, c .before .no-data .ensures .most, c .before .before .before .before .before .before .pre .3)
 
 returns : tie.Need-returns
 returns c =
     let start = c .before .before .before .before .before .before in
     let least = c .before .before .before .least in
     let none : c .before .before .before .before .lead .result ≡ 0 = omega (arith, c .before .before .if1 .taken, start .pre .1, least .ensures .2 (omega (arith, c .before .before .if1 .taken, start .pre .1))) in
-    (record { few = start .pre .0 .few; small = start .pre .0 .small }, moves-skip (start .pre .1) (start .pre .2) (subst (Leads (start .args .k)) none (c .before .before .before .before .lead .ensures)) (c .before .walls .ensures) refl refl refl refl)
+    (record { few = start .pre .0 .few; small = start .pre .0 .small }, moves-skip (start .pre .1) (start .pre .2) (subst (Leads (start .args .k)) none (c .before .before .before .before .lead .ensures)) (c .before .no-data .ensures) refl refl refl refl)
 
 sub-push : tie.Need-sub-push
 sub-push c = omega (arith, c .before .before .before .least .ensures .1, c .before .before .before .before .before .before .pre .2)
