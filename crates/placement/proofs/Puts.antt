@@ -20,7 +20,7 @@ use Rattle.codewords.specs.Codewords.{placed}
 use Rattle.placement.specs.Walk.{eightOf, run, behind, Skipped}
 use Rattle.placement.specs.Puts.{bytesOf, patternOf, getD₀, Drawn, Placing, PutBit, PutEight, Blank, Puts, PutsAll}
 use Rattle.placement.specs.declared.Cursor.{Cursor}
-use Rattle.placement.proofs.Walk.{length-run, run-ext, run-front, skipped-from}
+use Rattle.placement.proofs.Walk.{length-run, run-ext, run-front}
 use Rattle.placement.proofs.Eights.{bytes-eight, eight-zero, xor-eight}
 
 -- Eight bits set apart: a test that antt computes.
@@ -232,11 +232,11 @@ module _ {ks row cw sq sq′ : List ℕ} {p q : Cursor} where
         (placing-hits g 8 (λ i. getD (bitsOf cw) (p .bit + i) 0) (drop (q .bit) (bitsOf cw)) h (eight-zero (behind ks (p .column)) (sym e ∙ z)) (bits-run cw 8 (p .bit) b ∙ ap (λ (i : ℕ). run 8 (λ k. getD (bitsOf cw) (p .bit + k) 0) ++ drop i (bitsOf cw)) (sym (u .bit-is))) (u .is));
   }
 
-pub puts-skip : {ks row cw sq : List ℕ} {p q : Cursor} → p .column < length ks → getD ks (p .column) 0 ≢ 0 → Skipped ks (p .column + 1) (q .column) → q .bit ≡ p .bit → Puts ks row cw sq sq p q
-puts-skip {ks} {row} {cw} {sq} {p} {q} h z s e = record {
+pub puts-skip : {ks row cw sq : List ℕ} {p q : Cursor} → Skipped ks (p .column) (q .column) → q .bit ≡ p .bit → Puts ks row cw sq sq p q
+puts-skip {ks} {row} {cw} {sq} {p} {q} s e = record {
   go = λ whole after g. subst (λ (i : ℕ). Placing (getD₀ row) ks whole after sq (drop i (bitsOf cw)) (q .column)) (sym e)
       (subst (Placing (getD₀ row) ks whole after sq (drop (p .bit) (bitsOf cw))) f
-      (placing-skip (q .column - p .column) (p .column) (omega (arith, s .most, s .least)) (λ k lo hi. skipped-from s z k lo (omega arith)) g));
+      (placing-skip (q .column - p .column) (p .column) (omega (arith, s .most, s .least)) (λ k lo hi. s .none k lo (omega arith)) g));
 }
   where
     f : p .column + (q .column - p .column) ≡ q .column

@@ -14,7 +14,7 @@ use lib.ListN.{length, getD, List·getD-eq-default}
 use lib.Pow.{shr-shr, mod-pow-add, mod-mod-pow, field}
 use Rattle.symbol.proofs.Finite.{upTo, every}
 use Rattle.bits.specs.Bits.{value}
-use Rattle.placement.specs.Walk.{eightOf, run, behind, unmaskedAt, Gathered, Pushed, Aligned, Goes, Leads, NoData, Next, Moves}
+use Rattle.placement.specs.Walk.{eightOf, run, behind, unmaskedAt, Gathered, Pushed, Aligned, Skipped, Goes, Leads, NoData, Next, Moves}
 use Rattle.placement.specs.declared.Run.{Run}
 use Rattle.placement.proofs.Eights.{eight-byte, eight-down}
 use Rattle.placement.proofs.Walk.{length-run, run-small, run-at, run-front, first-value, gathered-is, bits-small, goes-push, goes-skip}
@@ -104,8 +104,27 @@ no-data-are {k} {w} l = record {
 
 -- From column to column.
 
-byte-is : {ks sq row : List ℕ} {b : ℕ → ℕ} {c k x left : ℕ} → Next ks sq row b c k x left → (j : ℕ) → j < 8 → k / 2 ^ (8 * j) % 256 ≡ getD ks (c + j) 0
-byte-is {ks} {c = c} n j h = ap (λ (y : ℕ). y / 2 ^ (8 * j) % 256) (n .kinds) ∙ eight-byte (behind ks c) (λ i. n .bytes (c + i)) j h
+pub passed-one : (ks : List ℕ) (c : ℕ) → c < length ks → getD ks c 0 ≢ 0 → Skipped ks c (c + 1)
+passed-one ks c h z = record { least = omega arith; most = omega arith; none = λ k lo hi. let e : c ≡ k = omega arith in subst (λ (i : ℕ). getD ks i 0 ≢ 0) e z }
+
+module _ (ks : List ℕ) (c : ℕ) {k : ℕ} (bytes : (i : ℕ) → getD ks i 0 < 256) (kinds : k ≡ eightOf (behind ks c)) where
+  byte-is : (j : ℕ) → j < 8 → k / 2 ^ (8 * j) % 256 ≡ getD ks (c + j) 0
+  byte-is j h = ap (λ (y : ℕ). y / 2 ^ (8 * j) % 256) kinds ∙ eight-byte (behind ks c) (λ i. bytes (c + i)) j h
+
+  -- modules that are no data; behind the row there is no kind
+  pub passed : {w : ℕ} → c < length ks → k % 256 ≢ 0 → NoData k w → Skipped ks c (c + w)
+  passed {w} inside first u = record {
+    least = omega arith;
+    most = elim (decLt (length ks) (c + w)) [
+      | yes q ↦ absurd (kind (length ks - c) (omega arith) (List·getD-eq-default ks 0 {n = c + (length ks - c)} (omega arith)))
+      | no q ↦ omega arith
+    ];
+    none = λ i lo hi. let z : c + (i - c) ≡ i = omega arith in subst (λ (j : ℕ). getD ks j 0 ≢ 0) z (kind (i - c) (omega arith));
+  }
+    where
+      kind : (j : ℕ) → j < w → getD ks (c + j) 0 ≢ 0
+      kind zero q z = let y : k / 1 ≡ k = omega arith in first (ap (λ (i : ℕ). i % 256) (sym y) ∙ byte-is 0 (omega arith) ∙ z)
+      kind (suc j) q z = u .none (suc j) (omega arith) q (byte-is (suc j) (omega (arith, u .most)) ∙ z)
 
 first-are : {ks sq row : List ℕ} {b : ℕ → ℕ} {c k x left g : ℕ} → Next ks sq row b c k x left → Gathered x g → (w : ℕ) → w ≤ left → left ≤ 8 → g / 2 ^ (8 - w) ≡ value 0 (run w (unmaskedAt sq row c))
 first-are {sq = sq} {row = row} {b = b} {c = c} n g w h l =
@@ -119,29 +138,15 @@ module _ {k x left : ℕ} {out : List ℕ} {r s : Run} (some : 0 < left) (few : 
     go = λ ks sq row u n. (
       omega arith,
       omega (arith, n .inside),
-      goes-push (n .aligned) w (g / 2 ^ (8 - w)) (omega (arith, n .inside)) (λ j h. sym (byte-is n j (omega arith)) ∙ lead-byte l j (omega arith)) (first-are n e w b few) f q,
+      goes-push (n .aligned) w (g / 2 ^ (8 - w)) (omega (arith, n .inside)) (λ j h. sym (byte-is ks (r .column) (n .bytes) (n .kinds) j (omega arith)) ∙ lead-byte l j (omega arith)) (first-are n e w b few) f q,
     );
   }
 
   pub moves-skip : {w : ℕ} → Leads k 0 → NoData k w → s .column ≡ r .column + w → s .n ≡ r .n → s .value ≡ r .value → s .bits ≡ r .bits → Moves k x left out out r s
   moves-skip {w} l u e f g h = record {
-    go = λ ks sq row b n. (
-      omega (arith, u .least),
-      end n,
-      goes-skip (n .aligned) (omega arith) (end n) (λ i lo hi. let z : r .column + (i - r .column) ≡ i = omega arith in subst (λ (c : ℕ). getD ks c 0 ≢ 0) z (kind n (i - r .column) (omega arith))) f g h,
-    );
+    go = λ ks sq row b n.
+        let q = subst (Skipped ks (r .column)) (sym e) (passed ks (r .column) (n .bytes) (n .kinds) (omega (arith, n .inside)) (λ z. omega (arith, l .first z)) u) in (omega (arith, u .least), q .most, goes-skip (n .aligned) q f g h);
   }
-    where
-      kind : {ks sq row : List ℕ} {b : ℕ → ℕ} → Next ks sq row b (r .column) k x left → (j : ℕ) → j < w → getD ks (r .column + j) 0 ≢ 0
-      kind n zero q z = omega (arith, l .first (let y : k / 1 ≡ k = omega arith in ap (λ (i : ℕ). i % 256) (sym y) ∙ byte-is n 0 (omega arith) ∙ z))
-      kind n (suc j) q z = u .none (suc j) (omega arith) q (byte-is n (suc j) (omega (arith, u .most)) ∙ z)
-
-      -- behind the row there is no kind
-      end : {ks sq row : List ℕ} {b : ℕ → ℕ} → Next ks sq row b (r .column) k x left → s .column ≤ length ks
-      end {ks} n = elim (decLt (length ks) (s .column)) [
-        | yes q ↦ absurd (kind n (length ks - r .column) (omega arith) (List·getD-eq-default ks 0 {n = r .column + (length ks - r .column)} (omega arith)))
-        | no q ↦ omega arith
-      ]
 
 -- Eight bytes of a list that end with it, shifted down.
 down : (s : List ℕ) (c left : ℕ) {x : ℕ} → left ≤ 8 → 8 ≤ length s → c + left ≡ length s → ((i : ℕ) → getD s i 0 < 256) → x ≡ eightOf (behind s (length s - 8)) → x / 2 ^ (64 - 8 * left) ≡ eightOf (behind s c)

@@ -249,20 +249,6 @@ module _ (m : ℕ → ℕ) (ks sq : List ℕ) (same : length sq ≤ length ks) w
 
 -- From column to column.
 
-pub skipped-start : {ks : List ℕ} {first : ℕ} → first ≤ length ks → Skipped ks first first
-skipped-start h = record { least = omega arith; most = h; none = λ k a b. absurd (omega arith) }
-
-pub skipped-more : {ks : List ℕ} {first c : ℕ} → Skipped ks first c → c < length ks → getD ks c 0 ≢ 0 → Skipped ks first (c + 1)
-skipped-more {ks} {first} {c} q h z = record {
-  least = omega (arith, q .least);
-  most = omega arith;
-  none = λ k a b. elim (decLt k c) [ yes l ↦ q .none k a l | no l ↦ (let e : k ≡ c = omega arith in λ y. z (sym (ap (λ (i : ℕ). getD ks i 0) e) ∙ y)) ];
-}
-
--- so too from the column before
-pub skipped-from : {ks : List ℕ} {c r : ℕ} → Skipped ks (c + 1) r → getD ks c 0 ≢ 0 → (k : ℕ) → c ≤ k → k < r → getD ks k 0 ≢ 0
-skipped-from {ks} {c} q z k lo hi = elim (decLt c k) [ yes l ↦ q .none k (omega arith) hi | no l ↦ (let e : k ≡ c = omega arith in λ y. z (sym (ap (λ (i : ℕ). getD ks i 0) e) ∙ y)) ]
-
 module _ {sq row : List ℕ} (a : Masked sq row) where
   pub bits-small : (c k : ℕ) → unmaskedAt sq row c k < 2
   bits-small c k = xor-lt 1 (getD sq (c + k) 0) (getD row (c + k) 0) (a .modules (c + k)) (a .masks (c + k))
@@ -295,9 +281,9 @@ module _ {ks sq row : List ℕ} (a : Aligned ks sq row) where
   }
 
   -- modules that are no data passed
-  pub goes-skip : {out : List ℕ} {r s : Run} → r .column ≤ s .column → s .column ≤ length ks → ((k : ℕ) → r .column ≤ k → k < s .column → getD ks k 0 ≢ 0)
+  pub goes-skip : {out : List ℕ} {r s : Run} → Skipped ks (r .column) (s .column)
       → s .n ≡ r .n → s .value ≡ r .value → s .bits ≡ r .bits → Goes ks sq row out out r s
-  goes-skip {out} {r} {s} lo hi z n v b = record {
+  goes-skip {out} {r} {s} q n v b = record {
     go = λ total all rest k. record {
       words = subst (λ (i : ℕ). Words total all out (lowBits (s .bits) (s .value) ++ (rowBits ks sq row (s .column) ++ rest)) i) (sym n)
           (same-words (ap₂ (λ (l t : List ℕ). l ++ (t ++ rest)) (sym (ap₂ lowBits b v)) passed) (k .words));
@@ -306,8 +292,8 @@ module _ {ks sq row : List ℕ} (a : Aligned ks sq row) where
     where
       passed : rowBits ks sq row (r .column) ≡ rowBits ks sq row (s .column)
       passed =
-          let e : r .column + (s .column - r .column) ≡ s .column = omega arith in
-          from-misses (λ k. getD row k 0) ks sq (omega (arith, a .size)) (s .column - r .column) (r .column) (omega (arith, a .size)) (λ k l h. z k l (omega arith)) ∙ ap (rowBits ks sq row) e
+          let e : r .column + (s .column - r .column) ≡ s .column = omega (arith, q .least) in
+          from-misses (λ k. getD row k 0) ks sq (omega (arith, a .size)) (s .column - r .column) (r .column) (omega (arith, a .size, q .least, q .most)) (λ k l h. q .none k l (omega arith)) ∙ ap (rowBits ks sq row) e
 
 pub goes-none : {ks sq row out : List ℕ} {r : Run} → Goes ks sq row out out r r
 goes-none = record { go = λ total all rest k. k }

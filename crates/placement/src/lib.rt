@@ -11,7 +11,7 @@ ghost use Rattle.blocks.specs.Blocks.{dataModules};
 ghost use Rattle.placement.specs.Puts.{bytesOf, patternOf, getD₀, Drawn, PutBit, PutEight, Blank, Puts, PutsAll};
 ghost use Rattle.symbol.specs.Version.{sideOf};
 ghost use Rattle.symbol.specs.Layout.{layoutOf};
-ghost use Rattle.placement.specs.Walk.{Legible, fourOf, eightOf, run, behind, Gathered, Pending, Stored, Pushed, Masked, unmaskedAt, Aligned, Skipped, Goes, Spans, Margin, Leads, NoData, Moves};
+ghost use Rattle.placement.specs.Walk.{Legible, fourOf, eightOf, run, behind, Gathered, Pending, Stored, Pushed, Masked, unmaskedAt, Aligned, Goes, Spans, Margin, Leads, NoData, Moves};
 
 // Where a row is read: the column, the codewords so far, and the first bits of the next, which are the lowest of `value`.
 pub struct Run {
@@ -389,22 +389,7 @@ fn put_bit(square: &mut [u8], at: usize, codewords: &[u8], bit: usize, inverted:
     bit + 1
 }
 
-// The first column from one on with a data module, or the row's end: patterns are passed in a loop of a few instructions.
-fn skip(kinds: &[u8], first: usize) -> usize
-    requires { ⌜ first ≤ length (now kinds) ⌝ }
-    ensures { λ r. ⌜ Skipped (now (kinds .entry)) first r ⌝ }
-{
-    let mut c = first;
-    while c < kinds.len() {
-        if kinds[c] == 0 {
-            return c;
-        }
-        c += 1;
-    }
-    c
-}
-
-// One data module, or all modules up to the next. `row` is the row's mask.
+// One module. `row` is the row's mask.
 fn put_one(square: &mut [u8], kinds: &[u8], row: &[u8], codewords: &[u8], p: Cursor) -> Cursor
     requires { ⌜ Blank (now square) (now kinds) (now row) (now codewords) × (p .column < length (now kinds)) ⌝ }
     ensures { λ q. ⌜ (p .column < q .column) × (q .column ≤ length (now (kinds .entry))) × Puts (now (kinds .entry)) (now (row .entry)) (now (codewords .entry)) (now (square .entry)) (now (square .exit)) p q ⌝ }
@@ -417,7 +402,7 @@ fn put_one(square: &mut [u8], kinds: &[u8], row: &[u8], codewords: &[u8], p: Cur
         };
     }
     Cursor {
-        column: skip(kinds, c + 1),
+        column: c + 1,
         bit: p.bit,
     }
 }
@@ -436,12 +421,19 @@ fn put_eight(square: &mut [u8], row: &[u8], codewords: &[u8], p: Cursor) -> Curs
     }
 }
 
-// Eight data modules, or as above.
+// Eight data modules, or all modules up to the next that is data, or one.
 fn put_step(square: &mut [u8], kinds: &[u8], row: &[u8], codewords: &[u8], p: Cursor) -> Cursor
     requires { ⌜ Blank (now square) (now kinds) (now row) (now codewords) × (p .column + 8 ≤ length (now kinds)) ⌝ }
     ensures { λ q. ⌜ (p .column < q .column) × (q .column ≤ length (now (kinds .entry))) × Puts (now (kinds .entry)) (now (row .entry)) (now (codewords .entry)) (now (square .entry)) (now (square .exit)) p q ⌝ }
 {
-    if eight(kinds, p.column) != 0 {
+    let k = eight(kinds, p.column);
+    if k % 256 != 0 {
+        return Cursor {
+            column: p.column + no_data(k),
+            bit: p.bit,
+        };
+    }
+    if k != 0 {
         return put_one(square, kinds, row, codewords, p);
     }
     if codewords.len() <= p.bit / 8 + 1 {
