@@ -427,19 +427,19 @@ fn put_step(square: &mut [u8], kinds: &[u8], row: &[u8], codewords: &[u8], p: Cu
     ensures { λ q. ⌜ (p .column < q .column) × (q .column ≤ length (now (kinds .entry))) × Puts (now (kinds .entry)) (now (row .entry)) (now (codewords .entry)) (now (square .entry)) (now (square .exit)) p q ⌝ }
 {
     let k = eight(kinds, p.column);
-    if k % 256 != 0 {
-        return Cursor {
-            column: p.column + no_data(k),
-            bit: p.bit,
-        };
-    }
-    if k != 0 {
+    if k == 0 {
+        if p.bit / 8 + 1 < codewords.len() {
+            return put_eight(square, row, codewords, p);
+        }
         return put_one(square, kinds, row, codewords, p);
     }
-    if codewords.len() <= p.bit / 8 + 1 {
+    if k % 256 == 0 {
         return put_one(square, kinds, row, codewords, p);
     }
-    put_eight(square, row, codewords, p)
+    Cursor {
+        column: p.column + no_data(k),
+        bit: p.bit,
+    }
 }
 
 // The last modules of a row.
