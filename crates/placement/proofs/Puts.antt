@@ -1,16 +1,14 @@
 -- Bits into data modules.
 use mathlib.Core.Path.{_≡_, refl, ap, ap₂, _∙_, sym, subst}
 use mathlib.Core.Logic.{_≢_}
-use mathlib.Core.Bool.{Bool}
 use mathlib.Core.List.{List, [], _∷_, _++_, append-assoc, append-nil}
 use Prim.Native.Nat.{ℕ, zero, suc, _+_, _-_, _*_, _/_, _%_, _^_, _<_, _≤_}
-use native.Mathlib.Nat.{mod-lt, mod-eq-of-lt}
 use native.Mathlib.Numerals.{add-one}
 use native.Mathlib.Omega.{arith}
 use native.Mathlib.Decide.{decLt, ℕ-discrete}
-use lib.Dec.{T, eqb, eqb→eq, lit<}
-use lib.ListN.{length, getD, take, drop, set, length-set, length-append, length-drop, take-append-drop, drop-of-length-le}
-use lib.Seq.{sets, sets-eq, length-sets, take-at, drop-at, drop-cons, drop-nil, drop-drop, take-suc, take-suc-set, take-all, getD-take, getD-drop, getD-set-other, length-take-le, drop-append-add, take-append-add}
+use lib.Dec.{T, eqb, eqb→eq}
+use lib.ListN.{length, getD, take, drop, set, length-set, length-append, drop-of-length-le}
+use lib.Seq.{sets, sets-eq, length-sets, take-at, drop-at, drop-cons, drop-nil, take-suc, take-all, getD-take, getD-drop, length-take-le, drop-append-add}
 use lib.Bits.{bitXor, bitAnd, xor-lt, and-le-r}
 use Rattle.symbol.proofs.Finite.{upTo, every}
 use Rattle.bits.specs.Bits.{lowBits, bitsOf, value}
@@ -19,10 +17,10 @@ use Rattle.bits.proofs.Window.{window-none, window-more, window-read}
 use Rattle.bits.proofs.Bytes.{low-value, take-small}
 use Rattle.blocks.specs.Blocks.{dataModules}
 use Rattle.codewords.specs.Codewords.{placed}
-use Rattle.placement.specs.Walk.{fourOf, eightOf, run, behind, Skipped}
+use Rattle.placement.specs.Walk.{eightOf, run, behind, Skipped}
 use Rattle.placement.specs.Puts.{bytesOf, patternOf, getD₀, Drawn, Placing, PutBit, PutEight, Blank, Puts, PutsAll}
 use Rattle.placement.specs.declared.Cursor.{Cursor}
-use Rattle.placement.proofs.Walk.{length-run, run-ext, run-front, skipped-from}
+use Rattle.placement.proofs.Walk.{length-run, run-ext, run-front}
 use Rattle.placement.proofs.Eights.{bytes-eight, eight-zero, xor-eight}
 
 -- Eight bits set apart: a test that antt computes.
@@ -234,11 +232,11 @@ module _ {ks row cw sq sq′ : List ℕ} {p q : Cursor} where
         (placing-hits g 8 (λ i. getD (bitsOf cw) (p .bit + i) 0) (drop (q .bit) (bitsOf cw)) h (eight-zero (behind ks (p .column)) (sym e ∙ z)) (bits-run cw 8 (p .bit) b ∙ ap (λ (i : ℕ). run 8 (λ k. getD (bitsOf cw) (p .bit + k) 0) ++ drop i (bitsOf cw)) (sym (u .bit-is))) (u .is));
   }
 
-pub puts-skip : {ks row cw sq : List ℕ} {p q : Cursor} → p .column < length ks → getD ks (p .column) 0 ≢ 0 → Skipped ks (p .column + 1) (q .column) → q .bit ≡ p .bit → Puts ks row cw sq sq p q
-puts-skip {ks} {row} {cw} {sq} {p} {q} h z s e = record {
+pub puts-skip : {ks row cw sq : List ℕ} {p q : Cursor} → Skipped ks (p .column) (q .column) → q .bit ≡ p .bit → Puts ks row cw sq sq p q
+puts-skip {ks} {row} {cw} {sq} {p} {q} s e = record {
   go = λ whole after g. subst (λ (i : ℕ). Placing (getD₀ row) ks whole after sq (drop i (bitsOf cw)) (q .column)) (sym e)
       (subst (Placing (getD₀ row) ks whole after sq (drop (p .bit) (bitsOf cw))) f
-      (placing-skip (q .column - p .column) (p .column) (omega (arith, s .most, s .least)) (λ k lo hi. skipped-from s z k lo (omega arith)) g));
+      (placing-skip (q .column - p .column) (p .column) (omega (arith, s .most, s .least)) (λ k lo hi. s .none k lo (omega arith)) g));
 }
   where
     f : p .column + (q .column - p .column) ≡ q .column

@@ -3,7 +3,7 @@ use mathlib.Core.Path.{_≡_, refl, ap, ap₂, _∙_, sym, subst}
 use mathlib.Core.Logic.{_≢_}
 use mathlib.Core.List.{List}
 use Prim.Native.Nat.{ℕ, zero, suc, _+_, _-_, _*_, _/_, _%_, _^_, _<_, _≤_, zero-le, suc-le-suc}
-use native.Mathlib.Nat.{mod-one, zero-div, zero-mod, mul-one}
+use native.Mathlib.Nat.{mod-one, zero-div, zero-mod}
 use native.Mathlib.Numerals.{add-one}
 use native.Mathlib.Omega.{arith}
 use native.Mathlib.Decide.{decLt}
@@ -14,10 +14,10 @@ use lib.ListN.{length, getD, List·getD-eq-default}
 use lib.Pow.{shr-shr, mod-pow-add, mod-mod-pow, field}
 use Rattle.symbol.proofs.Finite.{upTo, every}
 use Rattle.bits.specs.Bits.{value}
-use Rattle.placement.specs.Walk.{eightOf, run, behind, unmaskedAt, Pushed, Aligned, Goes, Leads, Walls, Next, Moves}
+use Rattle.placement.specs.Walk.{eightOf, run, behind, unmaskedAt, Gathered, Pushed, Aligned, Skipped, Goes, Leads, NoData, Next, Moves}
 use Rattle.placement.specs.declared.Run.{Run}
 use Rattle.placement.proofs.Eights.{eight-byte, eight-down}
-use Rattle.placement.proofs.Walk.{inner-is, goes-push, goes-skip}
+use Rattle.placement.proofs.Walk.{length-run, run-small, run-at, run-front, first-value, gathered-is, bits-small, goes-push, goes-skip}
 
 -- Zeros at a number's end.
 
@@ -64,7 +64,7 @@ lead-byte {x} {w} l j h =
 -- Kinds that are not 0. A bit for each of seven bytes: tests that antt computes.
 
 abbrev bits : ℕ
-bits = 72340172838076672
+bits = 0x0101010101010100
 
 bits-test : T (upTo (λ (i : ℕ). eqb (bits / 2 ^ (8 * (i + 1)) % 2) 1) 7)
 bits-test = tt
@@ -95,8 +95,8 @@ holes-at k j p h z =
     let and = ap (λ (y : ℕ). y % 2) (and-shr (bitOr k (k / 2)) bits n) ∙ and-mod (bitOr k (k / 2) / 2 ^ n) (bits / 2 ^ n) 1 ∙ ap₂ bitAnd or m in
     ap (λ (y : ℕ). y % 2) (xor-shr (bitAnd (bitOr k (k / 2)) bits) bits n) ∙ xor-mod (bitAnd (bitOr k (k / 2)) bits / 2 ^ n) (bits / 2 ^ n) 1 ∙ ap₂ bitXor and m
 
-pub walls-are : {k w : ℕ} → Leads (holes k) w → Walls k w
-walls-are {k} {w} l = record {
+pub no-data-are : {k w : ℕ} → Leads (holes k) w → NoData k w
+no-data-are {k} {w} l = record {
   least = l .first (holes-first k);
   most = l .most;
   none = λ j p h z. omega (arith, lead-byte l j h, holes-at k j p (omega (arith, l .most)) z);
@@ -104,46 +104,80 @@ walls-are {k} {w} l = record {
 
 -- From column to column.
 
-byte-is : {ks sq row : List ℕ} {at c k eight left : ℕ} → Next ks sq row at c k eight left → (j : ℕ) → j < 8 → k / 2 ^ (8 * j) % 256 ≡ getD ks (c + j) 0
-byte-is {ks} {c = c} n j h = ap (λ (x : ℕ). x / 2 ^ (8 * j) % 256) (n .kinds) ∙ eight-byte (behind ks c) (λ i. n .bytes (c + i)) j h
+pub passed-one : (ks : List ℕ) (c : ℕ) → c < length ks → getD ks c 0 ≢ 0 → Skipped ks c (c + 1)
+passed-one ks c h z = record { least = omega arith; most = omega arith; none = λ k lo hi. let e : c ≡ k = omega arith in subst (λ (i : ℕ). getD ks i 0 ≢ 0) e z }
 
-module _ {k eight left : ℕ} {out : List ℕ} {r s : Run} (some : 0 < left) (few : left ≤ 8) where
-  pub moves-push : {out′ : List ℕ} {l x : ℕ} (w : ℕ) → Leads k l → w ≤ l → w ≤ left → 0 < w → x ≡ eight / 2 ^ (left - w) % 2 ^ w → s .column ≡ r .column + w → Pushed w x out out′ r s → Moves k eight left out out′ r s
-  moves-push {x = x} w l a b p e f q = record {
-    go = λ ks sq row at n. (
+module _ (ks : List ℕ) (c : ℕ) {k : ℕ} (bytes : (i : ℕ) → getD ks i 0 < 256) (kinds : k ≡ eightOf (behind ks c)) where
+  byte-is : (j : ℕ) → j < 8 → k / 2 ^ (8 * j) % 256 ≡ getD ks (c + j) 0
+  byte-is j h = ap (λ (y : ℕ). y / 2 ^ (8 * j) % 256) kinds ∙ eight-byte (behind ks c) (λ i. bytes (c + i)) j h
+
+  -- modules that are no data; behind the row there is no kind
+  pub passed : {w : ℕ} → c < length ks → k % 256 ≢ 0 → NoData k w → Skipped ks c (c + w)
+  passed {w} inside first u = record {
+    least = omega arith;
+    most = elim (decLt (length ks) (c + w)) [
+      | yes q ↦ absurd (kind (length ks - c) (omega arith) (List·getD-eq-default ks 0 {n = c + (length ks - c)} (omega arith)))
+      | no q ↦ omega arith
+    ];
+    none = λ i lo hi. let z : c + (i - c) ≡ i = omega arith in subst (λ (j : ℕ). getD ks j 0 ≢ 0) z (kind (i - c) (omega arith));
+  }
+    where
+      kind : (j : ℕ) → j < w → getD ks (c + j) 0 ≢ 0
+      kind zero q z = let y : k / 1 ≡ k = omega arith in first (ap (λ (i : ℕ). i % 256) (sym y) ∙ byte-is 0 (omega arith) ∙ z)
+      kind (suc j) q z = u .none (suc j) (omega arith) q (byte-is (suc j) (omega (arith, u .most)) ∙ z)
+
+first-are : {ks sq row : List ℕ} {b : ℕ → ℕ} {c k x left g : ℕ} → Next ks sq row b c k x left → Gathered x g → (w : ℕ) → w ≤ left → left ≤ 8 → g / 2 ^ (8 - w) ≡ value 0 (run w (unmaskedAt sq row c))
+first-are {sq = sq} {row = row} {b = b} {c = c} n g w h l =
+    let e : 8 ≡ w + (8 - w) = omega arith in
+    ap (λ (y : ℕ). y / 2 ^ (8 - w)) (gathered-is b (n .small) (n .modules) g ∙ ap (λ (i : ℕ). value 0 (run i b)) e) ∙ first-value b (n .small) w (8 - w)
+    ∙ ap (value 0) (run-front w b (unmaskedAt sq row c) (λ i q. n .bits i (omega arith)))
+
+module _ {k x left : ℕ} {out : List ℕ} {r s : Run} (some : 0 < left) (few : left ≤ 8) where
+  pub moves-push : {out′ : List ℕ} {l g : ℕ} (w : ℕ) → Leads k l → w ≤ l → w ≤ left → 0 < w → Gathered x g → s .column ≡ r .column + w → Pushed w (g / 2 ^ (8 - w)) out out′ r s → Moves k x left out out′ r s
+  moves-push {g = g} w l a b p e f q = record {
+    go = λ ks sq row u n. (
       omega arith,
       omega (arith, n .inside),
-      goes-push (n .aligned) w x (omega (arith, n .inside)) (λ j h. sym (byte-is n j (omega arith)) ∙ lead-byte l j (omega arith)) (inner-is (n .aligned .masked) at left w (r .column) b few (n .ends) (n .bits) e) f q,
+      goes-push (n .aligned) w (g / 2 ^ (8 - w)) (omega (arith, n .inside)) (λ j h. sym (byte-is ks (r .column) (n .bytes) (n .kinds) j (omega arith)) ∙ lead-byte l j (omega arith)) (first-are n e w b few) f q,
     );
   }
 
-  pub moves-skip : {w : ℕ} → Leads k 0 → Walls k w → s .column ≡ r .column + w → s .n ≡ r .n → s .value ≡ r .value → s .bits ≡ r .bits → Moves k eight left out out r s
+  pub moves-skip : {w : ℕ} → Leads k 0 → NoData k w → s .column ≡ r .column + w → s .n ≡ r .n → s .value ≡ r .value → s .bits ≡ r .bits → Moves k x left out out r s
   moves-skip {w} l u e f g h = record {
-    go = λ ks sq row at n. (omega (arith, u .least), end n, goes-skip (n .aligned) (omega arith) (end n) (λ i lo hi. let z : r .column + (i - r .column) ≡ i = omega arith in subst (λ (c : ℕ). getD ks c 0 ≢ 0) z (kind n (i - r .column) (omega arith))) f g h);
+    go = λ ks sq row b n.
+        let q = subst (Skipped ks (r .column)) (sym e) (passed ks (r .column) (n .bytes) (n .kinds) (omega (arith, n .inside)) (λ z. omega (arith, l .first z)) u) in (omega (arith, u .least), q .most, goes-skip (n .aligned) q f g h);
   }
-    where
-      kind : {ks sq row : List ℕ} {at : ℕ} → Next ks sq row at (r .column) k eight left → (j : ℕ) → j < w → getD ks (r .column + j) 0 ≢ 0
-      kind n zero q z = omega (arith, l .first (let y : k / 1 ≡ k = omega arith in ap (λ (x : ℕ). x % 256) (sym y) ∙ byte-is n 0 (omega arith) ∙ z))
-      kind n (suc j) q z = u .none (suc j) (omega arith) q (byte-is n (suc j) (omega (arith, u .most)) ∙ z)
 
-      -- behind the row there is no kind
-      end : {ks sq row : List ℕ} {at : ℕ} → Next ks sq row at (r .column) k eight left → s .column ≤ length ks
-      end {ks} n = elim (decLt (length ks) (s .column)) [
-        | yes q ↦ absurd (kind n (length ks - r .column) (omega arith) (List·getD-eq-default ks 0 {n = r .column + (length ks - r .column)} (omega arith)))
-        | no q ↦ omega arith
-      ]
-
--- the kinds of the eight columns that end a row, shifted down
-pub kinds-down : (ks : List ℕ) (c left : ℕ) {k : ℕ} → left ≤ 8 → 8 ≤ length ks → c + left ≡ length ks → ((i : ℕ) → getD ks i 0 < 256) → k ≡ eightOf (behind ks (length ks - 8)) → k / 2 ^ (64 - 8 * left) ≡ eightOf (behind ks c)
-kinds-down ks c left {k} few big e bytes f =
+-- Eight bytes of a list that end with it, shifted down.
+down : (s : List ℕ) (c left : ℕ) {x : ℕ} → left ≤ 8 → 8 ≤ length s → c + left ≡ length s → ((i : ℕ) → getD s i 0 < 256) → x ≡ eightOf (behind s (length s - 8)) → x / 2 ^ (64 - 8 * left) ≡ eightOf (behind s c)
+down s c left {x} few big e bytes f =
     let i : 64 - 8 * left ≡ 8 * (8 - left) = omega arith in
-    let j : (x : ℕ) → length ks - 8 + (8 - left + x) ≡ c + x = λ x. omega arith in
-    ap₂ (λ (x y : ℕ). x / 2 ^ y) f i
-    ∙ eight-down (8 - left) (behind ks c) (behind ks (length ks - 8)) (λ x. bytes (length ks - 8 + x)) (λ x h. List·getD-eq-default ks 0 {n = length ks - 8 + x} (omega arith)) (λ x. ap (λ (y : ℕ). getD ks y 0) (j x))
+    let j : (y : ℕ) → length s - 8 + (8 - left + y) ≡ c + y = λ y. omega arith in
+    ap₂ (λ (y z : ℕ). y / 2 ^ z) f i
+    ∙ eight-down (8 - left) (behind s c) (behind s (length s - 8)) (λ y. bytes (length s - 8 + y)) (λ y h. List·getD-eq-default s 0 {n = length s - 8 + y} (omega arith)) (λ y. ap (λ (z : ℕ). getD s z 0) (j y))
 
-pub last-moves : {ks sq row out out′ : List ℕ} {r s : Run} {k eight : ℕ} → Aligned ks sq row → ((i : ℕ) → getD ks i 0 < 256) → 8 ≤ length ks → r .column < length ks → length ks ≤ r .column + 8
-    → k ≡ eightOf (behind ks (length ks - 8)) → eight ≡ value 0 (run 8 (unmaskedAt sq row (length ks - 8))) → Moves (k / 2 ^ (64 - 8 * (length ks - r .column))) eight (length ks - r .column) out out′ r s
-    → (r .column < s .column) × (s .column ≤ length ks) × Goes ks sq row out out′ r s
-last-moves {ks} {sq} {row} {r = r} a bytes big lo hi e f m =
-    m .go ks sq row (length ks - 8)
-    (record { aligned = a; bytes = bytes; kinds = kinds-down ks (r .column) (length ks - r .column) (omega arith) big (omega arith) bytes e; ends = omega arith; inside = omega arith; bits = f })
+module _ {ks sq row : List ℕ} (a : Aligned ks sq row) (bytes : (i : ℕ) → getD ks i 0 < 256) (big : 8 ≤ length ks) where
+  -- the bits of the eight columns that end a row
+  abbrev tail : List ℕ
+  tail = run 8 (unmaskedAt sq row (length ks - 8))
+
+  pub last-moves : {out out′ : List ℕ} {r s : Run} {k x : ℕ} → r .column < length ks → length ks ≤ r .column + 8
+      → k ≡ eightOf (behind ks (length ks - 8)) → x ≡ eightOf (unmaskedAt sq row (length ks - 8))
+      → Moves (k / 2 ^ (64 - 8 * (length ks - r .column))) (x / 2 ^ (64 - 8 * (length ks - r .column))) (length ks - r .column) out out′ r s
+      → (r .column < s .column) × (s .column ≤ length ks) × Goes ks sq row out out′ r s
+  unfolding run
+  last-moves {r = r} lo hi e f m =
+      let left = length ks - r .column in
+      let n : length (run 8 (unmaskedAt sq row (length ks - 8))) ≡ 8 = length-run 8 (unmaskedAt sq row (length ks - 8)) in
+      let small = run-small 8 (unmaskedAt sq row (length ks - 8)) (bits-small (a .masked) (length ks - 8)) in
+      m .go ks sq row (behind tail (8 - left))
+      (record {
+        aligned = a;
+        bytes = bytes;
+        kinds = down ks (r .column) left (omega arith) big (omega arith) bytes e;
+        inside = omega arith;
+        modules = down tail (8 - left) left (omega arith) (omega arith) (omega arith) (λ i. omega (arith, small i)) f;
+        small = λ i. small (8 - left + i);
+        bits = λ i h. let z : length ks - 8 + (8 - (length ks - r .column) + i) ≡ r .column + i = omega arith in
+            run-at 8 (unmaskedAt sq row (length ks - 8)) (8 - left + i) (omega arith) ∙ ap (λ (j : ℕ). bitXor (getD sq j 0) (getD row j 0)) z;
+      })

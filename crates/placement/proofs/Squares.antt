@@ -4,7 +4,7 @@ use mathlib.Core.List.{List, [], _∷_, _++_, append-assoc, append-nil}
 use Prim.Native.Nat.{ℕ, zero, suc, _+_, _-_, _*_, _<_, _≤_}
 use native.Mathlib.Omega.{arith}
 use lib.ListN.{length, getD, take, drop, length-append, length-drop, drop-of-length-le}
-use lib.Seq.{length-take-le, take-at, drop-at, take-all, drop-drop, drop-nil, getD-take, getD-drop}
+use lib.Seq.{length-take-le, take-at, drop-at, take-all, drop-drop, drop-nil, getD-drop}
 use lib.Bits.{bitXor}
 use Rattle.blocks.specs.Blocks.{dataModules}
 use Rattle.blocks.proofs.Rows.{modules-append}

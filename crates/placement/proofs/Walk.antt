@@ -1,7 +1,7 @@
 -- Bits behind bits, and the walk over a row.
 use mathlib.Core.Path.{_≡_, refl, ap, ap₂, _∙_, sym, subst}
 use mathlib.Core.Logic.{_≢_}
-use mathlib.Core.List.{List, [], _∷_, _++_, append-assoc, append-nil}
+use mathlib.Core.List.{List, [], _∷_, _++_, append-assoc}
 use Prim.Native.Nat.{ℕ, zero, suc, _+_, _-_, _*_, _/_, _%_, _^_, _<_, _≤_}
 use native.Mathlib.Nat.{mod-lt, mod-eq-of-lt, pow-le-pow-right}
 use native.Mathlib.Omega.{arith}
@@ -56,11 +56,17 @@ unfolding run
 length-run zero b = refl
 length-run (suc n) b = ap suc (length-run n (λ k. b (suc k)))
 
-run-small : (n : ℕ) (b : ℕ → ℕ) → ((k : ℕ) → b k < 2) → (i : ℕ) → getD (run n b) i 0 < 2
+pub run-small : (n : ℕ) (b : ℕ → ℕ) → ((k : ℕ) → b k < 2) → (i : ℕ) → getD (run n b) i 0 < 2
 unfolding run
 run-small zero b h i = omega arith
 run-small (suc n) b h zero = h 0
 run-small (suc n) b h (suc i) = run-small n (λ k. b (suc k)) (λ k. h (suc k)) i
+
+pub run-at : (n : ℕ) (b : ℕ → ℕ) (i : ℕ) → i < n → getD (run n b) i 0 ≡ b i
+unfolding run
+run-at zero b i h = absurd (omega arith)
+run-at (suc n) b zero h = refl
+run-at (suc n) b (suc i) h = run-at n (λ k. b (suc k)) i (omega arith)
 
 pub run-front : (n : ℕ) (a b : ℕ → ℕ) → ((k : ℕ) → k < n → a k ≡ b k) → run n a ≡ run n b
 unfolding run
@@ -102,11 +108,15 @@ module _ (f : ℕ → ℕ) (small : (k : ℕ) → f k < 2) where
       let l = run b (λ k. f (a + k)) in
       ap (value 0) (run-split a b f) ∙ value-behind 0 (run a f) l ∙ value-add (value 0 (run a f)) l ∙ ap (λ (n : ℕ). value 0 (run a f) * 2 ^ n + value 0 l) (length-run b (λ k. f (a + k)))
 
-  -- w of them with n in front and p behind
-  inner-value : (n w p : ℕ) → value 0 (run (n + w + p) f) / 2 ^ p % 2 ^ w ≡ value 0 (run w (λ k. f (n + k)))
-  inner-value n w p =
-      ap (λ (y : ℕ). y / 2 ^ p % 2 ^ w) (value-split (n + w) p) ∙ ap (λ (y : ℕ). y % 2 ^ w) (high (value 0 (run (n + w) f)) p (run-lt p (λ k. f (n + w + k)) (λ k. small (n + w + k))))
-      ∙ ap (λ (y : ℕ). y % 2 ^ w) (value-split n w) ∙ low (value 0 (run n f)) w (run-lt w (λ k. f (n + k)) (λ k. small (n + k)))
+  -- the first n, and the others
+  pub first-value : (n p : ℕ) → value 0 (run (n + p) f) / 2 ^ p ≡ value 0 (run n f)
+  first-value n p = ap (λ (y : ℕ). y / 2 ^ p) (value-split n p) ∙ high (value 0 (run n f)) p (run-lt p (λ k. f (n + k)) (λ k. small (n + k)))
+
+  last-value : (n w : ℕ) → value 0 (run (n + w) f) % 2 ^ w ≡ value 0 (run w (λ k. f (n + k)))
+  last-value n w = ap (λ (y : ℕ). y % 2 ^ w) (value-split n w) ∙ low (value 0 (run n f)) w (run-lt w (λ k. f (n + k)) (λ k. small (n + k)))
+
+pub gathered-is : {x g : ℕ} (b : ℕ → ℕ) → ((k : ℕ) → b k < 2) → x ≡ eightOf b → Gathered x g → g ≡ value 0 (run 8 b)
+gathered-is b h e g = g .is b h e ∙ sym (run-eight b)
 
 -- Codewords.
 
@@ -239,37 +249,23 @@ module _ (m : ℕ → ℕ) (ks sq : List ℕ) (same : length sq ≤ length ks) w
 
 -- From column to column.
 
-pub skipped-start : {ks : List ℕ} {first : ℕ} → first ≤ length ks → Skipped ks first first
-skipped-start h = record { least = omega arith; most = h; none = λ k a b. absurd (omega arith) }
-
-pub skipped-more : {ks : List ℕ} {first c : ℕ} → Skipped ks first c → c < length ks → getD ks c 0 ≢ 0 → Skipped ks first (c + 1)
-skipped-more {ks} {first} {c} q h z = record {
-  least = omega (arith, q .least);
-  most = omega arith;
-  none = λ k a b. elim (decLt k c) [ yes l ↦ q .none k a l | no l ↦ (let e : k ≡ c = omega arith in λ y. z (sym (ap (λ (i : ℕ). getD ks i 0) e) ∙ y)) ];
-}
-
--- so too from the column before
-pub skipped-from : {ks : List ℕ} {c r : ℕ} → Skipped ks (c + 1) r → getD ks c 0 ≢ 0 → (k : ℕ) → c ≤ k → k < r → getD ks k 0 ≢ 0
-skipped-from {ks} {c} q z k lo hi = elim (decLt c k) [ yes l ↦ q .none k (omega arith) hi | no l ↦ (let e : k ≡ c = omega arith in λ y. z (sym (ap (λ (i : ℕ). getD ks i 0) e) ∙ y)) ]
-
 module _ {sq row : List ℕ} (a : Masked sq row) where
-  bits-small : (c k : ℕ) → unmaskedAt sq row c k < 2
+  pub bits-small : (c k : ℕ) → unmaskedAt sq row c k < 2
   bits-small c k = xor-lt 1 (getD sq (c + k) 0) (getD row (c + k) 0) (a .modules (c + k)) (a .masks (c + k))
 
-  pub unmasked-is : (at : ℕ) {u v x : ℕ} → u ≡ eightOf (behind sq at) → v ≡ eightOf (behind row at) → Gathered (bitXor u v) x → x ≡ value 0 (run 8 (unmaskedAt sq row at))
-  unmasked-is at eu ev g =
-      let both = xor-eight (behind sq at) (behind row at) (λ k. omega (arith, a .modules (at + k))) (λ k. omega (arith, a .masks (at + k))) in
-      g .is (unmaskedAt sq row at) (bits-small at) (ap₂ bitXor eu ev ∙ both) ∙ sym (run-eight (unmaskedAt sq row at))
+  pub modules-are : (at : ℕ) {u v : ℕ} → u ≡ eightOf (behind sq at) → v ≡ eightOf (behind row at) → bitXor u v ≡ eightOf (unmaskedAt sq row at)
+  modules-are at eu ev = ap₂ bitXor eu ev ∙ xor-eight (behind sq at) (behind row at) (λ k. omega (arith, a .modules (at + k))) (λ k. omega (arith, a .masks (at + k)))
 
-  -- the first w of the last `left` of eight bits are the w bits from a column on
-  pub inner-is : (at left w c : ℕ) {g x : ℕ} → w ≤ left → left ≤ 8 → c + left ≡ at + 8 → g ≡ value 0 (run 8 (unmaskedAt sq row at)) → x ≡ g / 2 ^ (left - w) % 2 ^ w → x ≡ value 0 (run w (unmaskedAt sq row c))
-  inner-is at left w c {g} {x} few most e eg ex =
-      let n : 8 ≡ 8 - left + w + (left - w) = omega arith in
-      let i : (k : ℕ) → at + (8 - left + k) ≡ c + k = λ k. omega arith in
-      ex ∙ ap (λ (y : ℕ). y / 2 ^ (left - w) % 2 ^ w) (eg ∙ ap (λ (j : ℕ). value 0 (run j (unmaskedAt sq row at))) n)
-      ∙ inner-value (unmaskedAt sq row at) (bits-small at) (8 - left) w (left - w)
-      ∙ ap (value 0) (run-ext w (λ k. unmaskedAt sq row at (8 - left + k)) (unmaskedAt sq row c) (λ k. ap (λ (j : ℕ). bitXor (getD sq j 0) (getD row j 0)) (i k)))
+  pub unmasked-is : (at : ℕ) {x g : ℕ} → x ≡ eightOf (unmaskedAt sq row at) → Gathered x g → g ≡ value 0 (run 8 (unmaskedAt sq row at))
+  unmasked-is at e g = gathered-is (unmaskedAt sq row at) (bits-small at) e g
+
+  -- the last w of eight bits are the w bits from a column on
+  pub lowest-is : (at w c : ℕ) {g x : ℕ} → w ≤ 8 → c + w ≡ at + 8 → g ≡ value 0 (run 8 (unmaskedAt sq row at)) → x ≡ g % 2 ^ w → x ≡ value 0 (run w (unmaskedAt sq row c))
+  lowest-is at w c {g} {x} few e eg ex =
+      let n : 8 ≡ 8 - w + w = omega arith in
+      let i : (k : ℕ) → at + (8 - w + k) ≡ c + k = λ k. omega arith in
+      ex ∙ ap (λ (y : ℕ). y % 2 ^ w) (eg ∙ ap (λ (j : ℕ). value 0 (run j (unmaskedAt sq row at))) n) ∙ last-value (unmaskedAt sq row at) (bits-small at) (8 - w) w
+      ∙ ap (value 0) (run-ext w (λ k. unmaskedAt sq row at (8 - w + k)) (unmaskedAt sq row c) (λ k. ap (λ (j : ℕ). bitXor (getD sq j 0) (getD row j 0)) (i k)))
 
 module _ {ks sq row : List ℕ} (a : Aligned ks sq row) where
   -- n data modules pushed
@@ -285,9 +281,9 @@ module _ {ks sq row : List ℕ} (a : Aligned ks sq row) where
   }
 
   -- modules that are no data passed
-  pub goes-skip : {out : List ℕ} {r s : Run} → r .column ≤ s .column → s .column ≤ length ks → ((k : ℕ) → r .column ≤ k → k < s .column → getD ks k 0 ≢ 0)
+  pub goes-skip : {out : List ℕ} {r s : Run} → Skipped ks (r .column) (s .column)
       → s .n ≡ r .n → s .value ≡ r .value → s .bits ≡ r .bits → Goes ks sq row out out r s
-  goes-skip {out} {r} {s} lo hi z n v b = record {
+  goes-skip {out} {r} {s} q n v b = record {
     go = λ total all rest k. record {
       words = subst (λ (i : ℕ). Words total all out (lowBits (s .bits) (s .value) ++ (rowBits ks sq row (s .column) ++ rest)) i) (sym n)
           (same-words (ap₂ (λ (l t : List ℕ). l ++ (t ++ rest)) (sym (ap₂ lowBits b v)) passed) (k .words));
@@ -296,8 +292,8 @@ module _ {ks sq row : List ℕ} (a : Aligned ks sq row) where
     where
       passed : rowBits ks sq row (r .column) ≡ rowBits ks sq row (s .column)
       passed =
-          let e : r .column + (s .column - r .column) ≡ s .column = omega arith in
-          from-misses (λ k. getD row k 0) ks sq (omega (arith, a .size)) (s .column - r .column) (r .column) (omega (arith, a .size)) (λ k l h. z k l (omega arith)) ∙ ap (rowBits ks sq row) e
+          let e : r .column + (s .column - r .column) ≡ s .column = omega (arith, q .least) in
+          from-misses (λ k. getD row k 0) ks sq (omega (arith, a .size)) (s .column - r .column) (r .column) (omega (arith, a .size, q .least, q .most)) (λ k l h. q .none k l (omega arith)) ∙ ap (rowBits ks sq row) e
 
 pub goes-none : {ks sq row out : List ℕ} {r : Run} → Goes ks sq row out out r r
 goes-none = record { go = λ total all rest k. k }

@@ -5,7 +5,7 @@ use mathlib.Core.List.{List, [], _∷_, _++_}
 use Prim.Native.Nat.{ℕ, zero, suc, _+_, _-_, _*_, _/_, _%_, _^_, _<_, _≤_}
 use lib.ListN.{length, getD, take, drop, set}
 use lib.Bits.{bitXor}
-use Rattle.bits.specs.Bits.{lowBits, value}
+use Rattle.bits.specs.Bits.{lowBits}
 use Rattle.codewords.specs.Codewords.{codewordsOf, dataBits}
 use Rattle.placement.specs.declared.Run.{Run}
 
@@ -108,30 +108,31 @@ pub record Spans (sq row out out′ : List ℕ) (r s : Run) : Type 0 where
 
 -- Runs of modules of one sort.
 
--- the first w bytes of x are 0; and the first is none of them only where it is not 0
+-- the first w bytes of x are 0, and w is not 0 where the first byte is
 pub record Leads (x w : ℕ) : Type 0 where
   pub most : w ≤ 8
   pub zeros : x % 2 ^ (8 * w) ≡ 0
   pub first : x % 256 ≡ 0 → 1 ≤ w
 
--- the first w bytes of k are not 0, whatever the first is
-pub record Walls (k w : ℕ) : Type 0 where
+-- the bytes of k behind the first and before the place w are not 0
+pub record NoData (k w : ℕ) : Type 0 where
   pub least : 1 ≤ w
   pub most : w ≤ 8
   pub none : (j : ℕ) → 0 < j → j < w → k / 2 ^ (8 * j) % 256 ≢ 0
 
--- the next `left` columns of a row from c on: k has the kinds from c on, and `eight` are the bits of the eight columns from `at` on, which end with them
-pub record Next (ks sq row : List ℕ) (at c k eight left : ℕ) : Type 0 where
+-- the next `left` columns of a row from c on: k has their kinds, and x their bits b
+pub record Next (ks sq row : List ℕ) (b : ℕ → ℕ) (c k x left : ℕ) : Type 0 where
   pub aligned : Aligned ks sq row
   pub bytes : (i : ℕ) → getD ks i 0 < 256
   pub kinds : k ≡ eightOf (behind ks c)
-  pub ends : c + left ≡ at + 8
   pub inside : c + left ≤ length ks
-  pub bits : eight ≡ value 0 (run 8 (unmaskedAt sq row at))
+  pub modules : x ≡ eightOf b
+  pub small : (i : ℕ) → b i < 2
+  pub bits : (i : ℕ) → i < left → b i ≡ unmaskedAt sq row c i
 
 -- some of them are passed, in every such row
-pub record Moves (k eight left : ℕ) (out out′ : List ℕ) (r s : Run) : Type 0 where
-  pub go : (ks sq row : List ℕ) (at : ℕ) → Next ks sq row at (r .column) k eight left → (r .column < s .column) × (s .column ≤ length ks) × Goes ks sq row out out′ r s
+pub record Moves (k x left : ℕ) (out out′ : List ℕ) (r s : Run) : Type 0 where
+  pub go : (ks sq row : List ℕ) (b : ℕ → ℕ) → Next ks sq row b (r .column) k x left → (r .column < s .column) × (s .column ≤ length ks) × Goes ks sq row out out′ r s
 
 -- Layouts with no alignment patterns.
 

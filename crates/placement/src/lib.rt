@@ -11,7 +11,7 @@ ghost use Rattle.blocks.specs.Blocks.{dataModules};
 ghost use Rattle.placement.specs.Puts.{bytesOf, patternOf, getD₀, Drawn, PutBit, PutEight, Blank, Puts, PutsAll};
 ghost use Rattle.symbol.specs.Version.{sideOf};
 ghost use Rattle.symbol.specs.Layout.{layoutOf};
-ghost use Rattle.placement.specs.Walk.{Legible, fourOf, eightOf, run, behind, Gathered, Pending, Stored, Pushed, Masked, unmaskedAt, Aligned, Skipped, Goes, Spans, Margin, Leads, Walls, Moves};
+ghost use Rattle.placement.specs.Walk.{Legible, fourOf, eightOf, run, behind, Gathered, Pending, Stored, Pushed, Masked, unmaskedAt, Aligned, Goes, Spans, Margin, Leads, NoData, Moves};
 
 // Where a row is read: the column, the codewords so far, and the first bits of the next, which are the lowest of `value`.
 pub struct Run {
@@ -81,35 +81,19 @@ fn push(out: &mut [u8], r: Run, x: usize, w: usize) -> Run
     }
 }
 
-// The first column from one on with a data module, or the row's end: patterns are passed in a loop of a few instructions.
-fn skip(kinds: &[u8], first: usize) -> usize
-    requires { ⌜ first ≤ length (now kinds) ⌝ }
-    ensures { λ r. ⌜ Skipped (now (kinds .entry)) first r ⌝ }
+// The eight bits of a row from a column on, as bytes, and as the number that they say.
+fn modules(square: &[u8], row: &[u8], at: usize) -> usize
+    requires { ⌜ Masked (now square) (now row) × (at + 8 ≤ length (now square)) ⌝ }
+    ensures { λ r. ⌜ r ≡ eightOf (unmaskedAt (now (square .entry)) (now (row .entry)) at) ⌝ }
 {
-    let mut c = first;
-    while c < kinds.len() {
-        if kinds[c] == 0 {
-            return c;
-        }
-        c += 1;
-    }
-    c
+    eight(square, at) ^ eight(row, at)
 }
 
-// The eight bits of a row from a column on.
 fn unmasked(square: &[u8], row: &[u8], at: usize) -> usize
     requires { ⌜ Masked (now square) (now row) × (at + 8 ≤ length (now square)) ⌝ }
     ensures { λ r. ⌜ (r ≡ value 0 (run 8 (unmaskedAt (now (square .entry)) (now (row .entry)) at))) × (r < 256) ⌝ }
 {
-    gather(eight(square, at) ^ eight(row, at))
-}
-
-// Of eight bits the first w of the last `left`.
-fn inner(bits: usize, left: usize, w: usize) -> usize
-    requires { ⌜ (w ≤ left) × (left ≤ 8) ⌝ }
-    ensures { λ r. ⌜ r ≡ bits / 2 ^ (left - w) % 2 ^ w ⌝ }
-{
-    (bits >> (left - w)) % (1 << w)
+    gather(modules(square, row, at))
 }
 
 fn least(a: usize, b: usize) -> usize
@@ -128,30 +112,29 @@ fn lead(x: usize) -> usize
     (u64::trailing_zeros(x as u64) as usize) / 8
 }
 
-// How many of eight kinds come before the first data module, if the first kind is none. The factor has a bit for each of the other seven: it
-// is 1 where both low bits of a kind are 0.
-fn walls(k: usize) -> usize
-    ensures { λ r. ⌜ Walls k r ⌝ }
+// How many of eight modules come before the first data module, where the first is none: the lowest bit of each other byte becomes 1 where the
+// two low bits of its kind are 0. The first byte stays 0, so that at least one module is passed.
+fn no_data(k: usize) -> usize
+    ensures { λ r. ⌜ NoData k r ⌝ }
 {
-    lead(((k | (k / 2)) & 72340172838076672) ^ 72340172838076672)
+    lead(((k | (k / 2)) & 0x0101010101010100) ^ 0x0101010101010100)
 }
 
-// The data modules that come first of the next `left` columns, or the others up to the first of them. The kinds k are those from the column
-// on, and `eight` are the bits of the eight columns that end there.
-fn advance(out: &mut [u8], k: usize, eight: usize, left: usize, r: Run) -> Run
+// The data modules that come first of the next `left` columns, or the others up to the first of them; k and x have their kinds and bits.
+fn advance(out: &mut [u8], k: usize, x: usize, left: usize, r: Run) -> Run
     requires { ⌜ Pending r × (0 < left) × (left ≤ 8) × (r .column ≤ 192) ⌝ }
-    ensures { λ s. ⌜ Pending s × Moves k eight left (now (out .entry)) (now (out .exit)) r s ⌝ }
+    ensures { λ s. ⌜ Pending s × Moves k x left (now (out .entry)) (now (out .exit)) r s ⌝ }
 {
     let w = least(lead(k), left);
     if w == 0 {
         return Run {
-            column: r.column + walls(k),
+            column: r.column + no_data(k),
             n: r.n,
             value: r.value,
             bits: r.bits,
         };
     }
-    push(out, r, inner(eight, left, w), w)
+    push(out, r, gather(x) >> (8 - w), w)
 }
 
 // Eight data modules, or as above.
@@ -161,25 +144,26 @@ fn step(out: &mut [u8], kinds: &[u8], square: &[u8], row: &[u8], r: Run) -> Run
 {
     let c = r.column;
     let k = eight(kinds, c);
-    let bits = unmasked(square, row, c);
+    let x = modules(square, row, c);
     if k == 0 {
-        return push(out, r, bits, 8);
+        return push(out, r, gather(x), 8);
     }
-    advance(out, k, bits, 8, r)
+    advance(out, k, x, 8, r)
 }
 
-// The last modules of a row, fewer than eight: the kinds of the eight that end the row are shifted down.
+// The last modules of a row, fewer than eight: the eight that end the row are shifted down.
 fn read_last(out: &mut [u8], kinds: &[u8], square: &[u8], row: &[u8], first: Run) -> Run
     requires { ⌜ Aligned (now kinds) (now square) (now row) × Pending first × (first .column ≤ length (now kinds)) × (8 ≤ length (now kinds)) × (length (now kinds) ≤ first .column + 8) ⌝ }
     ensures { λ s. ⌜ Pending s × (s .column ≡ length (now (kinds .entry))) × Goes (now (kinds .entry)) (now (square .entry)) (now (row .entry)) (now (out .entry)) (now (out .exit)) first s ⌝ }
 {
     let end = kinds.len();
     let k = eight(kinds, end - 8);
-    let bits = unmasked(square, row, end - 8);
+    let x = modules(square, row, end - 8);
     let mut r = first;
     while r.column < end {
         let left = end - r.column;
-        r = advance(out, k >> (64 - 8 * left), bits, left, r);
+        let s = 64 - 8 * left;
+        r = advance(out, k >> s, x >> s, left, r);
     }
     r
 }
@@ -254,6 +238,13 @@ pub fn read_codewords(
     read_rows(&mut out[..total], kinds, square, side, mask);
 }
 
+fn lowest(bits: usize, w: usize) -> usize
+    requires { ⌜ w ≤ 8 ⌝ }
+    ensures { λ r. ⌜ r ≡ bits % 2 ^ w ⌝ }
+{
+    bits % (1 << w)
+}
+
 // All modules from a column on and before another. Those left behind the groups of eight are the last of the eight that end there.
 fn read_span(out: &mut [u8], square: &[u8], row: &[u8], to: usize, first: Run) -> Run
     requires { ⌜ Masked (now square) (now row) × Pending first × (first .column ≤ to) × (8 ≤ to) × (to ≤ length (now square)) ⌝ }
@@ -264,7 +255,7 @@ fn read_span(out: &mut [u8], square: &[u8], row: &[u8], to: usize, first: Run) -
         r = push(out, r, unmasked(square, row, r.column), 8);
     }
     let w = to - r.column;
-    push(out, r, inner(unmasked(square, row, to - 8), w, w), w)
+    push(out, r, lowest(unmasked(square, row, to - 8), w), w)
 }
 
 // How many modules at either end of a row are no data, where there are no alignment patterns.
@@ -398,7 +389,7 @@ fn put_bit(square: &mut [u8], at: usize, codewords: &[u8], bit: usize, inverted:
     bit + 1
 }
 
-// One data module, or all modules up to the next. `row` is the row's mask.
+// One module. `row` is the row's mask.
 fn put_one(square: &mut [u8], kinds: &[u8], row: &[u8], codewords: &[u8], p: Cursor) -> Cursor
     requires { ⌜ Blank (now square) (now kinds) (now row) (now codewords) × (p .column < length (now kinds)) ⌝ }
     ensures { λ q. ⌜ (p .column < q .column) × (q .column ≤ length (now (kinds .entry))) × Puts (now (kinds .entry)) (now (row .entry)) (now (codewords .entry)) (now (square .entry)) (now (square .exit)) p q ⌝ }
@@ -411,7 +402,7 @@ fn put_one(square: &mut [u8], kinds: &[u8], row: &[u8], codewords: &[u8], p: Cur
         };
     }
     Cursor {
-        column: skip(kinds, c + 1),
+        column: c + 1,
         bit: p.bit,
     }
 }
@@ -430,18 +421,25 @@ fn put_eight(square: &mut [u8], row: &[u8], codewords: &[u8], p: Cursor) -> Curs
     }
 }
 
-// Eight data modules, or as above.
+// Eight data modules, or all modules up to the next that is data, or one.
 fn put_step(square: &mut [u8], kinds: &[u8], row: &[u8], codewords: &[u8], p: Cursor) -> Cursor
     requires { ⌜ Blank (now square) (now kinds) (now row) (now codewords) × (p .column + 8 ≤ length (now kinds)) ⌝ }
     ensures { λ q. ⌜ (p .column < q .column) × (q .column ≤ length (now (kinds .entry))) × Puts (now (kinds .entry)) (now (row .entry)) (now (codewords .entry)) (now (square .entry)) (now (square .exit)) p q ⌝ }
 {
-    if eight(kinds, p.column) != 0 {
+    let k = eight(kinds, p.column);
+    if k == 0 {
+        if p.bit / 8 + 1 < codewords.len() {
+            return put_eight(square, row, codewords, p);
+        }
         return put_one(square, kinds, row, codewords, p);
     }
-    if codewords.len() <= p.bit / 8 + 1 {
+    if k % 256 == 0 {
         return put_one(square, kinds, row, codewords, p);
     }
-    put_eight(square, row, codewords, p)
+    Cursor {
+        column: p.column + no_data(k),
+        bit: p.bit,
+    }
 }
 
 // The last modules of a row.

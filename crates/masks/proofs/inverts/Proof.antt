@@ -1,5 +1,5 @@
 use Rattle.masks.proofs.Rows.{inverts-one, inverts-two, column-three, mask-above}
-use mathlib.Core.Path.{_≡_, _∙_}
+use mathlib.Core.Path.{_∙_}
 use Prim.Native.Nat.{_<_}
 use native.Mathlib.Omega.{arith}
 use borrow.Author.Needs.{needs}

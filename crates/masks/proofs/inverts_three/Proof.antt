@@ -1,8 +1,8 @@
 use Rattle.masks.proofs.Three.{columns-three, rest-le}
 use lib.Bits.{bitXor}
 use lib.ListN.{getD}
-use mathlib.Core.Path.{_≡_, ap₂, subst, sym, _∙_}
-use Prim.Native.Nat.{ℕ, _+_, _%_, _<_}
+use mathlib.Core.Path.{ap₂, _∙_}
+use Prim.Native.Nat.{ℕ, _+_, _%_}
 use native.Mathlib.Omega.{arith}
 use borrow.Author.Needs.{needs}
 use Rattle.masks.proofs.inverts_three.Statement.{statement}

@@ -1,8 +1,7 @@
 use Rattle.masks.proofs.Rows.{Filling, filling-start, filling-next, row-none}
 use mathlib.Core.Path.{sym, _∙_}
-use Prim.Native.Nat.{ℕ, _-_, _<_, _≤_}
+use Prim.Native.Nat.{_-_, _<_}
 use native.Mathlib.Omega.{arith}
-use borrow.Author.Needs.{needs}
 use Rattle.masks.proofs.mask_row.Statement.{statement}
 use Rattle.masks.proofs.mask_row.Tie as tie
 

@@ -1,39 +1,43 @@
 use Rattle.placement.proofs.Runs.{moves-push, moves-skip}
 use Rattle.placement.specs.Walk.{Leads}
-use lib.Pow.{pow-pos}
-use mathlib.Core.Path.{_≡_, refl, sym, subst}
-use Prim.Native.Nat.{ℕ, _^_, _<_}
-use native.Mathlib.Nat.{mod-lt}
+use lib.Pow.{shr-lt}
+use mathlib.Core.Path.{_≡_, refl, subst}
+use Prim.Native.Nat.{ℕ, _+_, _-_, _^_, _<_}
 use native.Mathlib.Omega.{arith}
 use borrow.Author.Needs.{needs}
 use Rattle.placement.proofs.advance.Statement.{statement}
 use Rattle.placement.proofs.advance.Tie as tie
 
 add-t10 : tie.Need-add-t10
-add-t10 c = omega (arith, c .before .walls .ensures .most, c .before .before .before .before .before .before .pre .3)
+add-t10 c = omega (arith, c .before .no-data .ensures .most, c .before .before .before .before .before .before .pre .3)
 
 returns : tie.Need-returns
 returns c =
     let start = c .before .before .before .before .before .before in
     let least = c .before .before .before .least in
     let none : c .before .before .before .before .lead .result ≡ 0 = omega (arith, c .before .before .if1 .taken, start .pre .1, least .ensures .2 (omega (arith, c .before .before .if1 .taken, start .pre .1))) in
-    (record { few = start .pre .0 .few; small = start .pre .0 .small }, moves-skip (start .pre .1) (start .pre .2) (subst (Leads (start .args .k)) none (c .before .before .before .before .lead .ensures)) (c .before .walls .ensures) refl refl refl refl)
+    (record { few = start .pre .0 .few; small = start .pre .0 .small }, moves-skip (start .pre .1) (start .pre .2) (subst (Leads (start .args .k)) none (c .before .before .before .before .lead .ensures)) (c .before .no-data .ensures) refl refl refl refl)
 
-inner-requires : tie.Need-inner-requires
-inner-requires c κs = (omega (arith, c .before .before .least .ensures .1, c .before .before .before .before .before .pre .2), omega (arith, c .before .before .before .before .before .pre .2))
+sub-push : tie.Need-sub-push
+sub-push c = omega (arith, c .before .before .before .least .ensures .1, c .before .before .before .before .before .before .pre .2)
+
+shr-push : tie.Need-shr-push
+shr-push c = omega arith
 
 push-requires : tie.Need-push-requires
 push-requires c κs =
     let start = c .before .before .before .before .before .before in
     let w = c .before .before .before .least .result in
-    (start .pre .0, omega (arith, c .before .before .before .least .ensures .1, start .pre .2), subst (λ (x : ℕ). x < 2 ^ w) (sym (c .inner .ensures)) (mod-lt _ (pow-pos w)), omega (arith, start .pre .3))
+    let few = c .before .before .before .least .ensures .1 in
+    let e : 8 ≡ c .before .before .before .least .result + (8 - c .before .before .before .least .result) = omega (arith, few, start .pre .2) in
+    (start .pre .0, omega (arith, few, start .pre .2), shr-lt w (8 - w) (subst (λ (n : ℕ). c .gather .result < 2 ^ n) e (c .gather .ensures .small)), omega (arith, start .pre .3))
 
 returns-2 : tie.Need-returns-2
 returns-2 c =
     let start = c .before .before .before .before .before .before .before .before .before in
     let least = c .before .before .before .before .before .before .least in
     let push = c .before .before .push in
-    (push .ensures .0, moves-push (start .pre .1) (start .pre .2) (least .result) (c .before .before .before .before .before .before .before .lead .ensures) (least .ensures .0) (least .ensures .1) (omega (arith, c .before .before .before .before .before .if1 .left)) (c .before .before .before .inner .ensures) (push .ensures .1) (push .ensures .2))
+    (push .ensures .0, moves-push (start .pre .1) (start .pre .2) (least .result) (c .before .before .before .before .before .before .before .lead .ensures) (least .ensures .0) (omega (arith, least .ensures .1)) (omega (arith, c .before .before .before .before .before .if1 .left)) (c .before .before .before .gather .ensures) (push .ensures .1) (push .ensures .2))
 
 pub advance-spec : {M : Type 1} → statement M
 advance-spec =
@@ -44,7 +48,9 @@ advance-spec =
     (λ c κs. search needs)
     add-t10
     returns
-    inner-requires
+    (λ c κs. search needs)
+    sub-push
+    shr-push
     push-requires
     (λ c. search needs)
     returns-2)

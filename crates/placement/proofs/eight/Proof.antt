@@ -1,5 +1,4 @@
 use Rattle.placement.proofs.Eights.{eight-is}
-use native.Mathlib.Omega.{arith}
 use borrow.Author.Needs.{needs}
 use Rattle.placement.proofs.eight.Statement.{statement}
 use Rattle.placement.proofs.eight.Tie as tie

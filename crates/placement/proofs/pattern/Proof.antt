@@ -1,6 +1,5 @@
 use Rattle.placement.proofs.Puts.{pattern-light, pattern-dark}
 use native.Mathlib.Omega.{arith}
-use borrow.Author.Needs.{needs}
 use Rattle.placement.proofs.pattern.Statement.{statement}
 use Rattle.placement.proofs.pattern.Tie as tie
 

@@ -1,5 +1,4 @@
 use Rattle.placement.proofs.Puts.{put-is, put-room}
-use native.Mathlib.Omega.{arith}
 use borrow.Author.Needs.{needs}
 use Rattle.placement.proofs.put.Statement.{statement}
 use Rattle.placement.proofs.put.Tie as tie

@@ -4,7 +4,6 @@ use lib.ListN.{length}
 use mathlib.Core.Path.{sym, _∙_}
 use Prim.Native.Nat.{_-_, _≤_}
 use native.Mathlib.Omega.{arith}
-use borrow.Author.Needs.{needs}
 use Rattle.placement.proofs.put_last.Statement.{statement}
 use Rattle.placement.proofs.put_last.Tie as tie
 

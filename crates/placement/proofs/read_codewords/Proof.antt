@@ -1,9 +1,7 @@
 use Rattle.placement.proofs.Rows.{first-codewords}
 use Rattle.codewords.specs.Codewords.{maskBit, dataBits}
-use lib.ListN.{length, take}
 use lib.Seq.{length-take-le}
-use mathlib.Core.Path.{_≡_, sym}
-use Prim.Native.Nat.{_*_, _≤_}
+use mathlib.Core.Path.{sym}
 use native.Mathlib.Omega.{arith}
 use borrow.Author.Needs.{needs}
 use Rattle.placement.proofs.read_codewords.Statement.{statement}

@@ -5,15 +5,14 @@ use lib.ListN.{length}
 use mathlib.Core.Path.{_≡_, refl, _∙_}
 use Prim.Native.Nat.{_-_, _≤_}
 use native.Mathlib.Omega.{arith}
-use borrow.Author.Needs.{needs}
 use Rattle.placement.proofs.read_last.Statement.{statement}
 use Rattle.placement.proofs.read_last.Tie as tie
 
 abbrev Inv-loop : tie.InvT-loop
-Inv-loop out₀ kinds square row end k bits r₀ out r = Pending r × (r₀ .column ≤ r .column) × (r .column ≤ length kinds) × Goes kinds square row out₀ out r₀ r × (length out ≡ length out₀)
+Inv-loop out₀ kinds square row end k x r₀ out r = Pending r × (r₀ .column ≤ r .column) × (r .column ≤ length kinds) × Goes kinds square row out₀ out r₀ r × (length out ≡ length out₀)
 
 abbrev μ-loop : tie.MeasureT-loop
-μ-loop out₀ kinds square row end k bits r₀ out r = length kinds - r .column
+μ-loop out₀ kinds square row end k x r₀ out r = length kinds - r .column
 
 sub-eight : tie.Need-sub-eight Inv-loop μ-loop
 sub-eight c = c .before .before .before .before .pre .3
@@ -21,11 +20,11 @@ sub-eight c = c .before .before .before .before .pre .3
 eight-requires : tie.Need-eight-requires Inv-loop μ-loop
 eight-requires c κs = omega (arith, c .before .before .before .before .pre .3)
 
-sub-unmasked : tie.Need-sub-unmasked Inv-loop μ-loop
-sub-unmasked c = c .before .before .before .before .before .pre .3
+sub-modules : tie.Need-sub-modules Inv-loop μ-loop
+sub-modules c = c .before .before .before .before .before .pre .3
 
-unmasked-requires : tie.Need-unmasked-requires Inv-loop μ-loop
-unmasked-requires c κs = let start = c .before .before .before .before .before in (start .pre .0 .masked, omega (arith, start .pre .3, start .pre .0 .size))
+modules-requires : tie.Need-modules-requires Inv-loop μ-loop
+modules-requires c κs = let start = c .before .before .before .before .before in (start .pre .0 .masked, omega (arith, start .pre .3, start .pre .0 .size))
 
 loop-holds : tie.Need-loop-holds Inv-loop μ-loop
 loop-holds c = let start = c .before .before .before .before .before .before in (start .pre .1, omega arith, start .pre .2, goes-none, refl)
@@ -33,14 +32,17 @@ loop-holds c = let start = c .before .before .before .before .before .before in 
 sub-left : tie.Need-sub-left Inv-loop μ-loop
 sub-left c = c .before .before .before .loop .inv .2
 
-mul-advance : tie.Need-mul-advance Inv-loop μ-loop
-mul-advance c = omega (arith, c .before .before .before .before .loop .inv .1, c .before .before .before .before .before .before .before .before .before .before .before .pre .4)
+mul-s : tie.Need-mul-s Inv-loop μ-loop
+mul-s c = omega (arith, c .before .before .before .loop .inv .1, c .before .before .before .before .before .before .before .before .before .before .pre .4)
 
-sub-advance : tie.Need-sub-advance Inv-loop μ-loop
-sub-advance c = omega (arith, c .before .before .before .before .loop .inv .1, c .before .before .before .before .before .before .before .before .before .before .before .pre .4)
+sub-s : tie.Need-sub-s Inv-loop μ-loop
+sub-s c = omega (arith, c .before .before .before .loop .inv .1, c .before .before .before .before .before .before .before .before .before .before .pre .4)
 
 shr-advance : tie.Need-shr-advance Inv-loop μ-loop
 shr-advance c = omega (arith, c .before .before .if1 .taken)
+
+shr-advance-2 : tie.Need-shr-advance-2 Inv-loop μ-loop
+shr-advance-2 c = omega (arith, c .before .before .if1 .taken)
 
 advance-requires : tie.Need-advance-requires Inv-loop μ-loop
 advance-requires c κs =
@@ -48,13 +50,13 @@ advance-requires c κs =
     let loop = c .before .before .before .before .loop in (loop .inv .0, omega (arith, c .before .before .if1 .taken), omega (arith, loop .inv .1, start .pre .4), omega (arith, loop .inv .2, start .pre .0 .size, start .pre .0 .masked .side))
 
 loop-less : tie.Need-loop-less Inv-loop μ-loop
-loop-less c = let m = last-moves (c .before .before .before .before .before .before .before .before .before .before .before .before .before .before .pre .0) (λ i. omega (arith, c .before .before .before .before .before .before .before .before .before .before .before .before .shared-slice-known .given i)) (c .before .before .before .before .before .before .before .before .before .before .before .before .before .before .pre .3) (c .before .before .before .before .before .if1 .taken) (omega (arith, c .before .before .before .before .before .before .before .loop .inv .1, c .before .before .before .before .before .before .before .before .before .before .before .before .before .before .pre .4)) (c .before .before .before .before .before .before .before .before .before .eight .ensures) (c .before .before .before .before .before .before .before .before .unmasked .ensures .0) (c .before .before .advance .ensures .1) in omega (arith, m .0, m .1)
+loop-less c = let m = last-moves (c .before .before .before .before .before .before .before .before .before .before .before .before .before .before .pre .0) (λ i. omega (arith, c .before .before .before .before .before .before .before .before .before .before .before .before .shared-slice-known .given i)) (c .before .before .before .before .before .before .before .before .before .before .before .before .before .before .pre .3) (c .before .before .before .before .before .if1 .taken) (omega (arith, c .before .before .before .before .before .before .before .loop .inv .1, c .before .before .before .before .before .before .before .before .before .before .before .before .before .before .pre .4)) (c .before .before .before .before .before .before .before .before .before .eight .ensures) (c .before .before .before .before .before .before .before .before .modules .ensures) (c .before .before .advance .ensures .1) in omega (arith, m .0, m .1)
 
 loop-again : tie.Need-loop-again Inv-loop μ-loop
 loop-again c =
     let advance = c .before .before .advance in
     let loop = c .before .before .before .before .before .before .before .loop in
-    let m = last-moves (c .before .before .before .before .before .before .before .before .before .before .before .before .before .before .pre .0) (λ i. omega (arith, c .before .before .before .before .before .before .before .before .before .before .before .before .shared-slice-known .given i)) (c .before .before .before .before .before .before .before .before .before .before .before .before .before .before .pre .3) (c .before .before .before .before .before .if1 .taken) (omega (arith, c .before .before .before .before .before .before .before .loop .inv .1, c .before .before .before .before .before .before .before .before .before .before .before .before .before .before .pre .4)) (c .before .before .before .before .before .before .before .before .before .eight .ensures) (c .before .before .before .before .before .before .before .before .unmasked .ensures .0) (c .before .before .advance .ensures .1) in
+    let m = last-moves (c .before .before .before .before .before .before .before .before .before .before .before .before .before .before .pre .0) (λ i. omega (arith, c .before .before .before .before .before .before .before .before .before .before .before .before .shared-slice-known .given i)) (c .before .before .before .before .before .before .before .before .before .before .before .before .before .before .pre .3) (c .before .before .before .before .before .if1 .taken) (omega (arith, c .before .before .before .before .before .before .before .loop .inv .1, c .before .before .before .before .before .before .before .before .before .before .before .before .before .before .pre .4)) (c .before .before .before .before .before .before .before .before .before .eight .ensures) (c .before .before .before .before .before .before .before .before .modules .ensures) (c .before .before .advance .ensures .1) in
     (advance .ensures .0, omega (arith, loop .inv .1, m .0), m .1, goes-on (loop .inv .3) (m .2), advance .kept .0 ∙ loop .inv .4)
 
 same-length : tie.Need-same-length Inv-loop μ-loop
@@ -71,13 +73,14 @@ read-last-spec =
     μ-loop
     sub-eight
     eight-requires
-    sub-unmasked
-    unmasked-requires
+    sub-modules
+    modules-requires
     loop-holds
     sub-left
-    mul-advance
-    sub-advance
+    mul-s
+    sub-s
     shr-advance
+    shr-advance-2
     advance-requires
     loop-less
     loop-again

@@ -1,15 +1,13 @@
-use Rattle.placement.proofs.Rows.{row-inside, row-next, row-mask, part-length, aligned, rows-pending, walk-again, rows-begun, rows-turn, rows-done}
+use Rattle.placement.proofs.Rows.{row-inside, row-mask, part-length, aligned, rows-pending, walk-again, rows-begun, rows-turn, rows-done}
 use Rattle.masks.proofs.Rows.{columns-fewer, row-new}
 use Rattle.masks.specs.Columns.{Row}
 use Rattle.placement.specs.Walk.{bitsFrom, Pending, Walk}
 use Rattle.codewords.specs.Codewords.{maskBit, dataBits}
 use lib.ListN.{length}
-use mathlib.Core.List.{List}
 use mathlib.Core.Path.{_≡_, refl, sym, ap, subst, _∙_}
 use Prim.Native.Nat.{ℕ, _+_, _-_, _*_, _≤_}
 use native.Mathlib.Nat.{zero-mul}
 use native.Mathlib.Omega.{arith}
-use borrow.Author.Needs.{needs}
 use Rattle.placement.proofs.read_rows.Statement.{statement}
 use Rattle.placement.proofs.read_rows.Tie as tie
 

@@ -1,4 +1,4 @@
-use Rattle.placement.proofs.Walk.{inner-is, spans-none, spans-on, spans-push}
+use Rattle.placement.proofs.Walk.{lowest-is, spans-none, spans-on, spans-push}
 use Rattle.placement.specs.Walk.{Pending, Spans}
 use lib.ListN.{length}
 use lib.Pow.{pow-pos}
@@ -6,7 +6,6 @@ use mathlib.Core.Path.{_≡_, refl, sym, subst, _∙_}
 use Prim.Native.Nat.{ℕ, _-_, _^_, _≤_, _<_}
 use native.Mathlib.Nat.{mod-lt}
 use native.Mathlib.Omega.{arith}
-use borrow.Author.Needs.{needs}
 use Rattle.placement.proofs.read_span.Statement.{statement}
 use Rattle.placement.proofs.read_span.Tie as tie
 
@@ -52,15 +51,15 @@ sub-unmasked c = c .before .before .before .before .before .before .before .befo
 unmasked-requires-2 : tie.Need-unmasked-requires-2 Inv-loop μ-loop
 unmasked-requires-2 c κs = let start = c .before .before .before .before .before .before .before .before in (start .pre .0, omega (arith, start .pre .3, start .pre .4))
 
-inner-requires : tie.Need-inner-requires Inv-loop μ-loop
-inner-requires c κs = (omega arith, omega (arith, c .before .before .before .if1 .left))
+lowest-requires : tie.Need-lowest-requires Inv-loop μ-loop
+lowest-requires c κs = omega (arith, c .before .before .before .if1 .left)
 
 push-requires-2 : tie.Need-push-requires-2 Inv-loop μ-loop
 push-requires-2 c κs =
     let start = c .before .before .before .before .before .before .before .before .before .before in
     let loop = c .before .before .before .before .before .before .loop in
     let w = start .args .to - loop .r .column in
-    (loop .inv .0, omega (arith, c .before .before .before .before .if1 .left), subst (λ (x : ℕ). x < 2 ^ w) (sym (c .inner .ensures)) (mod-lt _ (pow-pos w)), omega (arith, loop .inv .2, start .pre .4, start .pre .0 .side))
+    (loop .inv .0, omega (arith, c .before .before .before .before .if1 .left), subst (λ (x : ℕ). x < 2 ^ w) (sym (c .lowest .ensures)) (mod-lt _ (pow-pos w)), omega (arith, loop .inv .2, start .pre .4, start .pre .0 .side))
 
 same-length : tie.Need-same-length Inv-loop μ-loop
 same-length c = c .before .before .push2 .kept .0 ∙ c .before .before .before .before .before .before .before .before .before .loop .inv .4
@@ -75,7 +74,7 @@ returns c =
     let w = start .args .to - loop .r .column in
     let e : push .result .column ≡ start .args .to = omega (arith, push .ensures .1, most) in
     let left = c .before .before .before .before .before .before .before .if1 .left in
-    let x = inner-is (start .pre .0) (to - 8) w w (loop .r .column) (omega arith) (omega (arith, left)) (omega (arith, most, start .pre .3)) (c .before .before .before .before .unmasked2 .ensures .0) (c .before .before .before .inner .ensures) in
+    let x = lowest-is (start .pre .0) (to - 8) w (loop .r .column) (omega (arith, left)) (omega (arith, most, start .pre .3)) (c .before .before .before .before .unmasked2 .ensures .0) (c .before .before .before .lowest .ensures) in
     (push .ensures .0, e, spans-on (loop .inv .1) (omega (arith, e, most)) (loop .inv .3) (spans-push (start .pre .0) w _ (omega (arith, most, start .pre .4)) x (push .ensures .1) (push .ensures .2)))
 
 pub read-span-spec : {M : Type 1} → statement M
@@ -93,7 +92,7 @@ read-span-spec =
     sub-w
     sub-unmasked
     unmasked-requires-2
-    inner-requires
+    lowest-requires
     push-requires-2
     same-length
     returns)

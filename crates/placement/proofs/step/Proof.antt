@@ -1,6 +1,6 @@
-use Rattle.placement.proofs.Walk.{goes-push}
+use Rattle.placement.proofs.Walk.{unmasked-is, bits-small, goes-push}
 use Rattle.placement.proofs.Eights.{eight-zero}
-use Rattle.placement.specs.Walk.{behind}
+use Rattle.placement.specs.Walk.{behind, unmaskedAt}
 use mathlib.Core.Path.{refl, sym, _∙_}
 use native.Mathlib.Omega.{arith}
 use borrow.Author.Needs.{needs}
@@ -8,14 +8,15 @@ use Rattle.placement.proofs.step.Statement.{statement}
 use Rattle.placement.proofs.step.Tie as tie
 
 push-requires : tie.Need-push-requires
-push-requires c κs = let start = c .before .before .before .before .before .before .before .before in (start .pre .1, omega arith, c .before .before .unmasked .ensures .1, omega (arith, start .pre .2, start .pre .0 .size, start .pre .0 .masked .side))
+push-requires c κs = let start = c .before .before .before .before .before .before .before .before .before in (start .pre .1, omega arith, c .gather .ensures .small, omega (arith, start .pre .2, start .pre .0 .size, start .pre .0 .masked .side))
 
 returns : tie.Need-returns
 returns c =
-    let start = c .before .before .before .before .before .before .before .before .before .before .before in
+    let start = c .before .before .before .before .before .before .before .before .before .before .before .before in
     let push = c .before .before .push in
-    let kinds = eight-zero (behind (start .args .kinds .now) (start .args .r .column)) (sym (c .before .before .before .before .before .before .eight .ensures) ∙ c .before .before .before .before .if1 .taken) in
-    (push .ensures .0, omega (arith, push .ensures .1), omega (arith, push .ensures .1, start .pre .2), goes-push (start .pre .0) 8 _ (start .pre .2) kinds (c .before .before .before .before .before .unmasked .ensures .0) (push .ensures .1) (push .ensures .2))
+    let kinds = eight-zero (behind (start .args .kinds .now) (start .args .r .column)) (sym (c .before .before .before .before .before .before .before .eight .ensures) ∙ c .before .before .before .before .before .if1 .taken) in
+    let bits = unmasked-is (start .pre .0 .masked) (start .args .r .column) (c .before .before .before .before .before .before .modules .ensures) (c .before .before .before .gather .ensures) in
+    (push .ensures .0, omega (arith, push .ensures .1), omega (arith, push .ensures .1, start .pre .2), goes-push (start .pre .0) 8 _ (start .pre .2) kinds bits (push .ensures .1) (push .ensures .2))
 
 advance-requires : tie.Need-advance-requires
 advance-requires c κs = let start = c .before .before .before .before .before .before .before .before in (start .pre .1, omega arith, omega arith, omega (arith, start .pre .2, start .pre .0 .size, start .pre .0 .masked .side))
@@ -24,15 +25,26 @@ returns-2 : tie.Need-returns-2
 returns-2 c =
     let start = c .before .before .before .before .before .before .before .before .before .before .before in
     let advance = c .before .before .advance in
+    let sq = start .args .square .now in
+    let row = start .args .row .now in
+    let at = start .args .r .column in
     let bytes = c .before .before .before .before .before .before .before .before .before .shared-slice-known .given in
-    let m = advance .ensures .1 .go (start .args .kinds .now) (start .args .square .now) (start .args .row .now) (start .args .r .column)
-    (record { aligned = start .pre .0; bytes = λ i. omega (arith, bytes i); kinds = c .before .before .before .before .before .before .eight .ensures; ends = refl; inside = start .pre .2; bits = c .before .before .before .before .before .unmasked .ensures .0 }) in
+    let m = advance .ensures .1 .go (start .args .kinds .now) sq row (unmaskedAt sq row at) (record {
+      aligned = start .pre .0;
+      bytes = λ i. omega (arith, bytes i);
+      kinds = c .before .before .before .before .before .before .eight .ensures;
+      inside = start .pre .2;
+      modules = c .before .before .before .before .before .modules .ensures;
+      small = bits-small (start .pre .0 .masked) at;
+      bits = λ i h. refl;
+    }) in
     (advance .ensures .0, m .0, m .1, m .2)
 
 pub step-spec : {M : Type 1} → statement M
 step-spec =
     tie.close
     (tie.spec
+    (λ c κs. search needs)
     (λ c κs. search needs)
     (λ c κs. search needs)
     push-requires

@@ -1,5 +1,4 @@
 use Rattle.placement.proofs.Puts.{window-two}
-use native.Mathlib.Omega.{arith}
 use borrow.Author.Needs.{needs}
 use Rattle.placement.proofs.window.Statement.{statement}
 use Rattle.placement.proofs.window.Tie as tie
