@@ -60,7 +60,15 @@ pub total-small : (v : ℕ) → 1 ≤ v → v ≤ 84 → totalOf v ≤ 3886
 unfolding totalOf
 total-small v lo hi = leb→le _ _ (every (λ n. leb (getD totals n 0) 3886) 84 totals-small (v - 1) (omega arith))
 
--- those of the versions without alignment patterns still more so
+-- those of the first versions still more so
+totals-ten : T (upTo (λ n. leb (getD totals n 0) 155) 10)
+unfolding totals
+totals-ten = tt
+
+pub total-ten : (v : ℕ) → 1 ≤ v → v ≤ 10 → totalOf v ≤ 155
+unfolding totalOf
+total-ten v lo hi = leb→le _ _ (every (λ n. leb (getD totals n 0) 155) 10 totals-ten (v - 1) (omega arith))
+
 totals-open : T (upTo (λ n. leb (getD totals n 0) 50) 3)
 unfolding totals
 totals-open = tt

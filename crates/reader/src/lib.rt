@@ -69,26 +69,27 @@ fn square_refusal(square: &[u8], side: usize) -> usize
     0
 }
 
-// The stream of a square whose layout is drawn. The codewords are found in a lent buffer first.
-fn read_stream(stream: &mut [u8], found: &mut [u8], kinds: &[u8], square: &[u8], m: Mark)
-    requires { ⌜ Fitting m (now square) × Drawn (m .version) (now kinds) × (8 * totalOf (m .version) ≤ dataModules (layoutOf (m .version))) ⌝ }
-    requires { ⌜ (totalOf (m .version) ≤ length (now stream)) × (totalOf (m .version) ≤ length (now found)) ⌝ }
+// The stream of a square whose layout is drawn.
+fn read_stream(stream: &mut [u8], kinds: &[u8], square: &[u8], m: Mark)
+    requires { ⌜ Fitting m (now square) × Drawn (m .version) (now kinds) × (8 * totalOf (m .version) ≤ dataModules (layoutOf (m .version))) × (totalOf (m .version) ≤ length (now stream)) ⌝ }
     ensures { λ _. ⌜ Streamed m (now (square .entry)) (now (stream .exit)) ⌝ }
 {
     let side = Version { number: m.version }.side();
     let total = blocks::total_codewords(m.version);
-    placement::read_codewords(found, total, kinds, square, side, m.mask);
-    codewords::to_stream(stream, found, total);
+    let mut found = [0u8; 3886];
+    placement::read_codewords(&mut found, total, kinds, square, side, m.mask);
+    codewords::to_stream(stream, &found, total);
 }
 
 // The same for a version with no alignment patterns, whose layout need not be drawn.
-fn read_open_stream(stream: &mut [u8], found: &mut [u8], square: &[u8], m: Mark)
-    requires { ⌜ Fitting m (now square) × (m .version < 4) × (totalOf (m .version) ≤ length (now stream)) × (totalOf (m .version) ≤ length (now found)) ⌝ }
+fn read_open_stream(stream: &mut [u8], square: &[u8], m: Mark)
+    requires { ⌜ Fitting m (now square) × (m .version < 4) × (totalOf (m .version) ≤ length (now stream)) ⌝ }
     ensures { λ _. ⌜ Streamed m (now (square .entry)) (now (stream .exit)) ⌝ }
 {
     let total = blocks::total_codewords(m.version);
-    placement::read_open(found, total, square, m.version, m.mask);
-    codewords::to_stream(stream, found, total);
+    let mut found = [0u8; 50];
+    placement::read_open(&mut found, total, square, m.version, m.mask);
+    codewords::to_stream(stream, &found, total);
 }
 
 fn low(n: usize) -> u8
@@ -186,7 +187,7 @@ fn told_of(answer: Answer, count: usize) -> Told
 
 // Script and payload of the corrected blocks, of which `count` codewords were changed. The data are gathered in a lent buffer; the stream
 // and another, which are not needed any more, are what the segments are decoded into first.
-fn tell_segments(
+fn tell_data(
     stream: &mut [u8],
     data: &mut [u8],
     spare: &mut [u8],
@@ -205,34 +206,45 @@ fn tell_segments(
     )
 }
 
+// The same. Few data have a small buffer, which is sooner cleared.
+fn tell_segments(
+    stream: &mut [u8],
+    spare: &mut [u8],
+    row: &[u8],
+    count: usize,
+    payload: &mut [u8],
+    script: &mut [u8],
+) -> Told
+    requires { ⌜ (length (now row) ≡ 9) × (rowLength (now row) ≤ length (now stream)) × (totalData (shapes (now row)) ≤ 3886) × (count < 65536) ⌝ }
+    ensures { λ r. ⌜ Tells count (fromData (dataParts (shapes (now (row .entry))) (cut (shapes (now (row .entry))) (now (stream .entry)))) (now (payload .entry)) (now (script .entry))) r (now (payload .exit)) (now (script .exit)) ⌝ }
+{
+    if blockwise::data_length(row) <= 155 {
+        let mut data = [0u8; 155];
+        return tell_data(stream, &mut data, spare, row, count, payload, script);
+    }
+    let mut data = [0u8; 3886];
+    tell_data(stream, &mut data, spare, row, count, payload, script)
+}
+
 // A stream corrected, and its segments. What is told holds of every square with this stream.
 fn tell_stream(
     stream: &mut [u8],
-    data: &mut [u8],
     spare: &mut [u8],
     m: Mark,
     payload: &mut [u8],
     script: &mut [u8],
 ) -> Told
-    requires { ⌜ Ranged m × (totalOf (m .version) ≤ length (now stream)) × (totalOf (m .version) ≤ length (now «data»)) ⌝ }
+    requires { ⌜ Ranged m × (totalOf (m .version) ≤ length (now stream)) ⌝ }
     ensures { λ r. ⌜ Body m (now (stream .entry)) (now (payload .entry)) (now (script .entry)) r (now (payload .exit)) (now (script .exit)) ⌝ }
 {
     let row = blocks::block_row(m.version, m.level);
     match blockwise::correct_blocks(stream, &row) {
-        Blocks::Corrected(count) => tell_segments(
-            stream,
-            data,
-            spare,
-            &row,
-            count,
-            payload,
-            script,
-        ),
+        Blocks::Corrected(count) => tell_segments(stream, spare, &row, count, payload, script),
         Blocks::Refused => refused(6),
     }
 }
 
-// What is told of a square whose layout is drawn.
+// What is told of a square whose layout is drawn. A small one has a small buffer, which is sooner cleared.
 fn tell_blocks(
     kinds: &mut [u8],
     square: &[u8],
@@ -243,10 +255,14 @@ fn tell_blocks(
     requires { ⌜ Fitting m (now square) × Drawn (m .version) (now kinds) × (8 * totalOf (m .version) ≤ dataModules (layoutOf (m .version))) ⌝ }
     ensures { λ r. ⌜ (readingIn m r (now (payload .exit)) (now (script .exit)) ≡ bodyOf (m .version) (m .level) (m .mask) (m .distance) (now (square .entry)) (now (payload .entry)) (now (script .entry))) × Small r ⌝ }
 {
+    if m.version <= 10 {
+        let mut stream = [0u8; 155];
+        read_stream(&mut stream, kinds, square, m);
+        return tell_stream(&mut stream, kinds, m, payload, script);
+    }
     let mut stream = [0u8; 3886];
-    let mut found = [0u8; 3886];
-    read_stream(&mut stream, &mut found, kinds, square, m);
-    tell_stream(&mut stream, &mut found, kinds, m, payload, script)
+    read_stream(&mut stream, kinds, square, m);
+    tell_stream(&mut stream, kinds, m, payload, script)
 }
 
 // The same, or 1 for a version with too few data modules: the rows of the table hold their rule.
@@ -266,7 +282,7 @@ fn tell_drawn(
     tell_blocks(kinds, square, m, payload, script)
 }
 
-// What is told of a square of version 1 to 3, which have no alignment patterns: no layout, and small buffers, which are sooner cleared.
+// What is told of a square of version 1 to 3, which have no alignment patterns: no layout, and a small buffer, which is sooner cleared.
 fn tell_open(
     spare: &mut [u8],
     square: &[u8],
@@ -278,9 +294,8 @@ fn tell_open(
     ensures { λ r. ⌜ (readingIn m r (now (payload .exit)) (now (script .exit)) ≡ bodyOr1 m (now (square .entry)) (now (payload .entry)) (now (script .entry))) × Small r ⌝ }
 {
     let mut stream = [0u8; 50];
-    let mut found = [0u8; 50];
-    read_open_stream(&mut stream, &mut found, square, m);
-    tell_stream(&mut stream, &mut found, spare, m, payload, script)
+    read_open_stream(&mut stream, square, m);
+    tell_stream(&mut stream, spare, m, payload, script)
 }
 
 // What is told of a square that has passed the first refusals. The buffer for its layout is lent.

@@ -1,9 +1,9 @@
 -- The room for data codewords in the row of a version and level. Assumes nothing.
 use mathlib.Core.Path.{_≡_, refl, sym, ap, _∙_, subst}
-use mathlib.Core.List.{List}
+use mathlib.Core.List.{List, _++_}
 use Prim.Native.Nat.{ℕ, _*_, _≤_}
 use native.Mathlib.Omega.{arith}
-use lib.ListN.{length, take}
+use lib.ListN.{length, take, drop, length-append, length-drop}
 use lib.Seq.{length-take-le}
 use Rattle.symbol.specs.Version.{sideOf}
 use Rattle.blocks.specs.Blocks.{totalOf, rowOf, shapes, shapesOf, totalData}
@@ -29,6 +29,10 @@ room-is {m} R r is n e = (
 -- script and payload that fit, where the first n bytes of a buffer are lent for the data codewords
 pub fits-lent : (s p xs : List ℕ) (n room : ℕ) → n ≡ room → n ≤ length xs → Fits s p room → Fits s p (length (take n xs))
 fits-lent s p xs n room e h f = subst (Fits s p) (sym (length-take-le n xs h ∙ e)) f
+
+-- the buffer afterwards, where what is lent keeps its length
+pub lent-back : (n t : ℕ) (front xs : List ℕ) → length front ≡ length (take n xs) → n ≤ length xs → t ≤ length xs → t ≤ length (front ++ drop n xs)
+lent-back n t front xs e h k = omega (arith, length-append front (drop n xs), length-drop n xs, length-take-le n xs h)
 
 -- where nothing is turned away, script and payload fit the data codewords, and the square has its size
 module _ (v l k : ℕ) (s p sq : List ℕ) (e : writeRefusal v l k s p sq ≡ 0) where

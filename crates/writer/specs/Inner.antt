@@ -7,7 +7,7 @@ use lib.ListN.{length, take}
 use Rattle.symbol.specs.Version.{sideOf}
 use Rattle.symbol.specs.Layout.{layoutOf}
 use Rattle.information.specs.Information.{infoBits}
-use Rattle.blocks.specs.Blocks.{hasBlocks}
+use Rattle.blocks.specs.Blocks.{rowOf, hasBlocks}
 use Rattle.script.specs.Check.{checkOf, bitsOfCheck, refusalOf}
 use Rattle.squares.specs.Read.{firstRefusal, unless}
 use Rattle.squares.specs.Write.{roomOf}
@@ -20,6 +20,11 @@ pub record Ranged (m : Mark) : Type 0 where
   pub level : m .level ≤ 3
   pub mask : m .mask ≤ 3
   pub word : m .word ≡ infoBits (m .version) (m .level) (m .mask)
+
+-- the row of its version and level
+pub record Row (m : Mark) (r : List ℕ) : Type 0 where
+  pub nine : length r ≡ 9
+  pub is : r ≡ rowOf (m .version) (m .level)
 
 -- and a buffer begins with the kinds of the version's modules
 pub record Ready (m : Mark) (ks : List ℕ) : Type 0 where

@@ -7,14 +7,14 @@ ghost use lib.Dec.{T, leb};
 ghost use lib.ListN.{length, take};
 ghost use Rattle.symbol.specs.Version.{sideOf};
 ghost use Rattle.symbol.specs.Layout.{layoutOf};
-ghost use Rattle.blocks.specs.Blocks.{totalOf, shapes, shapesOf, rowLength, rowHolds, totalData};
+ghost use Rattle.blocks.specs.Blocks.{totalOf, shapes, rowLength, rowHolds, totalData};
 ghost use Rattle.codewords.specs.Codewords.{maskBit, squareOf};
 ghost use Rattle.blockwise.specs.Blockwise.{streamOf};
 ghost use Rattle.script.specs.Check.{commandsOf, encoded};
 ghost use Rattle.encoding.specs.Fits.{Fits};
 ghost use Rattle.squares.specs.Read.{unless};
 ghost use Rattle.squares.specs.Write.{roomOf, writeRefusal, markOf, writingOf, writeOf};
-ghost use Rattle.writer.specs.Inner.{Ranged, Ready, placeRefusal, scriptRefusal};
+ghost use Rattle.writer.specs.Inner.{Ranged, Row, Ready, placeRefusal, scriptRefusal};
 use symbol::Version;
 
 // What a mark is written with: its version, level and mask, and the word of these three.
@@ -42,25 +42,23 @@ fn place_refusal(m: Mark, kinds: &[u8], size: usize) -> usize
 }
 
 // 13 if there are more bits than the data codewords have, else 0.
-fn bits_refusal(m: Mark, bits: usize) -> usize
-    requires { ⌜ Ranged m ⌝ }
+fn bits_refusal(m: Mark, row: &[u8], bits: usize) -> usize
+    requires { ⌜ Ranged m × Row m (now row) ⌝ }
     ensures { λ r. ⌜ r ≡ unless (leb bits (8 * roomOf (m .version) (m .level))) 13 ⌝ }
 {
-    let row = blocks::block_row(m.version, m.level);
-    let room = blockwise::data_length(&row);
-    if 8 * room < bits {
+    if 8 * blockwise::data_length(row) < bits {
         return 13;
     }
     0
 }
 
 // What script and payload are turned away for, or 0.
-fn script_refusal(m: Mark, script: &[u8], payload: &[u8]) -> usize
-    requires { ⌜ Ranged m ⌝ }
+fn script_refusal(m: Mark, row: &[u8], script: &[u8], payload: &[u8]) -> usize
+    requires { ⌜ Ranged m × Row m (now row) ⌝ }
     ensures { λ r. ⌜ r ≡ scriptRefusal (m .version) (m .level) (now (script .entry)) (now (payload .entry)) ⌝ }
 {
     match script::check_script(script, payload) {
-        Check::Bits(n) => bits_refusal(m, n),
+        Check::Bits(n) => bits_refusal(m, row, n),
         Check::Malformed => 11,
         Check::Lacking => 12,
         Check::Empty => 8,
@@ -75,17 +73,6 @@ fn encode_stream(stream: &mut [u8], data: &mut [u8], row: &[u8], script: &[u8], 
 {
     encoding::encode(script, payload, data);
     blockwise::write_blocks(stream, data, row);
-}
-
-// The same for the row of a version and level. The data codewords are made in a lent buffer.
-fn write_stream(stream: &mut [u8], data: &mut [u8], m: Mark, script: &[u8], payload: &[u8])
-    requires { ⌜ Ranged m × (totalOf (m .version) ≤ length (now stream)) × (totalOf (m .version) ≤ length (now «data»)) ⌝ }
-    requires { ⌜ Fits (now script) (now payload) (roomOf (m .version) (m .level)) ⌝ }
-    ensures { λ _. ⌜ take (totalOf (m .version)) (now (stream .exit)) ≡ streamOf (shapesOf (m .version) (m .level)) (encoded (roomOf (m .version) (m .level)) (commandsOf (now (script .entry)) (now (payload .entry)))) ⌝ }
-{
-    let row = blocks::block_row(m.version, m.level);
-    let room = blockwise::data_length(&row);
-    encode_stream(stream, &mut data[..room], &row, script, payload);
 }
 
 // A stream in the data modules of a square; the information modules are light. The codewords are put in order in a lent buffer.
@@ -104,35 +91,55 @@ fn write_mark_in(
     square: &mut [u8],
     kinds: &[u8],
     m: Mark,
+    row: &[u8],
     script: &[u8],
     payload: &[u8],
     stream: &mut [u8],
     spare: &mut [u8],
 )
     requires { ⌜ Ready m (now kinds) × (writeRefusal (m .version) (m .level) (m .mask) (now script) (now payload) (now square) ≡ 0) ⌝ }
-    requires { ⌜ (totalOf (m .version) ≤ length (now stream)) × (totalOf (m .version) ≤ length (now spare)) ⌝ }
+    requires { ⌜ Row m (now row) × (totalOf (m .version) ≤ length (now stream)) × (totalOf (m .version) ≤ length (now spare)) ⌝ }
     ensures { λ _. ⌜ now (square .exit) ≡ markOf (m .version) (m .level) (m .mask) (now (script .entry)) (now (payload .entry)) ⌝ }
 {
     let side = Version { number: m.version }.side();
-    write_stream(stream, spare, m, script, payload);
+    let room = blockwise::data_length(row);
+    encode_stream(stream, &mut spare[..room], row, script, payload);
     place_stream(square, kinds, m, stream, spare);
     information::write_info(square, side, m.word);
 }
 
 // The same. A small mark has small buffers, which are sooner cleared.
-fn write_mark(square: &mut [u8], kinds: &[u8], m: Mark, script: &[u8], payload: &[u8])
-    requires { ⌜ Ready m (now kinds) × (writeRefusal (m .version) (m .level) (m .mask) (now script) (now payload) (now square) ≡ 0) ⌝ }
+fn write_mark(square: &mut [u8], kinds: &[u8], m: Mark, row: &[u8], script: &[u8], payload: &[u8])
+    requires { ⌜ Ready m (now kinds) × (writeRefusal (m .version) (m .level) (m .mask) (now script) (now payload) (now square) ≡ 0) × Row m (now row) ⌝ }
     ensures { λ _. ⌜ now (square .exit) ≡ markOf (m .version) (m .level) (m .mask) (now (script .entry)) (now (payload .entry)) ⌝ }
 {
     if m.version < 4 {
         let mut stream = [0u8; 50];
         let mut spare = [0u8; 50];
-        write_mark_in(square, kinds, m, script, payload, &mut stream, &mut spare);
+        write_mark_in(
+            square,
+            kinds,
+            m,
+            row,
+            script,
+            payload,
+            &mut stream,
+            &mut spare,
+        );
         return;
     }
     let mut stream = [0u8; 3886];
     let mut spare = [0u8; 3886];
-    write_mark_in(square, kinds, m, script, payload, &mut stream, &mut spare);
+    write_mark_in(
+        square,
+        kinds,
+        m,
+        row,
+        script,
+        payload,
+        &mut stream,
+        &mut spare,
+    );
 }
 
 // The mark and 0, or the first refusal behind that of version, level and mask.
@@ -144,11 +151,12 @@ fn write_ready(square: &mut [u8], kinds: &[u8], m: Mark, script: &[u8], payload:
     if place != 0 {
         return place;
     }
-    let text = script_refusal(m, script, payload);
+    let row = blocks::block_row(m.version, m.level);
+    let text = script_refusal(m, &row, script, payload);
     if text != 0 {
         return text;
     }
-    write_mark(square, kinds, m, script, payload);
+    write_mark(square, kinds, m, &row, script, payload);
     0
 }
 

@@ -17,15 +17,21 @@ side-requires c κs = search needs
 total-codewords-requires : tie.Need-total-codewords-requires
 total-codewords-requires c κs = search needs
 
+slice-aggregate-read-codewords : tie.Need-slice-aggregate-read-codewords
+slice-aggregate-read-codewords c = search needs
+
 read-codewords-requires : tie.Need-read-codewords-requires
 read-codewords-requires c κs =
-    let a = c .before .before .before .before .before .before .before in
-    let f = a .pre .0 .0 in
-    let d = a .pre .0 .1 in
+    let a = c .before .before .before .before .before .before in
+    let f = a .pre .0 in
+    let d = a .pre .1 in
     let total = c .before .total-codewords .ensures in
     let side = c .before .before .side .ensures in
     let size = f .size ∙ sym (ap (λ (n : ℕ). n * n) side) in
-    ((legible (a .args .m) _ _ f d, omega (arith, side), omega (arith, side, f .high), size), (omega (arith, total .0, a .pre .1 .1), enough-bits (a .args .m) _ _ f d _ (c .before .total-codewords .result) (total .0) (a .pre .0 .2)))
+    ((legible (a .args .m) _ _ f d, omega (arith, side), omega (arith, side, f .high), size), (total .1, enough-bits (a .args .m) _ _ f d _ (c .before .total-codewords .result) (total .0) (a .pre .2)))
+
+slice-aggregate-to-stream : tie.Need-slice-aggregate-to-stream
+slice-aggregate-to-stream c = search needs
 
 to-stream-requires : tie.Need-to-stream-requires
 to-stream-requires c κs = search needs
@@ -33,15 +39,12 @@ to-stream-requires c κs = search needs
 same-length : tie.Need-same-length
 same-length c = search needs
 
-same-length-2 : tie.Need-same-length-2
-same-length-2 c = search needs
-
 returns : tie.Need-returns
 returns c =
-    let a = c .before .before .before .before .before .before .before .before .before .before .before .before .before .before .before in
-    let total = c .before .before .before .before .before .before .before .before .before .total-codewords in
-    stream-is (a .args .m) _ _ (a .pre .0 .0) (a .pre .0 .1) _ _ _ _ (c .before .before .before .before .before .before .before .before .before .before .side .ensures) (total .ensures .0)
-    (c .before .before .to-stream .ensures ∙ ap (λ (x : List ℕ). streamOf x ++ drop (total .result) (a .args .stream .now)) (codewords-taken _ _ _ _ (c .before .before .before .before .before .before .before .read-codewords .ensures)))
+    let a = c .before .before .before .before .before .before .before .before .before .before .before .before .before in
+    let total = c .before .before .before .before .before .before .before .before .total-codewords in
+    stream-is (a .args .m) _ _ (a .pre .0) (a .pre .1) _ _ _ _ (c .before .before .before .before .before .before .before .before .before .side .ensures) (total .ensures .0)
+    (c .before .before .to-stream .ensures ∙ ap (λ (x : List ℕ). streamOf x ++ drop (total .result) (a .args .stream .now)) (codewords-taken _ _ _ _ (c .before .before .before .before .before .before .read-codewords .ensures)))
 
 pub read-stream-spec : {M : Type 1} → statement M
 read-stream-spec =
@@ -49,8 +52,9 @@ read-stream-spec =
     (tie.spec
     side-requires
     total-codewords-requires
+    slice-aggregate-read-codewords
     read-codewords-requires
+    slice-aggregate-to-stream
     to-stream-requires
     same-length
-    same-length-2
     returns)

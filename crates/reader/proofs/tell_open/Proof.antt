@@ -9,26 +9,18 @@ use Rattle.reader.proofs.tell_open.Tie as tie
 slice-aggregate-read-open-stream : tie.Need-slice-aggregate-read-open-stream
 slice-aggregate-read-open-stream c = search needs
 
-slice-aggregate-read-open-stream-2 : tie.Need-slice-aggregate-read-open-stream-2
-slice-aggregate-read-open-stream-2 c = search needs
-
 read-open-stream-requires : tie.Need-read-open-stream-requires
 read-open-stream-requires c κs =
-    let a = c .before .before .before .before .before .before .pre in
-    let t = total-open _ (a .0 .low) (a .1) in
-    (a .0, a .1, omega (arith, t), omega (arith, t))
+    let a = c .before .before .before .before .before .pre in
+    (a .0, a .1, omega (arith, total-open _ (a .0 .low) (a .1)))
 
 slice-aggregate-tell-stream : tie.Need-slice-aggregate-tell-stream
 slice-aggregate-tell-stream c = search needs
 
-slice-aggregate-tell-stream-2 : tie.Need-slice-aggregate-tell-stream-2
-slice-aggregate-tell-stream-2 c = search needs
-
 tell-stream-requires : tie.Need-tell-stream-requires
 tell-stream-requires c κs =
-    let a = c .before .before .before .before .before .before .before .before .before .before .before .before .before .before .pre in
-    let t = total-open _ (a .0 .low) (a .1) in
-    (ranged _ _ (a .0), omega (arith, t), omega (arith, t))
+    let a = c .before .before .before .before .before .before .before .before .before .before .before .pre in
+    (ranged _ _ (a .0), omega (arith, total-open _ (a .0 .low) (a .1)))
 
 same-length : tie.Need-same-length
 same-length c = search needs
@@ -41,19 +33,17 @@ same-length-3 c = search needs
 
 returns : tie.Need-returns
 returns c =
-    let a = c .before .before .before .before .before .before .before .before .before .before .before .before .before .before .before .before .before .before .before .before .before .before .before in
-    let t = c .before .before .before .before .before .before .before .before .tell-stream .ensures in
-    (open-blocks (a .args .m) _ _ _ _ (a .pre .0) (a .pre .1) (t .reading _ (c .before .before .before .before .before .before .before .before .before .before .before .before .before .before .before .before .read-open-stream .ensures)), t .small)
+    let a = c .before .before .before .before .before .before .before .before .before .before .before .before .before .before .before .before .before .before .before in
+    let t = c .before .before .before .before .before .before .before .tell-stream .ensures in
+    (open-blocks (a .args .m) _ _ _ _ (a .pre .0) (a .pre .1) (t .reading _ (c .before .before .before .before .before .before .before .before .before .before .before .before .before .read-open-stream .ensures)), t .small)
 
 pub tell-open-spec : {M : Type 1} → statement M
 tell-open-spec =
     tie.close
     (tie.spec
     slice-aggregate-read-open-stream
-    slice-aggregate-read-open-stream-2
     read-open-stream-requires
     slice-aggregate-tell-stream
-    slice-aggregate-tell-stream-2
     tell-stream-requires
     same-length
     same-length-2

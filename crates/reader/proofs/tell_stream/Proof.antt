@@ -1,8 +1,5 @@
 -- `tell_stream` meets its contract. Assumes nothing.
 use native.Mathlib.Omega.{arith}
-use Rattle.blocks.specs.Blocks.{shapes}
-use Rattle.blocks.proofs.Rows.{total-shapes}
-use Rattle.squares.proofs.Demand.{data-le}
 use Rattle.squares.proofs.Starts.{row-total, row-own, row-data}
 use Rattle.reader.proofs.Body.{count-small, blocks-refused, blocks-told}
 use borrow.Author.Needs.{needs}
@@ -17,7 +14,7 @@ slice-aggregate-correct-blocks c = search needs
 
 correct-blocks-requires : tie.Need-correct-blocks-requires
 correct-blocks-requires c κs =
-    let a = c .before .before .before .before .before .before .before .before in
+    let a = c .before .before .before .before .before .before .before in
     let m = a .args .m in
     let f = a .pre .0 in
     let row = c .before .before .block-row .ensures in
@@ -31,13 +28,13 @@ slice-aggregate-tell-segments c = search needs
 
 tell-segments-requires : tie.Need-tell-segments-requires
 tell-segments-requires c κs =
-    let a = c .before .before .before .before .before .before .before .before .before .before .before .before .before .before .before .before .before .before .before .before in
+    let a = c .before .before .before .before .before .before .before .before .before .before .before .before .before .before .before .before .before .before in
     let m = a .args .m in
     let f = a .pre .0 in
-    let row = c .before .before .before .before .before .before .before .before .before .before .before .before .before .before .block-row .ensures in
+    let row = c .before .before .before .before .before .before .before .before .before .before .before .before .before .block-row .ensures in
     let long = row-total (m .version) (m .level) (f .low) (f .high) (f .level) _ row in
-    let n = c .before .before .before .before .before .before .before .count .given in
-    (search needs, omega (arith, long, a .pre .1), omega (arith, data-le (shapes (c .before .before .before .before .before .before .before .before .before .before .before .before .before .before .block-row .result)), total-shapes (c .before .before .before .before .before .before .before .before .before .before .before .before .before .before .block-row .result), long, a .pre .2), row-data _ _ (f .low) (f .high) (f .level) _ row, count-small m f _ row _ (n .0 .0) _ (n .1) (λ z. c .before .before .before .before .before .before .before .before .before .before .before .correct-blocks .ensures .1 z .0))
+    let n = c .before .before .before .before .before .before .count .given in
+    (search needs, omega (arith, long, a .pre .1), row-data _ _ (f .low) (f .high) (f .level) _ row, count-small m f _ row _ (n .0 .0) _ (n .1) (λ z. c .before .before .before .before .before .before .before .before .before .before .correct-blocks .ensures .1 z .0))
 
 enum-told : tie.Need-enum-told
 enum-told c = search needs
@@ -57,22 +54,19 @@ same-length-3 c = search needs
 same-length-4 : tie.Need-same-length-4
 same-length-4 c = search needs
 
+returns : tie.Need-returns
+returns c =
+    let a = c .before .before .before .before .before .before .before .before .before .before .before .before .before .before .before .before .before .before .before .before .before .before .before .before .before .before .before in
+    let n = c .before .before .before .before .before .before .before .before .before .before .before .before .before .before .before .count .given in
+    let q = c .before .before .before .before .before .before .before .before .before .before .before .before .before .before .before .before .before .before .before .correct-blocks in
+    blocks-told (a .args .m) (a .pre .0) _ (c .before .before .before .before .before .before .before .before .before .before .before .before .before .before .before .before .before .before .before .before .before .before .block-row .ensures) _ _ _ (q .result) (n .0 .0) _ _ _ _ _ (n .1) (q .ensures .0) (q .ensures .1) (c .before .before .before .before .before .before .before .before .tell-segments .ensures)
+
 same-length-5 : tie.Need-same-length-5
 same-length-5 c = search needs
 
-returns : tie.Need-returns
-returns c =
-    let a = c .before .before .before .before .before .before .before .before .before .before .before .before .before .before .before .before .before .before .before .before .before .before .before .before .before .before .before .before .before .before .before in
-    let n = c .before .before .before .before .before .before .before .before .before .before .before .before .before .before .before .before .before .before .count .given in
-    let q = c .before .before .before .before .before .before .before .before .before .before .before .before .before .before .before .before .before .before .before .before .before .before .correct-blocks in
-    blocks-told (a .args .m) (a .pre .0) _ (c .before .before .before .before .before .before .before .before .before .before .before .before .before .before .before .before .before .before .before .before .before .before .before .before .before .block-row .ensures) _ _ _ (q .result) (n .0 .0) _ _ _ _ _ (n .1) (q .ensures .0) (q .ensures .1) (c .before .before .before .before .before .before .before .before .before .before .tell-segments .ensures)
-
-same-length-6 : tie.Need-same-length-6
-same-length-6 c = search needs
-
 returns-2 : tie.Need-returns-2
 returns-2 c =
-    let a = c .before .before .before .before .before .before .before .before .before .before .before .before .before .before in
+    let a = c .before .before .before .before .before .before .before .before .before .before .before .before .before in
     blocks-refused (a .args .m) (a .pre .0) _ (c .before .before .before .before .before .before .before .before .block-row .ensures) _ _ _ _ _ (c .before .enum-told .given .1) (c .before .before .before .before .before .correct-blocks .ensures .0) (c .refused .ensures)
 
 pub tell-stream-spec : {M : Type 1} → statement M
@@ -91,7 +85,6 @@ tell-stream-spec =
     same-length-2
     same-length-3
     same-length-4
-    same-length-5
     returns
-    same-length-6
+    same-length-5
     returns-2)

@@ -25,16 +25,20 @@ enum-told-3 : tie.Need-enum-told-3
 enum-told-3 c = search needs
 
 returns : tie.Need-returns
-returns c = script-bits _ _ _ _ _ _ _ (c .before .before .n .given .1) (c .before .before .before .before .check-script .ensures) (c .bits-refusal .ensures)
+returns c =
+    script-bits _ _ _ _ _ _ _ (c .before .before .n .given .1) (c .before .before .before .before .check-script .ensures) (c .bits-refusal .ensures)
 
 returns-2 : tie.Need-returns-2
-returns-2 c = script-other _ _ _ _ _ Malformed (c .enum-told .given .1) (c .before .before .check-script .ensures) (omega arith)
+returns-2 c =
+    script-other _ _ _ _ _ Malformed (c .enum-told .given .1) (c .before .before .check-script .ensures) (omega arith)
 
 returns-3 : tie.Need-returns-3
-returns-3 c = script-other _ _ _ _ _ Lacking (c .enum-told2 .given .1) (c .before .before .check-script .ensures) (omega arith)
+returns-3 c =
+    script-other _ _ _ _ _ Lacking (c .enum-told2 .given .1) (c .before .before .check-script .ensures) (omega arith)
 
 returns-4 : tie.Need-returns-4
-returns-4 c = script-other _ _ _ _ _ Empty (c .enum-told3 .given .1) (c .before .before .check-script .ensures) (omega arith)
+returns-4 c =
+    script-other _ _ _ _ _ Empty (c .enum-told3 .given .1) (c .before .before .check-script .ensures) (omega arith)
 
 pub script-refusal-spec : {M : Type 1} → statement M
 script-refusal-spec =

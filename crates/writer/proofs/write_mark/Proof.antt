@@ -13,9 +13,9 @@ slice-aggregate-write-mark-in-2 c = search needs
 
 write-mark-in-requires : tie.Need-write-mark-in-requires
 write-mark-in-requires c κs =
-    let o = c .before .before .before .before .before .before .before .before .before .pre in
+    let o = c .before .before .before .before .before .before .before .before .before .before .pre in
     let t = total-open _ (o .0 .ranged .low) (c .before .before .before .if1 .taken) in
-    (o, (omega (arith, t), omega (arith, t)))
+    ((o .0, o .1), (o .2, omega (arith, t), omega (arith, t)))
 
 same-length : tie.Need-same-length
 same-length c = search needs
@@ -31,9 +31,9 @@ slice-aggregate-write-mark-in-4 c = search needs
 
 write-mark-in-requires-2 : tie.Need-write-mark-in-requires-2
 write-mark-in-requires-2 c κs =
-    let o = c .before .before .before .before .before .before .before .before .before .pre in
+    let o = c .before .before .before .before .before .before .before .before .before .before .pre in
     let t = total-small _ (o .0 .ranged .low) (o .0 .ranged .high) in
-    (o, (omega (arith, t), omega (arith, t)))
+    ((o .0, o .1), (o .2, omega (arith, t), omega (arith, t)))
 
 same-length-2 : tie.Need-same-length-2
 same-length-2 c = search needs

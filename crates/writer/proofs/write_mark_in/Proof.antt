@@ -1,9 +1,11 @@
 -- `write_mark_in` meets its contract: the stream, its square, and the word in it. Assumes nothing.
-use mathlib.Core.Path.{ap}
+use mathlib.Core.Path.{sym, ap, _∙_}
 use Prim.Native.Nat.{ℕ, _*_}
 use native.Mathlib.Omega.{arith}
-use Rattle.writer.proofs.Rooms.{fits, size}
-use Rattle.writer.proofs.Fronts.{mark-made}
+use lib.Seq.{length-take-le}
+use Rattle.squares.proofs.Starts.{row-total, row-own}
+use Rattle.writer.proofs.Rooms.{room-is, fits, fits-lent, lent-back, size}
+use Rattle.writer.proofs.Fronts.{stream-of-row, mark-made}
 use borrow.Author.Needs.{needs}
 use Rattle.writer.proofs.write_mark_in.Statement.{statement}
 use Rattle.writer.proofs.write_mark_in.Tie as tie
@@ -11,21 +13,40 @@ use Rattle.writer.proofs.write_mark_in.Tie as tie
 side-requires : tie.Need-side-requires
 side-requires c κs = search needs
 
-write-stream-requires : tie.Need-write-stream-requires
-write-stream-requires c κs =
-    let o = c .before .before .before .before .before .before .before .before .before in
-    ((o .pre .0 .0 .ranged, o .pre .1 .0, o .pre .1 .1), fits _ _ _ (o .args .script .now) (o .args .payload .now) (o .args .square .now) (o .pre .0 .1))
+data-length-requires : tie.Need-data-length-requires
+data-length-requires c κs =
+    c .before .before .before .before .before .before .before .before .pre .1 .0 .nine
+
+slice-relend-prefix-encode-stream : tie.Need-slice-relend-prefix-encode-stream
+slice-relend-prefix-encode-stream c =
+    let o = c .before .before .before .before .before .before .before .before .before .before .pre in
+    omega (arith, room-is (o .0 .0 .ranged) _ (o .1 .0 .is) _ (c .before .data-length .ensures) .2, o .1 .2)
+
+slice-aggregate-encode-stream : tie.Need-slice-aggregate-encode-stream
+slice-aggregate-encode-stream c =
+    let o = c .before .before .before .before .before .before .before .before .before .before .before .pre in
+    sym (length-take-le _ _ (omega (arith, room-is (o .0 .0 .ranged) _ (o .1 .0 .is) _ (c .before .before .data-length .ensures) .2, o .1 .2)))
+
+encode-stream-requires : tie.Need-encode-stream-requires
+encode-stream-requires c κs =
+    let o = c .before .before .before .before .before .before .before .before .before .before .before in
+    let R = o .pre .0 .0 .ranged in
+    let r = o .pre .1 .0 in
+    let n = c .before .before .data-length .ensures in
+    let e = room-is R _ (r .is) _ n in (
+      (r .nine, row-own _ _ (R .low) (R .high) (R .level) _ (r .is), omega (arith, o .pre .1 .1, row-total _ _ (R .low) (R .high) (R .level) _ (r .is)), length-take-le _ _ (omega (arith, e .2, o .pre .1 .2)) ∙ n),
+      fits-lent (o .args .script .now) (o .args .payload .now) (o .args .spare .now) _ _ (e .0) (omega (arith, e .2, o .pre .1 .2)) (fits _ _ _ (o .args .script .now) (o .args .payload .now) (o .args .square .now) (o .pre .0 .1)),
+    )
 
 place-stream-requires : tie.Need-place-stream-requires
 place-stream-requires c κs =
-    let o = c .before .before .before .before .before .before .before .before .before .before .before .before .before .before .before .before .before in
-    let k = c .before .before .before .before .before .before .before .write-stream .kept in
-    (o .pre .0 .0, size _ _ _ (o .args .script .now) (o .args .payload .now) (o .args .square .now) (o .pre .0 .1), omega (arith, k, o .pre .1), omega (arith, k, o .pre .1))
+    let o = c .before .before .before .before .before .before .before .before .before .before .before .before .before .before .before .before .before .before .before in
+    (o .pre .0 .0, size _ _ _ (o .args .script .now) (o .args .payload .now) (o .args .square .now) (o .pre .0 .1), omega (arith, c .before .before .before .before .before .before .before .encode-stream .kept, o .pre .1 .1), lent-back (c .before .before .before .before .before .before .before .before .before .before .data-length .result) _ (c .before .before .before .before .before .before .before .encode-stream .last .1 .0) (o .args .spare .now) (c .before .before .before .before .before .before .before .encode-stream .kept .1 .0) (omega (arith, room-is (o .pre .0 .0 .ranged) _ (o .pre .1 .0 .is) _ (c .before .before .before .before .before .before .before .before .before .before .data-length .ensures) .2, o .pre .1 .2)) (o .pre .1 .2))
 
 write-info-requires : tie.Need-write-info-requires
 write-info-requires c κs =
-    let o = c .before .before .before .before .before .before .before .before .before .before .before .before .before .before .before .before .before .before .before .before .before .before .before in
-    let e = c .before .before .before .before .before .before .before .before .before .before .before .before .before .before .before .before .side .ensures in
+    let o = c .before .before .before .before .before .before .before .before .before .before .before .before .before .before .before .before .before .before .before .before .before .before .before .before .before in
+    let e = c .before .before .before .before .before .before .before .before .before .before .before .before .before .before .before .before .before .side .ensures in
     (omega (arith, e), omega (arith, e, o .pre .0 .0 .ranged .high), omega (arith, c .before .before .before .before .before .place-stream .kept, ap (λ (n : ℕ). n * n) e, size _ _ _ (o .args .script .now) (o .args .payload .now) (o .args .square .now) (o .pre .0 .1)))
 
 same-length : tie.Need-same-length
@@ -39,15 +60,21 @@ same-length-3 c = search needs
 
 returns : tie.Need-returns
 returns c =
-    let o = c .before .before .before .before .before .before .before .before .before .before .before .before .before .before .before .before .before .before .before .before .before .before .before .before .before .before in
-    mark-made _ (o .args .script .now) (o .args .payload .now) _ _ _ _ (o .pre .0 .0 .ranged) (c .before .before .before .before .before .before .before .before .before .before .before .before .before .before .before .before .before .before .before .side .ensures) (c .before .before .before .before .before .before .before .before .before .before .before .before .before .before .before .before .write-stream .ensures) (c .before .before .before .before .before .before .before .before .place-stream .ensures) (c .before .before .write-info .ensures)
+    let o = c .before .before .before .before .before .before .before .before .before .before .before .before .before .before .before .before .before .before .before .before .before .before .before .before .before .before .before .before in
+    let R = o .pre .0 .0 .ranged in
+    let r = o .pre .1 .0 .is in
+    mark-made _ (o .args .script .now) (o .args .payload .now) _ _ _ _ R (c .before .before .before .before .before .before .before .before .before .before .before .before .before .before .before .before .before .before .before .before .side .ensures)
+    (stream-of-row (o .args .script .now) (o .args .payload .now) _ _ _ _ r (row-total _ _ (R .low) (R .high) (R .level) _ r) (c .before .before .before .before .before .before .before .before .before .before .before .before .before .before .before .before .encode-stream .ensures)) (c .before .before .before .before .before .before .before .before .place-stream .ensures) (c .before .before .write-info .ensures)
 
 pub write-mark-in-spec : {M : Type 1} → statement M
 write-mark-in-spec =
     tie.close
     (tie.spec
     side-requires
-    write-stream-requires
+    data-length-requires
+    slice-relend-prefix-encode-stream
+    slice-aggregate-encode-stream
+    encode-stream-requires
     place-stream-requires
     write-info-requires
     same-length

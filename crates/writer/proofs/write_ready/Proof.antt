@@ -12,34 +12,35 @@ returns c =
     let o = c .before .before .before .before .before .before in
     answers-place _ _ (o .pre) (o .args .script .now) (o .args .payload .now) (o .args .square .now) _ (c .before .place-refusal .ensures) (c .if1 .taken)
 
+block-row-requires : tie.Need-block-row-requires
+block-row-requires c κs = search needs
+
+slice-aggregate-script-refusal : tie.Need-slice-aggregate-script-refusal
+slice-aggregate-script-refusal c = search needs
+
 script-refusal-requires : tie.Need-script-refusal-requires
-script-refusal-requires c κs = c .before .before .before .before .before .before .pre .ranged
+script-refusal-requires c κs = search needs
 
 returns-2 : tie.Need-returns-2
 returns-2 c =
-    let before = c .before .before .before .before .before .before .before .before in
-    let o = before in
-    answers-script _ _ (o .pre) (o .args .script .now) (o .args .payload .now) (o .args .square .now) _ (c .before .before .before .place-refusal .ensures) (c .before .before .if1 .left) _ (c .before .script-refusal .ensures) (c .if2 .taken)
+    let o = c .before .before .before .before .before .before .before .before .before .before in
+    answers-script _ _ (o .pre) (o .args .script .now) (o .args .payload .now) (o .args .square .now) _ (c .before .before .before .before .before .place-refusal .ensures) (c .before .before .before .before .if1 .left) _ (c .before .script-refusal .ensures) (c .if2 .taken)
+
+slice-aggregate-write-mark : tie.Need-slice-aggregate-write-mark
+slice-aggregate-write-mark c = search needs
 
 write-mark-requires : tie.Need-write-mark-requires
 write-mark-requires c κs =
-    let before = c .before .before .before .before .before .before .before .before .before in
-    let place-refusal = c .before .before .before .before .place-refusal in
-    let o = before in
-    (o .pre, nothing-turned _ _ (o .pre) (o .args .script .now) (o .args .payload .now) (o .args .square .now) _ (place-refusal .ensures) (c .before .before .before .if1 .left) _ (c .before .before .script-refusal .ensures) (c .before .if2 .left))
+    let o = c .before .before .before .before .before .before .before .before .before .before .before .before in
+    (o .pre, nothing-turned _ _ (o .pre) (o .args .script .now) (o .args .payload .now) (o .args .square .now) _ (c .before .before .before .before .before .before .before .place-refusal .ensures) (c .before .before .before .before .before .before .if1 .left) _ (c .before .before .before .script-refusal .ensures) (c .before .before .if2 .left), record { nine = search needs; is = c .before .before .before .before .before .block-row .ensures })
 
 same-length : tie.Need-same-length
 same-length c = search needs
 
 returns-3 : tie.Need-returns-3
 returns-3 c =
-    let before = c .before .before .before .before .before .before .before .before .before .before .before .before in
-    let place-refusal = c .before .before .before .before .before .before .before .place-refusal in
-    let if1 = c .before .before .before .before .before .before .if1 in
-    let script-refusal = c .before .before .before .before .before .script-refusal in
-    let if2 = c .before .before .before .before .if2 in
-    let o = before in
-    answers-zero _ _ (o .pre) (o .args .script .now) (o .args .payload .now) (o .args .square .now) _ (place-refusal .ensures) (if1 .left) _ (script-refusal .ensures) (if2 .left) _ (c .before .before .write-mark .ensures)
+    let o = c .before .before .before .before .before .before .before .before .before .before .before .before .before .before .before in
+    answers-zero _ _ (o .pre) (o .args .script .now) (o .args .payload .now) (o .args .square .now) _ (c .before .before .before .before .before .before .before .before .before .before .place-refusal .ensures) (c .before .before .before .before .before .before .before .before .before .if1 .left) _ (c .before .before .before .before .before .before .script-refusal .ensures) (c .before .before .before .before .before .if2 .left) _ (c .before .before .write-mark .ensures)
 
 pub write-ready-spec : {M : Type 1} → statement M
 write-ready-spec =
@@ -47,8 +48,11 @@ write-ready-spec =
     (tie.spec
     place-refusal-requires
     returns
+    block-row-requires
+    slice-aggregate-script-refusal
     script-refusal-requires
     returns-2
+    slice-aggregate-write-mark
     write-mark-requires
     same-length
     returns-3)

@@ -1,4 +1,4 @@
--- `tell_segments` meets its contract. Assumes nothing.
+-- `tell_data` meets its contract. Assumes nothing.
 use mathlib.Core.Path.{sym, ap, _∙_}
 use mathlib.Core.List.{List}
 use Prim.Native.Nat.{ℕ}
@@ -8,8 +8,8 @@ use Rattle.blocks.specs.Blocks.{shapes, cut, dataParts}
 use Rattle.segments.specs.FromData.{fromData}
 use Rattle.reader.proofs.Answers.{tells, gathered}
 use borrow.Author.Needs.{needs}
-use Rattle.reader.proofs.tell_segments.Statement.{statement}
-use Rattle.reader.proofs.tell_segments.Tie as tie
+use Rattle.reader.proofs.tell_data.Statement.{statement}
+use Rattle.reader.proofs.tell_data.Tie as tie
 
 gather-data-requires : tie.Need-gather-data-requires
 gather-data-requires c κs = search needs
@@ -53,8 +53,8 @@ returns c =
     tells (a .args .count) (q .result) _ d (a .args .payload .now) (a .args .script .now) _ _ (g .result) (a .pre .4) (f .0) (omega (arith, g .ensures .0, a .pre .3)) (c .told-of .ensures)
     (q .ensures ∙ ap (λ (x : List ℕ). fromData x (a .args .payload .now) (a .args .script .now)) (f .1))
 
-pub tell-segments-spec : {M : Type 1} → statement M
-tell-segments-spec =
+pub tell-data-spec : {M : Type 1} → statement M
+tell-data-spec =
     tie.close
     (tie.spec
     gather-data-requires
