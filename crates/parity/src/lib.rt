@@ -5,7 +5,7 @@ ghost use Prim.Native.Nat.{ℕ, _+_, _-_, _≤_, _<_};
 ghost use lib.ListN.{length, getD};
 ghost use Rattle.field.specs.Table.{Field, polyOf};
 ghost use Rattle.algebra.specs.Sum.{seq};
-ghost use mathlib.Core.Bool.{true};
+ghost use mathlib.Core.Bool.{true, false};
 ghost use Rattle.remainder.specs.Words.{tabled, Prepared, Leaves};
 ghost use Rattle.parity.specs.Encode.{writtenOf, encodeOf, encoding};
 ghost use Rattle.parity.specs.Inner.{Monic, Generator};
@@ -77,30 +77,43 @@ fn is_parity(b: &[u8; 32], parity: usize) -> bool
     true
 }
 
-// The first k bytes of a block are data of Han Xin's field, of which division leaves `left`; the others become their parity.
-fn write_left(block: &mut [u8], k: usize, left: Register)
+// What is left of the first k bytes of a block, data of Han Xin's field, is put behind them where it is their parity; answers whether it
+// is. Where it is not, nothing is written.
+fn put_left(block: &mut [u8], k: usize, left: Register) -> bool
     requires { ⌜ (k ≤ length (now block)) × (length (now block) ≤ 255) × (0 < k) ⌝ }
     requires { ⌜ Leaves (length (now block) - k) k (now block) left ⌝ }
-    ensures { λ _. ⌜ now (block .exit) ≡ writtenOf 0x163 1 (length (now (block .entry)) - k) (now (block .entry)) ⌝ }
+    ensures { λ r. ⌜ (r ≡ true → now (block .exit) ≡ writtenOf 0x163 1 (length (now (block .entry)) - k) (now (block .entry))) × (r ≡ false → now (block .exit) ≡ now (block .entry)) ⌝ }
 {
     let n = block.len();
     let b = remainder::bytes(left);
     if is_parity(&b, n - k) {
         division::put_behind(block, k, &b);
-        return;
+        return true;
     }
+    false
+}
+
+// The plain division. It has a function of its own, so that its tables take no stack where what is left is the parity.
+fn write_plain(block: &mut [u8], k: usize)
+    requires { ⌜ (k ≤ length (now block)) × (length (now block) ≤ 255) × (0 < k) ⌝ }
+    ensures { λ _. ⌜ now (block .exit) ≡ writtenOf 0x163 1 (length (now (block .entry)) - k) (now (block .entry)) ⌝ }
+{
     let field = field::han_xin();
-    let g = generator(&field, 1, n - k);
+    let g = generator(&field, 1, block.len() - k);
     write_parity(&field, &g, block, k);
 }
 
-// The same by a table that is prepared once for all blocks of one parity.
+// The first k bytes of a block are data of Han Xin's field; the others become their parity, by a table that is prepared once for all blocks
+// of one parity.
 pub fn write_with(rows: &[u64], block: &mut [u8], k: usize)
     requires { ⌜ (k ≤ length (now block)) × (length (now block) ≤ 255) × Prepared (length (now block) - k) (now rows) × (0 < k) ⌝ }
     ensures { λ _. ⌜ now (block .exit) ≡ writtenOf 0x163 1 (length (now (block .entry)) - k) (now (block .entry)) ⌝ }
 {
     let left = remainder::remainder(rows, block, k);
-    write_left(block, k, left);
+    if put_left(block, k, left) {
+        return;
+    }
+    write_plain(block, k);
 }
 
 // The same for one short block, with no such table.
@@ -110,7 +123,10 @@ pub fn write_short(block: &mut [u8], k: usize)
 {
     let parity = block.len() - k;
     let left = remainder::remainder_short(block, k, parity);
-    write_left(block, k, left);
+    if put_left(block, k, left) {
+        return;
+    }
+    write_plain(block, k);
 }
 
 // The parity of a block of the field with the lent table, whose first root is α^first.
