@@ -136,11 +136,25 @@ pub fn correct_with(rows: &[u64], block: &mut [u8], parity: usize) -> Correction
     correct_left(block, parity, left)
 }
 
+// Whether the plain way is to be taken: where there is no table, and where a short block has so few roots that their values cost less than
+// a table.
+fn is_plain(n: usize, parity: usize) -> bool
+    ensures { λ b. ⌜ (b ≡ false → tabled parity × (parity < n) × (n ≤ 255)) ⌝ }
+{
+    if 10 <= parity {
+        return is_untabled(n, parity);
+    }
+    if 40 <= n {
+        return is_untabled(n, parity);
+    }
+    true
+}
+
 // The same for one short block, with no such table.
 pub fn correct_short(block: &mut [u8], parity: usize) -> Correction
     ensures { λ r. ⌜ outcome r (now (block .exit)) ≡ correctOf 0x163 1 parity (now (block .entry)) ⌝ }
 {
-    if is_untabled(block.len(), parity) {
+    if is_plain(block.len(), parity) {
         return correct_plain(block, parity);
     }
     let left = remainder::remainder_short(block, block.len(), parity);

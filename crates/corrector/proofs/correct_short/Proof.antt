@@ -7,7 +7,7 @@ use Rattle.corrector.proofs.correct_short.Tie as tie
 
 correct-left-requires : tie.Need-correct-left-requires
 correct-left-requires c κs =
-    let fits = c .before .before .before .before .is-untabled .ensures (c .before .before .before .if1 .left) in
+    let fits = c .before .before .before .before .is-plain .ensures (c .before .before .before .if1 .left) in
     (fits, whole-left (c .before .remainder-short .ensures) (fits .0) (omega arith))
 
 pub correct-short-spec : {M : Type 1} → statement M

@@ -11,15 +11,6 @@ use borrow.Author.Needs.{needs}
 use Rattle.reader.proofs.read_stream.Statement.{statement}
 use Rattle.reader.proofs.read_stream.Tie as tie
 
-side-requires : tie.Need-side-requires
-side-requires c κs = search needs
-
-total-codewords-requires : tie.Need-total-codewords-requires
-total-codewords-requires c κs = search needs
-
-slice-aggregate-read-codewords : tie.Need-slice-aggregate-read-codewords
-slice-aggregate-read-codewords c = search needs
-
 read-codewords-requires : tie.Need-read-codewords-requires
 read-codewords-requires c κs =
     let a = c .before .before .before .before .before .before in
@@ -29,15 +20,6 @@ read-codewords-requires c κs =
     let side = c .before .before .side .ensures in
     let size = f .size ∙ sym (ap (λ (n : ℕ). n * n) side) in
     ((legible (a .args .m) _ _ f d, omega (arith, side), omega (arith, side, f .high), size), (total .1, enough-bits (a .args .m) _ _ f d _ (c .before .total-codewords .result) (total .0) (a .pre .2)))
-
-slice-aggregate-to-stream : tie.Need-slice-aggregate-to-stream
-slice-aggregate-to-stream c = search needs
-
-to-stream-requires : tie.Need-to-stream-requires
-to-stream-requires c κs = search needs
-
-same-length : tie.Need-same-length
-same-length c = search needs
 
 returns : tie.Need-returns
 returns c =
@@ -50,11 +32,11 @@ pub read-stream-spec : {M : Type 1} → statement M
 read-stream-spec =
     tie.close
     (tie.spec
-    side-requires
-    total-codewords-requires
-    slice-aggregate-read-codewords
+    (λ c κs. search needs)
+    (λ c κs. search needs)
+    (λ c. search needs)
     read-codewords-requires
-    slice-aggregate-to-stream
-    to-stream-requires
-    same-length
+    (λ c. search needs)
+    (λ c κs. search needs)
+    (λ c. search needs)
     returns)

@@ -11,37 +11,10 @@ use borrow.Author.Needs.{needs}
 use Rattle.reader.proofs.tell_data.Statement.{statement}
 use Rattle.reader.proofs.tell_data.Tie as tie
 
-gather-data-requires : tie.Need-gather-data-requires
-gather-data-requires c κs = search needs
-
-slice-reshare-prefix-from-data-with : tie.Need-slice-reshare-prefix-from-data-with
-slice-reshare-prefix-from-data-with c = search needs
-
 slice-aggregate-from-data-with : tie.Need-slice-aggregate-from-data-with
 slice-aggregate-from-data-with c =
     let g = c .before .before .before .gather-data in
     sym (length-take-le (g .result) (g .last .0) (omega (arith, g .ensures .0, c .before .before .before .before .before .before .before .before .before .before .before .before .pre)))
-
-from-data-with-requires : tie.Need-from-data-with-requires
-from-data-with-requires c κs = search needs
-
-told-of-requires : tie.Need-told-of-requires
-told-of-requires c κs = search needs
-
-same-length : tie.Need-same-length
-same-length c = search needs
-
-same-length-2 : tie.Need-same-length-2
-same-length-2 c = search needs
-
-same-length-3 : tie.Need-same-length-3
-same-length-3 c = search needs
-
-same-length-4 : tie.Need-same-length-4
-same-length-4 c = search needs
-
-same-length-5 : tie.Need-same-length-5
-same-length-5 c = search needs
 
 returns : tie.Need-returns
 returns c =
@@ -57,14 +30,14 @@ pub tell-data-spec : {M : Type 1} → statement M
 tell-data-spec =
     tie.close
     (tie.spec
-    gather-data-requires
-    slice-reshare-prefix-from-data-with
+    (λ c κs. search needs)
+    (λ c. search needs)
     slice-aggregate-from-data-with
-    from-data-with-requires
-    told-of-requires
-    same-length
-    same-length-2
-    same-length-3
-    same-length-4
-    same-length-5
+    (λ c κs. search needs)
+    (λ c κs. search needs)
+    (λ c. search needs)
+    (λ c. search needs)
+    (λ c. search needs)
+    (λ c. search needs)
+    (λ c. search needs)
     returns)

@@ -4,18 +4,6 @@ use borrow.Author.Needs.{needs}
 use Rattle.reader.proofs.tell_drawn.Statement.{statement}
 use Rattle.reader.proofs.tell_drawn.Tie as tie
 
-data-modules-requires : tie.Need-data-modules-requires
-data-modules-requires c κs = search needs
-
-total-codewords-requires : tie.Need-total-codewords-requires
-total-codewords-requires c κs = search needs
-
-mul-if1 : tie.Need-mul-if1
-mul-if1 c = search needs
-
-refused-requires : tie.Need-refused-requires
-refused-requires c κs = search needs
-
 returns : tie.Need-returns
 returns c =
     let before = c .before .before .before .before .before .before .before .before .before in
@@ -29,12 +17,6 @@ tell-blocks-requires c κs =
     let a = before in
     (a .pre .0, a .pre .1, enough (a .args .m) _ _ (a .pre .0) (a .pre .1) _ _ (data-modules .ensures) (c .before .before .before .before .total-codewords .ensures .0) (a .args .payload .now) (a .args .script .now) (c .before .before .before .if1 .left))
 
-same-length : tie.Need-same-length
-same-length c = search needs
-
-same-length-2 : tie.Need-same-length-2
-same-length-2 c = search needs
-
 returns-2 : tie.Need-returns-2
 returns-2 c =
     let before = c .before .before .before .before .before .before .before .before .before .before .before .before .before .before .before .before .before .before in
@@ -46,24 +28,18 @@ returns-2 c =
     let q = tell-blocks .ensures in
     (with-blocks (a .args .m) _ _ (a .pre .0) (a .pre .1) _ _ (data-modules .ensures) (total-codewords .ensures .0) _ _ (if1 .left) _ (q .0), q .1)
 
-same-length-3 : tie.Need-same-length-3
-same-length-3 c = search needs
-
-same-length-4 : tie.Need-same-length-4
-same-length-4 c = search needs
-
 pub tell-drawn-spec : {M : Type 1} → statement M
 tell-drawn-spec =
     tie.close
     (tie.spec
-    data-modules-requires
-    total-codewords-requires
-    mul-if1
-    refused-requires
-    same-length
+    (λ c κs. search needs)
+    (λ c κs. search needs)
+    (λ c. search needs)
+    (λ c κs. search needs)
+    (λ c. search needs)
     returns
     tell-blocks-requires
-    same-length-2
-    same-length-3
-    same-length-4
+    (λ c. search needs)
+    (λ c. search needs)
+    (λ c. search needs)
     returns-2)

@@ -6,30 +6,15 @@ use borrow.Author.Needs.{needs}
 use Rattle.reader.proofs.tell_open.Statement.{statement}
 use Rattle.reader.proofs.tell_open.Tie as tie
 
-slice-aggregate-read-open-stream : tie.Need-slice-aggregate-read-open-stream
-slice-aggregate-read-open-stream c = search needs
-
 read-open-stream-requires : tie.Need-read-open-stream-requires
 read-open-stream-requires c κs =
     let a = c .before .before .before .before .before .pre in
     (a .0, a .1, omega (arith, total-open _ (a .0 .low) (a .1)))
 
-slice-aggregate-tell-stream : tie.Need-slice-aggregate-tell-stream
-slice-aggregate-tell-stream c = search needs
-
 tell-stream-requires : tie.Need-tell-stream-requires
 tell-stream-requires c κs =
     let a = c .before .before .before .before .before .before .before .before .before .before .before .pre in
     (ranged _ _ (a .0), omega (arith, total-open _ (a .0 .low) (a .1)))
-
-same-length : tie.Need-same-length
-same-length c = search needs
-
-same-length-2 : tie.Need-same-length-2
-same-length-2 c = search needs
-
-same-length-3 : tie.Need-same-length-3
-same-length-3 c = search needs
 
 returns : tie.Need-returns
 returns c =
@@ -41,11 +26,11 @@ pub tell-open-spec : {M : Type 1} → statement M
 tell-open-spec =
     tie.close
     (tie.spec
-    slice-aggregate-read-open-stream
+    (λ c. search needs)
     read-open-stream-requires
-    slice-aggregate-tell-stream
+    (λ c. search needs)
     tell-stream-requires
-    same-length
-    same-length-2
-    same-length-3
+    (λ c. search needs)
+    (λ c. search needs)
+    (λ c. search needs)
     returns)

@@ -6,12 +6,6 @@ use borrow.Author.Needs.{needs}
 use Rattle.reader.proofs.tell_stream.Statement.{statement}
 use Rattle.reader.proofs.tell_stream.Tie as tie
 
-block-row-requires : tie.Need-block-row-requires
-block-row-requires c κs = search needs
-
-slice-aggregate-correct-blocks : tie.Need-slice-aggregate-correct-blocks
-slice-aggregate-correct-blocks c = search needs
-
 correct-blocks-requires : tie.Need-correct-blocks-requires
 correct-blocks-requires c κs =
     let a = c .before .before .before .before .before .before .before in
@@ -19,12 +13,6 @@ correct-blocks-requires c κs =
     let f = a .pre .0 in
     let row = c .before .before .block-row .ensures in
     (search needs, row-own _ _ (f .low) (f .high) (f .level) _ row, omega (arith, row-total (m .version) (m .level) (f .low) (f .high) (f .level) _ row, a .pre .1))
-
-enum-known-count : tie.Need-enum-known-count
-enum-known-count c = search needs
-
-slice-aggregate-tell-segments : tie.Need-slice-aggregate-tell-segments
-slice-aggregate-tell-segments c = search needs
 
 tell-segments-requires : tie.Need-tell-segments-requires
 tell-segments-requires c κs =
@@ -36,33 +24,12 @@ tell-segments-requires c κs =
     let n = c .before .before .before .before .before .before .count .given in
     (search needs, omega (arith, long, a .pre .1), row-data _ _ (f .low) (f .high) (f .level) _ row, count-small m f _ row _ (n .0 .0) _ (n .1) (λ z. c .before .before .before .before .before .before .before .before .before .before .correct-blocks .ensures .1 z .0))
 
-enum-told : tie.Need-enum-told
-enum-told c = search needs
-
-refused-requires : tie.Need-refused-requires
-refused-requires c κs = search needs
-
-same-length : tie.Need-same-length
-same-length c = search needs
-
-same-length-2 : tie.Need-same-length-2
-same-length-2 c = search needs
-
-same-length-3 : tie.Need-same-length-3
-same-length-3 c = search needs
-
-same-length-4 : tie.Need-same-length-4
-same-length-4 c = search needs
-
 returns : tie.Need-returns
 returns c =
     let a = c .before .before .before .before .before .before .before .before .before .before .before .before .before .before .before .before .before .before .before .before .before .before .before .before .before .before .before in
     let n = c .before .before .before .before .before .before .before .before .before .before .before .before .before .before .before .count .given in
     let q = c .before .before .before .before .before .before .before .before .before .before .before .before .before .before .before .before .before .before .before .correct-blocks in
     blocks-told (a .args .m) (a .pre .0) _ (c .before .before .before .before .before .before .before .before .before .before .before .before .before .before .before .before .before .before .before .before .before .before .block-row .ensures) _ _ _ (q .result) (n .0 .0) _ _ _ _ _ (n .1) (q .ensures .0) (q .ensures .1) (c .before .before .before .before .before .before .before .before .tell-segments .ensures)
-
-same-length-5 : tie.Need-same-length-5
-same-length-5 c = search needs
 
 returns-2 : tie.Need-returns-2
 returns-2 c =
@@ -73,18 +40,18 @@ pub tell-stream-spec : {M : Type 1} → statement M
 tell-stream-spec =
     tie.close
     (tie.spec
-    block-row-requires
-    slice-aggregate-correct-blocks
+    (λ c κs. search needs)
+    (λ c. search needs)
     correct-blocks-requires
-    enum-known-count
-    slice-aggregate-tell-segments
+    (λ c. search needs)
+    (λ c. search needs)
     tell-segments-requires
-    enum-told
-    refused-requires
-    same-length
-    same-length-2
-    same-length-3
-    same-length-4
+    (λ c. search needs)
+    (λ c κs. search needs)
+    (λ c. search needs)
+    (λ c. search needs)
+    (λ c. search needs)
+    (λ c. search needs)
     returns
-    same-length-5
+    (λ c. search needs)
     returns-2)

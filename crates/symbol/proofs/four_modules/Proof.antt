@@ -8,12 +8,6 @@ use borrow.Author.Needs.{needs}
 use Rattle.symbol.proofs.four_modules.Statement.{statement}
 use Rattle.symbol.proofs.four_modules.Tie as tie
 
-wide32-requires : tie.Need-wide32-requires
-wide32-requires c κs = search needs
-
-mul-result : tie.Need-mul-result
-mul-result c = search needs
-
 add-result : tie.Need-add-result
 add-result c =
     omega (arith, apart-lt (c .wide32 .result * 134480385 / 8))
@@ -22,4 +16,4 @@ returns : tie.Need-returns
 returns c = ap fourModules (c .wide32 .ensures)
 
 pub four-modules-spec : {M : Type 1} → statement M
-four-modules-spec = tie.close (tie.spec wide32-requires mul-result add-result returns)
+four-modules-spec = tie.close (tie.spec (λ c κs. search needs) (λ c. search needs) add-result returns)

@@ -7,27 +7,12 @@ use borrow.Author.Needs.{needs}
 use Rattle.writer.proofs.place_stream.Statement.{statement}
 use Rattle.writer.proofs.place_stream.Tie as tie
 
-total-codewords-requires : tie.Need-total-codewords-requires
-total-codewords-requires c κs = search needs
-
-side-requires : tie.Need-side-requires
-side-requires c κs = search needs
-
-from-stream-requires : tie.Need-from-stream-requires
-from-stream-requires c κs = search needs
-
 place-codewords-requires : tie.Need-place-codewords-requires
 place-codewords-requires c κs =
     let o = c .before .before .before .before .before .before .before .before .before .before .before .before .pre in
     let e = c .before .before .before .before .before .before .side .ensures in
     let t = c .before .before .before .before .before .before .before .total-codewords .ensures in
     ((omega (arith, o .1, o .0 .long), omega (arith, e), omega (arith, e, o .0 .ranged .high), o .1 ∙ sym (ap (λ (n : ℕ). n * n) e)), (omega (arith, t .0, o .3, c .before .before .before .before .from-stream .kept), omega (arith, t .1)))
-
-same-length : tie.Need-same-length
-same-length c = search needs
-
-same-length-2 : tie.Need-same-length-2
-same-length-2 c = search needs
 
 returns : tie.Need-returns
 returns c =
@@ -40,10 +25,10 @@ pub place-stream-spec : {M : Type 1} → statement M
 place-stream-spec =
     tie.close
     (tie.spec
-    total-codewords-requires
-    side-requires
-    from-stream-requires
+    (λ c κs. search needs)
+    (λ c κs. search needs)
+    (λ c κs. search needs)
     place-codewords-requires
-    same-length
-    same-length-2
+    (λ c. search needs)
+    (λ c. search needs)
     returns)

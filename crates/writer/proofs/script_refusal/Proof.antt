@@ -6,24 +6,6 @@ use borrow.Author.Needs.{needs}
 use Rattle.writer.proofs.script_refusal.Statement.{statement}
 use Rattle.writer.proofs.script_refusal.Tie as tie
 
-check-script-requires : tie.Need-check-script-requires
-check-script-requires c κs = search needs
-
-enum-known-n : tie.Need-enum-known-n
-enum-known-n c = search needs
-
-bits-refusal-requires : tie.Need-bits-refusal-requires
-bits-refusal-requires c κs = search needs
-
-enum-told : tie.Need-enum-told
-enum-told c = search needs
-
-enum-told-2 : tie.Need-enum-told-2
-enum-told-2 c = search needs
-
-enum-told-3 : tie.Need-enum-told-3
-enum-told-3 c = search needs
-
 returns : tie.Need-returns
 returns c =
     script-bits _ _ _ _ _ _ _ (c .before .before .n .given .1) (c .before .before .before .before .check-script .ensures) (c .bits-refusal .ensures)
@@ -44,12 +26,12 @@ pub script-refusal-spec : {M : Type 1} → statement M
 script-refusal-spec =
     tie.close
     (tie.spec
-    check-script-requires
-    enum-known-n
-    bits-refusal-requires
-    enum-told
-    enum-told-2
-    enum-told-3
+    (λ c κs. search needs)
+    (λ c. search needs)
+    (λ c κs. search needs)
+    (λ c. search needs)
+    (λ c. search needs)
+    (λ c. search needs)
     returns
     returns-2
     returns-3

@@ -10,9 +10,6 @@ use borrow.Author.Needs.{needs}
 use Rattle.writer.proofs.write_mark_in.Statement.{statement}
 use Rattle.writer.proofs.write_mark_in.Tie as tie
 
-side-requires : tie.Need-side-requires
-side-requires c κs = search needs
-
 data-length-requires : tie.Need-data-length-requires
 data-length-requires c κs =
     c .before .before .before .before .before .before .before .before .pre .1 .0 .nine
@@ -49,15 +46,6 @@ write-info-requires c κs =
     let e = c .before .before .before .before .before .before .before .before .before .before .before .before .before .before .before .before .before .side .ensures in
     (omega (arith, e), omega (arith, e, o .pre .0 .0 .ranged .high), omega (arith, c .before .before .before .before .before .place-stream .kept, ap (λ (n : ℕ). n * n) e, size _ _ _ (o .args .script .now) (o .args .payload .now) (o .args .square .now) (o .pre .0 .1)))
 
-same-length : tie.Need-same-length
-same-length c = search needs
-
-same-length-2 : tie.Need-same-length-2
-same-length-2 c = search needs
-
-same-length-3 : tie.Need-same-length-3
-same-length-3 c = search needs
-
 returns : tie.Need-returns
 returns c =
     let o = c .before .before .before .before .before .before .before .before .before .before .before .before .before .before .before .before .before .before .before .before .before .before .before .before .before .before .before .before in
@@ -70,14 +58,14 @@ pub write-mark-in-spec : {M : Type 1} → statement M
 write-mark-in-spec =
     tie.close
     (tie.spec
-    side-requires
+    (λ c κs. search needs)
     data-length-requires
     slice-relend-prefix-encode-stream
     slice-aggregate-encode-stream
     encode-stream-requires
     place-stream-requires
     write-info-requires
-    same-length
-    same-length-2
-    same-length-3
+    (λ c. search needs)
+    (λ c. search needs)
+    (λ c. search needs)
     returns)
