@@ -51,31 +51,22 @@ row-holds v l lo hi le =
     let q : (0 + (4 * (v - 1) + l)) / 4 ≡ v - 1 = omega arith in
     subst (λ (m : ℕ). T (rowHolds (take 9 (drop (9 * (4 * (v - 1) + l)) blocks)) (getD totals m 0))) q (from test 336 0 blocks passes (4 * (v - 1) + l) h)
 
--- totals are small: a test that antt computes
-totals-small : T (upTo (λ n. leb (getD totals n 0) 3886) 84)
-unfolding totals
-totals-small = tt
+-- totals are small, those of the first versions still more so: tests that antt computes
+total-below : (n b : ℕ) → T (upTo (λ k. leb (getD totals k 0) b) n) → (v : ℕ) → 1 ≤ v → v ≤ n → totalOf v ≤ b
+unfolding totalOf
+total-below n b t v lo hi = leb→le _ _ (every (λ k. leb (getD totals k 0) b) n t (v - 1) (omega arith))
 
 pub total-small : (v : ℕ) → 1 ≤ v → v ≤ 84 → totalOf v ≤ 3886
-unfolding totalOf
-total-small v lo hi = leb→le _ _ (every (λ n. leb (getD totals n 0) 3886) 84 totals-small (v - 1) (omega arith))
-
--- those of the first versions still more so
-totals-ten : T (upTo (λ n. leb (getD totals n 0) 155) 10)
 unfolding totals
-totals-ten = tt
+total-small = total-below 84 3886 tt
 
 pub total-ten : (v : ℕ) → 1 ≤ v → v ≤ 10 → totalOf v ≤ 155
-unfolding totalOf
-total-ten v lo hi = leb→le _ _ (every (λ n. leb (getD totals n 0) 155) 10 totals-ten (v - 1) (omega arith))
-
-totals-open : T (upTo (λ n. leb (getD totals n 0) 50) 3)
 unfolding totals
-totals-open = tt
+total-ten = total-below 10 155 tt
 
 pub total-open : (v : ℕ) → 1 ≤ v → v < 4 → totalOf v ≤ 50
-unfolding totalOf
-total-open v lo hi = leb→le _ _ (every (λ n. leb (getD totals n 0) 50) 3 totals-open (v - 1) (omega arith))
+unfolding totals
+total-open v lo hi = total-below 3 50 tt v lo (omega arith)
 
 -- a number of a row, in the table
 row-number : (v level n : ℕ) → n < 9 → getD blocks ((4 * (v - 1) + level) * 9 + n) 0 ≡ getD (rowOf v level) n 0

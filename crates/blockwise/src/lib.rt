@@ -87,7 +87,7 @@ fn correct_many(stream: &mut [u8], from: usize, row: &[u8], k: usize) -> Blocks
     Blocks::Corrected(n)
 }
 
-// The only block of batch k of the row, with no table.
+// The only block of batch k of the row, which is short.
 fn correct_one(stream: &mut [u8], from: usize, row: &[u8], k: usize) -> Blocks
     requires { ⌜ (length (now row) ≡ 9) × (k < 3) × T (batchHolds (getD (now row) (3 * k) 0) (getD (now row) (3 * k + 1) 0) (getD (now row) (3 * k + 2) 0)) × (from + totalSize (batchAt (now row) k) ≤ length (now stream)) × (getD (now row) (3 * k) 0 ≡ 1) ⌝ }
     ensures { λ r. ⌜ Corrects (batchAt (now (row .entry)) k) from (now (stream .entry)) (now (stream .exit)) r ⌝ }
@@ -273,7 +273,7 @@ fn write_short_block(block: &mut [u8], info: &[u8])
     parity::write_short(block, n);
 }
 
-// The only block of batch k of the row, with no table.
+// The only block of batch k of the row, which is short.
 fn write_one(stream: &mut [u8], data: &[u8], row: &[u8], k: usize)
     requires { ⌜ (length (now row) ≡ 9) × (k < 3) × T (rowHolds (now row) (rowLength (now row))) × (rowLength (now row) ≤ length (now stream)) × (totalData (shapes (now row)) ≤ length (now «data»)) × (getD (now row) (3 * k) 0 ≡ 1) ⌝ }
     ensures { λ _. ⌜ Writes (batchAt (now (row .entry)) k) (totalSize (batches k (now (row .entry)))) (drop (totalData (batches k (now (row .entry)))) (now («data» .entry))) (now (stream .entry)) (now (stream .exit)) ⌝ }

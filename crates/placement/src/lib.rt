@@ -1,7 +1,7 @@
 // Document 01, "Codewords": codewords out of the data modules of a square and into them (000: first half of `decode_data`).
 // A square is walked row by row. Where eight data modules stand together they are taken at once, as the bytes of one number.
 ghost use mathlib.Core.Path.{_≡_};
-ghost use mathlib.Core.List.{List, _++_};
+ghost use mathlib.Core.List.{_++_};
 ghost use Prim.Native.Nat.{ℕ, _+_, _-_, _*_, _/_, _%_, _^_, _≤_, _<_};
 ghost use lib.ListN.{length, getD, take, drop};
 ghost use Rattle.bits.specs.Bits.{bitsOf, lowBits, value};

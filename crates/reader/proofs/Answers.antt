@@ -1,13 +1,11 @@
 -- What is told of an answer, and of an outcome. Assumes nothing.
 use mathlib.Core.Path.{_≡_, refl, sym, ap, subst, _∙_}
-use mathlib.Core.Logic.{_⊎_, inl, inr}
+use mathlib.Core.Logic.{inl, inr}
 use mathlib.Core.Bool.{Bool, true, false, cond}
 use mathlib.Core.List.{List, _++_}
 use Prim.Native.Nat.{ℕ, _+_, _-_, _≤_, _<_}
-use native.Mathlib.Decide.{ℕ-discrete, decLt}
-use borrow.Author.Tests.{eq-eqb, ne-eqb, lt-ltb, le-ltb}
 use lib.Dec.{ltb, eqb}
-use lib.ListN.{length, take, drop, replicate, length-append, length-drop, length-replicate}
+use lib.ListN.{length, take, drop, length-append, length-drop}
 use lib.Seq.{take-at}
 use native.Mathlib.Omega.{arith}
 use Rattle.segments.specs.declared.Answer.{Answer}
@@ -17,7 +15,7 @@ use Rattle.segments.specs.Segments.{Result, cut, lacking, got, segmentsOf}
 use Rattle.segments.specs.FromData.{Outcome, refusalOf, payloadLengthOf, scriptLengthOf, told, refused, given, givenOr7, fromData}
 use Rattle.segments.proofs.Theorems.{room-enough}
 use Rattle.reader.specs.declared.Told.{Told}
-use Rattle.reader.specs.Inner.{Refuses, Answers, Tells, Small}
+use Rattle.reader.specs.Inner.{Refuses, Answers, Tells}
 
 pub answers-read : (a : Answer) (p s n : ℕ) (t : Told) → a ≡ Read p s → t .number ≡ 0 → t .count ≡ n → t .payload ≡ p → t .script ≡ s → Answers a n t
 answers-read a p s n t e f g h k = subst (λ (b : Answer). Answers b n t) (sym e) (record { number = f; count = inr g; zero = λ z. g; payload = h; script = k })

@@ -1,15 +1,13 @@
 // Document 01, "Operations": Read a square, and Read with known version, level, mask (000: `decode_matrix`, `decode_data`).
 ghost use mathlib.Core.Path.{_≡_};
-ghost use mathlib.Core.List.{[], _∷_, _++_};
+ghost use mathlib.Core.List.{[], _∷_};
 ghost use Prim.Native.Nat.{ℕ, _*_, _%_, _<_, _≤_};
 ghost use lib.Dec.{eqb};
-ghost use lib.ListN.{length, getD, drop};
+ghost use lib.ListN.{length, getD};
 ghost use Rattle.symbol.specs.Version.{sideOf};
 ghost use Rattle.symbol.specs.Layout.{layoutOf};
 ghost use Rattle.blocks.specs.Blocks.{totalOf, dataModules, rowLength, shapes, totalData, cut, dataParts};
 ghost use Rattle.segments.specs.FromData.{fromData};
-ghost use Rattle.codewords.specs.Codewords.{maskBit, streamIn, dataBits};
-ghost use Rattle.placement.specs.Walk.{Legible};
 ghost use Rattle.squares.specs.Read.{firstRefusal, unless, areModules, bodyOf, readingOf, readOf, readKnownOf};
 ghost use Rattle.reader.specs.Inner.{Greater, Greatest, receiptIn, Small, Refuses, Answers, Tells, Fitting, Ranged, Nearest, Drawn, Streamed, Body, readingIn, bodyOr1, Roomy};
 ghost use Rattle.squares.specs.Receipt.{receiptOf, refusalReceipt};
