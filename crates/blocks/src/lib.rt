@@ -1,13 +1,14 @@
 // Document 01, "Blocks": the block table, and the data modules of a layout (000: `TOTAL_CODEWORDS`, `BLOCKS`).
 ghost use mathlib.Core.Path.{_≡_};
 ghost use mathlib.Core.List.{[], _∷_};
-ghost use Prim.Native.Nat.{_+_, _<_, _≤_};
-ghost use lib.ListN.{length, take};
+ghost use Prim.Native.Nat.{ℕ, _+_, _<_, _≤_};
+ghost use lib.ListN.{length, getD, take};
 ghost use Rattle.blocks.specs.Blocks.{totalOf, rowOf, dataModules};
 
 pub mod table;
 
 use table::BLOCKS;
+use table::FIRST_BLOCKS;
 use table::TOTAL_CODEWORDS;
 
 // A version's codewords in all.
@@ -18,13 +19,11 @@ pub fn total_codewords(version: usize) -> usize
     TOTAL_CODEWORDS[version - 1] as usize
 }
 
-// The row of a version and level: three batches of count, data, parity. The table is read once into a local.
-pub fn block_row(version: usize, level: usize) -> [u8; 9]
-    requires { ⌜ (1 ≤ version) × (version ≤ 84) × (level ≤ 3) ⌝ }
-    ensures { λ r. ⌜ r ≡ rowOf version level ⌝ }
+// Nine numbers of a table, from one on.
+fn nine(table: &[u8], at: usize) -> [u8; 9]
+    requires { ⌜ (at ≤ 3015) × (at + 9 ≤ length (now table)) ⌝ }
+    ensures { λ r. ⌜ (length r ≡ 9) × ((k : ℕ) → k < 9 → getD r k 0 ≡ getD (now (table .entry)) (at + k) 0) ⌝ }
 {
-    let table = BLOCKS;
-    let at = (4 * (version - 1) + level) * 9;
     let mut row = [0u8; 9];
     let mut n: usize = 0;
     while n < 9 {
@@ -32,6 +31,21 @@ pub fn block_row(version: usize, level: usize) -> [u8; 9]
         n += 1;
     }
     row
+}
+
+// The row of a version and level: three batches of count, data, parity. The table that is read is copied whole each time, so that a small
+// mark has a small one.
+pub fn block_row(version: usize, level: usize) -> [u8; 9]
+    requires { ⌜ (1 ≤ version) × (version ≤ 84) × (level ≤ 3) ⌝ }
+    ensures { λ r. ⌜ r ≡ rowOf version level ⌝ }
+{
+    let at = (4 * (version - 1) + level) * 9;
+    if version <= 10 {
+        let table = FIRST_BLOCKS;
+        return nine(&table, at);
+    }
+    let table = BLOCKS;
+    nine(&table, at)
 }
 
 fn data_module(kind: u8) -> u8

@@ -1,2 +1,3 @@
 pub mod Three
 pub mod Rows
+pub mod OpenRows

@@ -5,3 +5,4 @@ pub mod Puts
 pub mod Squares
 pub mod Open
 pub mod Runs
+pub mod Narrow

@@ -49,14 +49,14 @@ pub row-mask : (mask i s c : ℕ) → c < s → maskAt mask (i + 1) (c + 1) ≡ 
 unfolding maskBit
 row-mask mask i s c h = sym (ap₂ (λ (x y : ℕ). maskAt mask (x + 1) (y + 1)) (digits-div i h) (digits-mod i h))
 
-pub masked : {mask : ℕ} {row : List ℕ} (sq : List ℕ) (at side : ℕ) → ((k : ℕ) → getD sq k 0 < 2) → Row mask row → side ≤ 189 → at + side ≤ length sq → Masked (part at (at + side) sq) row
-masked {mask} {row} sq at side g r s h = record { side = omega (arith, part-length at side sq h); room = r .size; modules = part-small at (at + side) sq g; masks = r .small }
+pub masked : {row : List ℕ} (sq : List ℕ) (at side : ℕ) → ((k : ℕ) → getD sq k 0 < 2) → ((k : ℕ) → getD row k 0 < 2) → side ≤ 189 → at + side ≤ length sq → Masked (part at (at + side) sq) row
+masked sq at side g r s h = record { side = omega (arith, part-length at side sq h); modules = part-small at (at + side) sq g; masks = r }
 
 pub aligned : {mask : ℕ} {ks sq row : List ℕ} (at side : ℕ) → Legible ks sq → Row mask row → side ≤ 189 → at + side ≤ length sq → Aligned (part at (at + side) ks) (part at (at + side) sq) row
 aligned {mask} {ks} {sq} {row} at side g r s h =
     let k : length (part at (at + side) ks) ≡ side = part-length at side ks (omega (arith, g .kinds)) in
     let l : length (part at (at + side) sq) ≡ side = part-length at side sq h in
-    record { masked = masked sq at side (g .bits) r s h; size = l ∙ sym k }
+    record { masked = masked sq at side (g .bits) (r .small) s h; size = l ∙ sym k; room = r .size }
 
 -- The data bits of a square are those of its rows.
 

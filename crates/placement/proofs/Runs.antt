@@ -138,14 +138,14 @@ module _ {k x left : ℕ} {out : List ℕ} {r s : Run} (some : 0 < left) (few : 
     go = λ ks sq row u n. (
       omega arith,
       omega (arith, n .inside),
-      goes-push (n .aligned) w (g / 2 ^ (8 - w)) (omega (arith, n .inside)) (λ j h. sym (byte-is ks (r .column) (n .bytes) (n .kinds) j (omega arith)) ∙ lead-byte l j (omega arith)) (first-are n e w b few) f q,
+      goes-push (n .aligned .masked) (n .aligned .size) w (g / 2 ^ (8 - w)) (omega (arith, n .inside)) (λ j h. sym (byte-is ks (r .column) (n .bytes) (n .kinds) j (omega arith)) ∙ lead-byte l j (omega arith)) (first-are n e w b few) f q,
     );
   }
 
   pub moves-skip : {w : ℕ} → Leads k 0 → NoData k w → s .column ≡ r .column + w → s .n ≡ r .n → s .value ≡ r .value → s .bits ≡ r .bits → Moves k x left out out r s
   moves-skip {w} l u e f g h = record {
     go = λ ks sq row b n.
-        let q = subst (Skipped ks (r .column)) (sym e) (passed ks (r .column) (n .bytes) (n .kinds) (omega (arith, n .inside)) (λ z. omega (arith, l .first z)) u) in (omega (arith, u .least), q .most, goes-skip (n .aligned) q f g h);
+        let q = subst (Skipped ks (r .column)) (sym e) (passed ks (r .column) (n .bytes) (n .kinds) (omega (arith, n .inside)) (λ z. omega (arith, l .first z)) u) in (omega (arith, u .least), q .most, goes-skip (n .aligned .masked) (n .aligned .size) q f g h);
   }
 
 -- Eight bytes of a list that end with it, shifted down.

@@ -17,7 +17,7 @@ use Rattle.bits.specs.Bits.{lowBits, value, firstWords}
 use Rattle.bits.proofs.Words.{length-low, low-back}
 use Rattle.bits.proofs.Bytes.{value-add, value-small, low-value}
 use Rattle.codewords.specs.Codewords.{codewordsOf, dataBits}
-use Rattle.placement.specs.Walk.{bitsFrom, byteOf, eightOf, run, behind, Gathered, Pending, Words, Walk, Stored, Pushed, Masked, Aligned, unmaskedAt, Skipped, rowBits, Goes, Spans}
+use Rattle.placement.specs.Walk.{bitsFrom, byteOf, eightOf, run, behind, Gathered, Pending, Words, Walk, Stored, Pushed, Masked, unmaskedAt, Skipped, rowBits, Goes, Spans}
 use Rattle.placement.specs.declared.Run.{Run}
 use Rattle.placement.proofs.Eights.{xor-eight}
 
@@ -267,15 +267,15 @@ module _ {sq row : List ℕ} (a : Masked sq row) where
       ex ∙ ap (λ (y : ℕ). y % 2 ^ w) (eg ∙ ap (λ (j : ℕ). value 0 (run j (unmaskedAt sq row at))) n) ∙ last-value (unmaskedAt sq row at) (bits-small at) (8 - w) w
       ∙ ap (value 0) (run-ext w (λ k. unmaskedAt sq row at (8 - w + k)) (unmaskedAt sq row c) (λ k. ap (λ (j : ℕ). bitXor (getD sq j 0) (getD row j 0)) (i k)))
 
-module _ {ks sq row : List ℕ} (a : Aligned ks sq row) where
+module _ {ks sq row : List ℕ} (a : Masked sq row) (size : length sq ≡ length ks) where
   -- n data modules pushed
   pub goes-push : {out out′ : List ℕ} {r s : Run} (n x : ℕ) → r .column + n ≤ length ks → ((k : ℕ) → k < n → getD ks (r .column + k) 0 ≡ 0)
       → x ≡ value 0 (run n (unmaskedAt sq row (r .column))) → s .column ≡ r .column + n → Pushed n x out out′ r s → Goes ks sq row out out′ r s
   goes-push {out} {out′} {r} {s} n x h z e f q = record {
     go = λ total all rest k.
         let b : rowBits ks sq row (r .column) ≡ lowBits n x ++ rowBits ks sq row (s .column) =
-        from-hits (λ k. getD row k 0) ks sq (omega (arith, a .size)) n (r .column) (omega (arith, a .size)) z
-        ∙ ap₂ _++_ (run-low n x (unmaskedAt sq row (r .column)) (bits-small (a .masked) (r .column)) (sym e)) (ap (rowBits ks sq row) (sym f)) in
+        from-hits (λ k. getD row k 0) ks sq (omega (arith, size)) n (r .column) (omega (arith, size)) z
+        ∙ ap₂ _++_ (run-low n x (unmaskedAt sq row (r .column)) (bits-small a (r .column)) (sym e)) (ap (rowBits ks sq row) (sym f)) in
         q .go total all (rowBits ks sq row (s .column) ++ rest)
         (subst (λ (l : List ℕ). Walk total all out l r) (ap (λ (l : List ℕ). l ++ rest) b ∙ append-assoc (lowBits n x) (rowBits ks sq row (s .column)) rest) k);
   }
@@ -293,7 +293,7 @@ module _ {ks sq row : List ℕ} (a : Aligned ks sq row) where
       passed : rowBits ks sq row (r .column) ≡ rowBits ks sq row (s .column)
       passed =
           let e : r .column + (s .column - r .column) ≡ s .column = omega (arith, q .least) in
-          from-misses (λ k. getD row k 0) ks sq (omega (arith, a .size)) (s .column - r .column) (r .column) (omega (arith, a .size, q .least, q .most)) (λ k l h. q .none k l (omega arith)) ∙ ap (rowBits ks sq row) e
+          from-misses (λ k. getD row k 0) ks sq (omega (arith, size)) (s .column - r .column) (r .column) (omega (arith, size, q .least, q .most)) (λ k l h. q .none k l (omega arith)) ∙ ap (rowBits ks sq row) e
 
 pub goes-none : {ks sq row out : List ℕ} {r : Run} → Goes ks sq row out out r r
 goes-none = record { go = λ total all rest k. k }
@@ -311,7 +311,7 @@ spans-on lo hi f g = record { go = λ ks e z. goes-on (f .go ks e (λ k p q. z k
 
 pub spans-push : {sq row out out′ : List ℕ} {r s : Run} → Masked sq row → (n x : ℕ) → r .column + n ≤ length sq → x ≡ value 0 (run n (unmaskedAt sq row (r .column))) → s .column ≡ r .column + n
     → Pushed n x out out′ r s → Spans sq row out out′ r s
-spans-push {r = r} a n x h e f q = record { go = λ ks l z. goes-push (record { masked = a; size = l }) n x (omega arith) (λ k i. z (r .column + k) (omega arith) (omega arith)) e f q }
+spans-push {r = r} a n x h e f q = record { go = λ ks l z. goes-push a l n x (omega arith) (λ k i. z (r .column + k) (omega arith) (omega arith)) e f q }
 
 -- The divisor 2 ^ w as the code has it.
 pub two-power : (w : ℕ) → w ≤ 8 → 1 * 2 ^ w % 18446744073709551616 ≡ 2 ^ w

@@ -72,17 +72,17 @@ pub record Stored (n x : ℕ) (out out′ : List ℕ) (r : ℕ) : Type 0 where
 pub record Pushed (w x : ℕ) (out out′ : List ℕ) (r s : Run) : Type 0 where
   pub go : (total : ℕ) (all rest : List ℕ) → Walk total all out (lowBits w x ++ rest) r → Walk total all out′ rest s
 
--- a row of a square, and its mask in a buffer
+-- a row of a square, and its mask
 pub record Masked (sq row : List ℕ) : Type 0 where
   pub side : length sq ≤ 192
-  pub room : length row ≡ 192
   pub modules : (k : ℕ) → getD sq k 0 < 2
   pub masks : (k : ℕ) → getD row k 0 < 2
 
--- the same with the kinds of the row
+-- the same with the kinds of the row, and the mask in a buffer
 pub record Aligned (ks sq row : List ℕ) : Type 0 where
   pub masked : Masked sq row
   pub size : length sq ≡ length ks
+  pub room : length row ≡ 192
 
 -- the bits of a row from a column on, as if all its modules were data
 abbrev pub unmaskedAt : List ℕ → List ℕ → ℕ → ℕ → ℕ

@@ -81,19 +81,12 @@ fn push(out: &mut [u8], r: Run, x: usize, w: usize) -> Run
     }
 }
 
-// The eight bits of a row from a column on, as bytes, and as the number that they say.
+// The eight bits of a row from a column on, as bytes.
 fn modules(square: &[u8], row: &[u8], at: usize) -> usize
-    requires { ⌜ Masked (now square) (now row) × (at + 8 ≤ length (now square)) ⌝ }
+    requires { ⌜ Masked (now square) (now row) × (length (now row) ≡ 192) × (at + 8 ≤ length (now square)) ⌝ }
     ensures { λ r. ⌜ r ≡ eightOf (unmaskedAt (now (square .entry)) (now (row .entry)) at) ⌝ }
 {
     eight(square, at) ^ eight(row, at)
-}
-
-fn unmasked(square: &[u8], row: &[u8], at: usize) -> usize
-    requires { ⌜ Masked (now square) (now row) × (at + 8 ≤ length (now square)) ⌝ }
-    ensures { λ r. ⌜ (r ≡ value 0 (run 8 (unmaskedAt (now (square .entry)) (now (row .entry)) at))) × (r < 256) ⌝ }
-{
-    gather(modules(square, row, at))
 }
 
 fn least(a: usize, b: usize) -> usize
@@ -245,17 +238,26 @@ fn lowest(bits: usize, w: usize) -> usize
     bits % (1 << w)
 }
 
-// All modules from a column on and before another. Those left behind the groups of eight are the last of the eight that end there.
-fn read_span(out: &mut [u8], square: &[u8], row: &[u8], to: usize, first: Run) -> Run
-    requires { ⌜ Masked (now square) (now row) × Pending first × (first .column ≤ to) × (8 ≤ to) × (to ≤ length (now square)) ⌝ }
-    ensures { λ s. ⌜ Pending s × (s .column ≡ to) × Spans (now (square .entry)) (now (row .entry)) (now (out .entry)) (now (out .exit)) first s ⌝ }
+// The eight bits of a row of at most 27 modules from a column on, as the number that they say; the mask of the row is a number of 27 bits.
+fn unmasked(square: &[u8], mask: usize, at: usize) -> usize
+    requires { ⌜ Masked (now square) (lowBits 27 mask) × (at + 8 ≤ length (now square)) × (length (now square) ≤ 27) ⌝ }
+    ensures { λ r. ⌜ (r ≡ value 0 (run 8 (unmaskedAt (now (square .entry)) (lowBits 27 mask) at))) × (r < 256) ⌝ }
+{
+    gather(eight(square, at)) ^ ((mask >> (19 - at)) % 256)
+}
+
+// All modules of such a row from a column on and before another. Those left behind the groups of eight are the last of the eight that end
+// there.
+fn read_span(out: &mut [u8], square: &[u8], mask: usize, to: usize, first: Run) -> Run
+    requires { ⌜ Masked (now square) (lowBits 27 mask) × Pending first × (first .column ≤ to) × (8 ≤ to) × (to ≤ length (now square)) × (length (now square) ≤ 27) ⌝ }
+    ensures { λ s. ⌜ Pending s × (s .column ≡ to) × Spans (now (square .entry)) (lowBits 27 mask) (now (out .entry)) (now (out .exit)) first s ⌝ }
 {
     let mut r = first;
     while r.column + 8 <= to {
-        r = push(out, r, unmasked(square, row, r.column), 8);
+        r = push(out, r, unmasked(square, mask, r.column), 8);
     }
     let w = to - r.column;
-    push(out, r, lowest(unmasked(square, row, to - 8), w), w)
+    push(out, r, lowest(unmasked(square, mask, to - 8), w), w)
 }
 
 // How many modules at either end of a row are no data, where there are no alignment patterns.
@@ -274,14 +276,11 @@ fn margin(side: usize, row: usize) -> usize
 
 // All rows of a square with no alignment patterns: each has its data modules side by side, so that no kinds are looked at.
 fn read_open_rows(out: &mut [u8], square: &[u8], version: usize, mask: usize)
-    requires { ⌜ (1 ≤ version) × (version ≤ 3) × (length (now square) ≡ sideOf version * sideOf version) × ((i : ℕ) → getD (now square) i 0 < 2) × (8 * length (now out) ≤ length (dataBits (maskBit (sideOf version) mask) 0 (layoutOf version) (now square))) ⌝ }
+    requires { ⌜ (1 ≤ version) × (version ≤ 3) × (mask ≤ 3) × (length (now square) ≡ sideOf version * sideOf version) × ((i : ℕ) → getD (now square) i 0 < 2) × (8 * length (now out) ≤ length (dataBits (maskBit (sideOf version) mask) 0 (layoutOf version) (now square))) ⌝ }
     ensures { λ _. ⌜ now (out .exit) ≡ codewordsOf (length (now (out .entry))) (dataBits (maskBit (sideOf version) mask) 0 (layoutOf version) (now (square .entry))) ⌝ }
 {
     let side = 2 * version + 21;
-    let mut table = [0u16; 576];
-    let mut row = [0u8; 192];
-    let columns = (side + 7) / 8 * 8;
-    masks::columns(&mut table, columns, mask);
+    let rows = masks::open_rows();
     let mut r = Run {
         column: 0,
         n: 0,
@@ -291,8 +290,6 @@ fn read_open_rows(out: &mut [u8], square: &[u8], version: usize, mask: usize)
     let mut i = 0;
     while i < side {
         let m = margin(side, i);
-        let to = side - m;
-        masks::mask_row(&mut row, &table, mask, i, m / 8 * 8, (to + 7) / 8 * 8);
         let at = i * side;
         let end = at + side;
         let first = Run {
@@ -301,14 +298,15 @@ fn read_open_rows(out: &mut [u8], square: &[u8], version: usize, mask: usize)
             value: r.value,
             bits: r.bits,
         };
-        r = read_span(out, &square[at..end], &row, to, first);
+        let row = rows[27 * mask + i] as usize;
+        r = read_span(out, &square[at..end], row, side - m, first);
         i += 1;
     }
 }
 
 // The same as `read_codewords` for the versions 1 to 3, which have no alignment patterns: no layout is drawn for it.
 pub fn read_open(out: &mut [u8], total: usize, square: &[u8], version: usize, mask: usize)
-    requires { ⌜ (1 ≤ version) × (version ≤ 3) × (length (now square) ≡ sideOf version * sideOf version) × ((i : ℕ) → getD (now square) i 0 < 2) ⌝ }
+    requires { ⌜ (1 ≤ version) × (version ≤ 3) × (mask ≤ 3) × (length (now square) ≡ sideOf version * sideOf version) × ((i : ℕ) → getD (now square) i 0 < 2) ⌝ }
     requires { ⌜ (total ≤ length (now out)) × (8 * total ≤ length (dataBits (maskBit (sideOf version) mask) 0 (layoutOf version) (now square))) ⌝ }
     ensures { λ _. ⌜ now (out .exit) ≡ codewordsOf total (dataBits (maskBit (sideOf version) mask) 0 (layoutOf version) (now (square .entry))) ++ drop total (now (out .entry)) ⌝ }
 {

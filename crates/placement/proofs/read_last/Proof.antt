@@ -24,7 +24,7 @@ sub-modules : tie.Need-sub-modules Inv-loop μ-loop
 sub-modules c = c .before .before .before .before .before .pre .3
 
 modules-requires : tie.Need-modules-requires Inv-loop μ-loop
-modules-requires c κs = let start = c .before .before .before .before .before in (start .pre .0 .masked, omega (arith, start .pre .3, start .pre .0 .size))
+modules-requires c κs = let start = c .before .before .before .before .before in (start .pre .0 .masked, start .pre .0 .room, omega (arith, start .pre .3, start .pre .0 .size))
 
 loop-holds : tie.Need-loop-holds Inv-loop μ-loop
 loop-holds c = let start = c .before .before .before .before .before .before in (start .pre .1, omega arith, start .pre .2, goes-none, refl)

@@ -1,10 +1,11 @@
-use Rattle.placement.proofs.Walk.{unmasked-is}
+use Rattle.placement.proofs.Narrow.{narrow-is}
+use native.Mathlib.Omega.{arith}
 use borrow.Author.Needs.{needs}
 use Rattle.placement.proofs.unmasked.Statement.{statement}
 use Rattle.placement.proofs.unmasked.Tie as tie
 
 returns : tie.Need-returns
-returns c = let start = c .before .before .before .before in (unmasked-is (start .pre .0) (start .args .at) (c .before .modules .ensures) (c .gather .ensures), c .gather .ensures .small)
+returns c = let start = c .before .before .before in narrow-is (start .args .mask) (start .args .at) (start .pre .0) (omega (arith, start .pre .1, start .pre .2)) (c .before .eight .ensures) (c .gather .ensures)
 
 pub unmasked-spec : {M : Type 1} → statement M
 unmasked-spec =
@@ -12,4 +13,6 @@ unmasked-spec =
     (tie.spec
     (λ c κs. search needs)
     (λ c κs. search needs)
+    (λ c. search needs)
+    (λ c. search needs)
     returns)

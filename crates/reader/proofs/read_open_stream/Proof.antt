@@ -18,7 +18,7 @@ read-open-requires c κs =
     let a = c .before .before .before .before in
     let f = a .pre .0 in
     let total = c .before .total-codewords in
-    ((f .low, omega (arith, a .pre .1), f .size, f .bits), (omega (arith, total .ensures .0, total-open _ (f .low) (a .pre .1)), enough-bits (a .args .m) _ _ f (open-drawn _) _ (total .result) (total .ensures .0) (open-enough _ (f .low) (omega (arith, a .pre .1)))))
+    ((f .low, omega (arith, a .pre .1), f .mask, f .size, f .bits), (omega (arith, total .ensures .0, total-open _ (f .low) (a .pre .1)), enough-bits (a .args .m) _ _ f (open-drawn _) _ (total .result) (total .ensures .0) (open-enough _ (f .low) (omega (arith, a .pre .1)))))
 
 to-stream-requires : tie.Need-to-stream-requires
 to-stream-requires c κs =
