@@ -8,8 +8,7 @@ use lib.Arith.{digits-mod, digits-div}
 use lib.Bits.{bitXor, xor-block}
 use lib.Pow.{shr-shr}
 use lib.ListN.{getD}
-use Rattle.placement.specs.Walk.{fourOf, eightOf, byteOf, run, behind}
-use Rattle.placement.specs.Puts.{bytesOf}
+use Rattle.placement.specs.Walk.{fourOf, eightOf, byteOf, run, behind, bytesOf}
 
 four-lt : (a b c d : ℕ) → a < 256 → b < 256 → c < 256 → d < 256 → fourOf a b c d < 4294967296
 four-lt a b c d p q r s = omega arith

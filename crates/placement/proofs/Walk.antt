@@ -17,7 +17,7 @@ use Rattle.bits.specs.Bits.{lowBits, value, firstWords}
 use Rattle.bits.proofs.Words.{length-low, low-back}
 use Rattle.bits.proofs.Bytes.{value-add, value-small, low-value}
 use Rattle.codewords.specs.Codewords.{codewordsOf, dataBits}
-use Rattle.placement.specs.Walk.{bitsFrom, byteOf, eightOf, run, behind, Gathered, Pending, Words, Walk, Stored, Pushed, Masked, unmaskedAt, Skipped, rowBits, Goes, Spans}
+use Rattle.placement.specs.Walk.{bitsFrom, byteOf, eightOf, run, behind, Gathered, Pending, Words, Walk, Stored, Pushed, Masked, unmaskedAt, Skipped, rowBits, Goes}
 use Rattle.placement.specs.declared.Run.{Run}
 use Rattle.placement.proofs.Eights.{xor-eight}
 
@@ -112,7 +112,7 @@ module _ (f : ℕ → ℕ) (small : (k : ℕ) → f k < 2) where
   pub first-value : (n p : ℕ) → value 0 (run (n + p) f) / 2 ^ p ≡ value 0 (run n f)
   first-value n p = ap (λ (y : ℕ). y / 2 ^ p) (value-split n p) ∙ high (value 0 (run n f)) p (run-lt p (λ k. f (n + k)) (λ k. small (n + k)))
 
-  last-value : (n w : ℕ) → value 0 (run (n + w) f) % 2 ^ w ≡ value 0 (run w (λ k. f (n + k)))
+  pub last-value : (n w : ℕ) → value 0 (run (n + w) f) % 2 ^ w ≡ value 0 (run w (λ k. f (n + k)))
   last-value n w = ap (λ (y : ℕ). y % 2 ^ w) (value-split n w) ∙ low (value 0 (run n f)) w (run-lt w (λ k. f (n + k)) (λ k. small (n + k)))
 
 pub gathered-is : {x g : ℕ} (b : ℕ → ℕ) → ((k : ℕ) → b k < 2) → x ≡ eightOf b → Gathered x g → g ≡ value 0 (run 8 b)
@@ -259,14 +259,6 @@ module _ {sq row : List ℕ} (a : Masked sq row) where
   pub unmasked-is : (at : ℕ) {x g : ℕ} → x ≡ eightOf (unmaskedAt sq row at) → Gathered x g → g ≡ value 0 (run 8 (unmaskedAt sq row at))
   unmasked-is at e g = gathered-is (unmaskedAt sq row at) (bits-small at) e g
 
-  -- the last w of eight bits are the w bits from a column on
-  pub lowest-is : (at w c : ℕ) {g x : ℕ} → w ≤ 8 → c + w ≡ at + 8 → g ≡ value 0 (run 8 (unmaskedAt sq row at)) → x ≡ g % 2 ^ w → x ≡ value 0 (run w (unmaskedAt sq row c))
-  lowest-is at w c {g} {x} few e eg ex =
-      let n : 8 ≡ 8 - w + w = omega arith in
-      let i : (k : ℕ) → at + (8 - w + k) ≡ c + k = λ k. omega arith in
-      ex ∙ ap (λ (y : ℕ). y % 2 ^ w) (eg ∙ ap (λ (j : ℕ). value 0 (run j (unmaskedAt sq row at))) n) ∙ last-value (unmaskedAt sq row at) (bits-small at) (8 - w) w
-      ∙ ap (value 0) (run-ext w (λ k. unmaskedAt sq row at (8 - w + k)) (unmaskedAt sq row c) (λ k. ap (λ (j : ℕ). bitXor (getD sq j 0) (getD row j 0)) (i k)))
-
 module _ {ks sq row : List ℕ} (a : Masked sq row) (size : length sq ≡ length ks) where
   -- n data modules pushed
   pub goes-push : {out out′ : List ℕ} {r s : Run} (n x : ℕ) → r .column + n ≤ length ks → ((k : ℕ) → k < n → getD ks (r .column + k) 0 ≡ 0)
@@ -300,19 +292,3 @@ goes-none = record { go = λ total all rest k. k }
 
 pub goes-on : {ks sq row a b c : List ℕ} {r s t : Run} → Goes ks sq row a b r s → Goes ks sq row b c s t → Goes ks sq row a c r t
 goes-on f g = record { go = λ total all rest k. g .go total all rest (f .go total all rest k) }
-
--- From column to column where all modules are data.
-
-pub spans-none : {sq row out : List ℕ} {r : Run} → Spans sq row out out r r
-spans-none = record { go = λ ks e z. goes-none }
-
-pub spans-on : {sq row a b c : List ℕ} {r s t : Run} → r .column ≤ s .column → s .column ≤ t .column → Spans sq row a b r s → Spans sq row b c s t → Spans sq row a c r t
-spans-on lo hi f g = record { go = λ ks e z. goes-on (f .go ks e (λ k p q. z k p (omega arith))) (g .go ks e (λ k p q. z k (omega arith) q)) }
-
-pub spans-push : {sq row out out′ : List ℕ} {r s : Run} → Masked sq row → (n x : ℕ) → r .column + n ≤ length sq → x ≡ value 0 (run n (unmaskedAt sq row (r .column))) → s .column ≡ r .column + n
-    → Pushed n x out out′ r s → Spans sq row out out′ r s
-spans-push {r = r} a n x h e f q = record { go = λ ks l z. goes-push a l n x (omega arith) (λ k i. z (r .column + k) (omega arith) (omega arith)) e f q }
-
--- The divisor 2 ^ w as the code has it.
-pub two-power : (w : ℕ) → w ≤ 8 → 1 * 2 ^ w % 18446744073709551616 ≡ 2 ^ w
-two-power w h = let e : 1 * 2 ^ w ≡ 2 ^ w = omega arith in ap (λ (y : ℕ). y % 18446744073709551616) e ∙ mod-eq-of-lt (omega (arith, pow-le-pow-right {n = 2} (lit< tt) {i = w} {j = 8} h))

@@ -1,6 +1,6 @@
 -- What the functions of this crate say of each other. Nobody has to believe it.
 use mathlib.Core.Path.{_≡_}
-use mathlib.Core.Logic.{_≢_, _⊎_}
+use mathlib.Core.Logic.{_≢_}
 use mathlib.Core.List.{List, [], _∷_, _++_}
 use Prim.Native.Nat.{ℕ, zero, suc, _+_, _-_, _*_, _/_, _%_, _^_, _<_, _≤_}
 use lib.ListN.{length, getD, take, drop, set}
@@ -30,6 +30,11 @@ run (suc n) b = b 0 ∷ run n (λ k. b (suc k))
 -- what a list holds from a place on
 abbrev pub behind : List ℕ → ℕ → ℕ → ℕ
 behind s at k = getD s (at + k) 0
+
+-- the bytes of a number, lowest first
+abbrev pub bytesOf : ℕ → List ℕ
+bytesOf x =
+    (x % 256) ∷ (x / 256 % 256) ∷ (x / 65536 % 256) ∷ (x / 16777216 % 256) ∷ (x / 4294967296 % 256) ∷ (x / 1099511627776 % 256) ∷ (x / 281474976710656 % 256) ∷ (x / 72057594037927936 % 256) ∷ []
 
 -- bytes that are bits, gathered
 pub record Gathered (x r : ℕ) : Type 0 where
@@ -102,10 +107,6 @@ rowBits ks sq row c = bitsFrom (λ k. getD row k 0) ks sq c
 pub record Goes (ks sq row out out′ : List ℕ) (r s : Run) : Type 0 where
   pub go : (total : ℕ) (all rest : List ℕ) → Walk total all out (rowBits ks sq row (r .column) ++ rest) r → Walk total all out′ (rowBits ks sq row (s .column) ++ rest) s
 
--- the same for all kinds by which the modules from the one column on and before the other are data
-pub record Spans (sq row out out′ : List ℕ) (r s : Run) : Type 0 where
-  pub go : (ks : List ℕ) → length sq ≡ length ks → ((k : ℕ) → r .column ≤ k → k < s .column → getD ks k 0 ≡ 0) → Goes ks sq row out out′ r s
-
 -- Runs of modules of one sort.
 
 -- the first w bytes of x are 0, and w is not 0 where the first byte is
@@ -133,17 +134,3 @@ pub record Next (ks sq row : List ℕ) (b : ℕ → ℕ) (c k x left : ℕ) : Ty
 -- some of them are passed, in every such row
 pub record Moves (k x left : ℕ) (out out′ : List ℕ) (r s : Run) : Type 0 where
   pub go : (ks sq row : List ℕ) (b : ℕ → ℕ) → Next ks sq row b (r .column) k x left → (r .column < s .column) × (s .column ≤ length ks) × Goes ks sq row out out′ r s
-
--- Layouts with no alignment patterns.
-
--- the first nine and the last nine rows have data in the other columns than the first nine and the last nine, all other rows in all columns
-pub record Open (s : ℕ) (ks : List ℕ) : Type 0 where
-  pub size : length ks ≡ s * s
-  pub rows : (r c : ℕ) → 9 ≤ r → r + 9 < s → c < s → getD ks (r * s + c) 0 ≡ 0
-  pub columns : (r c : ℕ) → r < s → 9 ≤ c → c + 9 < s → getD ks (r * s + c) 0 ≡ 0
-  pub corners : (r c : ℕ) → r < s → c < s → (r < 9) ⊎ (s ≤ r + 9) → (c < 9) ⊎ (s ≤ c + 9) → getD ks (r * s + c) 0 ≢ 0
-
--- how many modules at either end of row r of such a layout are no data
-pub data Margin (s r : ℕ) : ℕ → Type 0 where
-  whole : 9 ≤ r → r + 9 < s → Margin s r 0
-  ends : (r < 9) ⊎ (s ≤ r + 9) → Margin s r 9

@@ -19,7 +19,7 @@ use Rattle.blocks.proofs.Rows.{Sound, total-shapes}
 use Rattle.blocks.proofs.Theorems.{shapes-sound}
 use Rattle.codewords.specs.Codewords.{maskBit, dataBits, codewordsOf, streamOf, streamIn}
 use Rattle.placement.specs.Walk.{Legible}
-use Rattle.placement.proofs.Open.{open-enough}
+use Rattle.small_marks.proofs.Open.{open-enough}
 use Rattle.codewords.proofs.Placement.{data-front, length-data}
 use Rattle.blockwise.specs.declared.Blocks.{Blocks}
 use Rattle.blockwise.specs.declared.Blocks.the-variants.{Corrected, Refused}

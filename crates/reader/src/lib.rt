@@ -86,7 +86,7 @@ fn read_open_stream(stream: &mut [u8], square: &[u8], m: Mark)
 {
     let total = blocks::total_codewords(m.version);
     let mut found = [0u8; 50];
-    placement::read_open(&mut found, total, square, m.version, m.mask);
+    small_marks::read_open(&mut found, total, square, m.version, m.mask);
     codewords::to_stream(stream, &found, total);
 }
 

@@ -83,7 +83,7 @@ fn place_stream(square: &mut [u8], kinds: &[u8], m: Mark, stream: &[u8], found: 
     let total = blocks::total_codewords(m.version);
     let side = Version { number: m.version }.side();
     codewords::from_stream(found, stream, total);
-    placement::place_codewords(square, kinds, found, total, side, m.mask);
+    drawing::place_codewords(square, kinds, found, total, side, m.mask);
 }
 
 // The mark, in all modules of a square. Two buffers are lent for its codewords.

@@ -1,9 +1,8 @@
 use Rattle.blocks.proofs.Rows.{row-copied}
 use Rattle.blocks.specs.Table.{blocks}
-use lib.ListN.{getD, take}
 use lib.Seq.{getD-take}
 use Prim.Native.Nat.{_+_, _-_, _*_}
-use mathlib.Core.Path.{refl, _∙_}
+use mathlib.Core.Path.{_∙_}
 use native.Mathlib.Omega.{arith}
 use borrow.Author.Needs.{needs}
 use Rattle.blocks.proofs.block_row.Statement.{statement}

@@ -2,7 +2,7 @@ use Rattle.blocks.specs.Blocks.{dataModules}
 use Rattle.blocks.proofs.Rows.{modules-few}
 use lib.ListN.{take}
 use lib.Seq.{length-take-le}
-use Prim.Native.Nat.{ℕ, _+_, _-_, _≤_}
+use Prim.Native.Nat.{ℕ, _-_, _≤_}
 use mathlib.Core.Path.{_≡_, refl, ap, _∙_}
 use native.Mathlib.Omega.{arith}
 use borrow.Author.Needs.{needs}

@@ -6,7 +6,7 @@ use native.Mathlib.Omega.{arith}
 use lib.ListN.{drop}
 use Rattle.codewords.specs.Codewords.{streamOf}
 use Rattle.blocks.proofs.Rows.{total-open}
-use Rattle.placement.proofs.Open.{open-enough}
+use Rattle.small_marks.proofs.Open.{open-enough}
 use Rattle.squares.proofs.Modules.{codewords-taken}
 use Rattle.reader.proofs.Body.{enough-bits, stream-is, open-drawn}
 use borrow.Author.Needs.{needs}

@@ -1,0 +1,55 @@
+use Rattle.blocks.proofs.Rows.{copied-more}
+use Rattle.drawing.specs.Puts.{patternOf}
+use lib.ListN.{length, getD, length-set}
+use mathlib.Core.Path.{_≡_, refl, _∙_}
+use Prim.Native.Nat.{ℕ, _-_, _<_, _≤_}
+use native.Mathlib.Omega.{arith}
+use borrow.Author.Needs.{needs}
+use Rattle.drawing.proofs.draw.Statement.{statement}
+use Rattle.drawing.proofs.draw.Tie as tie
+
+abbrev Inv-loop : tie.InvT-loop
+Inv-loop square₀ kinds i₀ square i = (i ≤ length square₀) × (length square ≡ length square₀) × ((k : ℕ) → k < i → getD square k 0 ≡ patternOf (getD kinds k 0))
+
+abbrev μ-loop : tie.MeasureT-loop
+μ-loop square₀ kinds i₀ square i = length square₀ - i
+
+loop-holds : tie.Need-loop-holds Inv-loop μ-loop
+loop-holds c = (omega arith, refl, λ k h. absurd (omega arith))
+
+shared-slice-read-pattern : tie.Need-shared-slice-read-pattern Inv-loop μ-loop
+shared-slice-read-pattern c = omega (arith, c .before .before .before .before .before .pre, c .before .before .loop .inv .1)
+
+slice-write-square : tie.Need-slice-write-square Inv-loop μ-loop
+slice-write-square c = omega (arith, c .before .before .loop-test .taken)
+
+loop-less : tie.Need-loop-less Inv-loop μ-loop
+loop-less c = omega (arith, c .before .before .loop-test .taken, c .before .before .before .loop .inv .1)
+
+loop-again : tie.Need-loop-again Inv-loop μ-loop
+loop-again c =
+    let loop = c .before .before .before .loop in
+    let kinds = c .before .before .before .before .before .before .args .kinds .now in
+    (omega (arith, c .before .before .loop-test .taken, loop .inv .1), length-set (loop .square) (loop .i) (c .pattern .result) ∙ loop .inv .1, copied-more (λ (k : ℕ). patternOf (getD kinds k 0)) (loop .square) (loop .i) (c .pattern .result) (c .before .before .loop-test .taken) (c .pattern .ensures) (loop .inv .2))
+
+same-length : tie.Need-same-length Inv-loop μ-loop
+same-length c = c .before .loop .inv .1
+
+returns : tie.Need-returns Inv-loop μ-loop
+returns c = let loop = c .before .loop in record { is = λ k lo hi. loop .inv .2 k (omega (arith, c .loop-test .left, c .before .before .before .before .pre, loop .inv .1)) }
+
+pub draw-spec : {M : Type 1} → statement M
+draw-spec =
+    tie.close
+    (tie.spec
+    Inv-loop
+    μ-loop
+    loop-holds
+    shared-slice-read-pattern
+    (λ c κs. search needs)
+    slice-write-square
+    (λ c. search needs)
+    loop-less
+    loop-again
+    same-length
+    returns)

@@ -1,0 +1,127 @@
+use Rattle.placement.proofs.Rows.{row-inside, row-mask}
+use Rattle.drawing.proofs.Puts.{placing-begun}
+use Rattle.drawing.proofs.Squares.{row-drawn, row-blank, placing-row, placing-done}
+use Rattle.masks.proofs.Rows.{columns-fewer, row-new}
+use Rattle.masks.specs.Columns.{Row}
+use Rattle.drawing.specs.Puts.{Placing}
+use Rattle.bits.specs.Bits.{bitsOf}
+use Rattle.blocks.specs.Blocks.{dataModules}
+use Rattle.codewords.specs.Codewords.{maskBit, placed}
+use lib.ListN.{length, drop}
+use mathlib.Core.Path.{_≡_, refl, sym, ap, subst, _∙_}
+use Prim.Native.Nat.{ℕ, _+_, _-_, _*_, _≤_}
+use native.Mathlib.Nat.{zero-mul, mul-le-mul-left}
+use native.Mathlib.Omega.{arith}
+use Rattle.drawing.proofs.place_rows.Statement.{statement}
+use Rattle.drawing.proofs.place_rows.Tie as tie
+
+abbrev Inv-loop : tie.InvT-loop
+Inv-loop square₀ kinds codewords side mask table row₀ columns bit₀ i₀ square row bit i = Row mask row × (i ≤ side) × Placing (maskBit side mask) kinds (placed (maskBit side mask) 0 kinds (bitsOf codewords)) (drop (dataModules kinds) (bitsOf codewords)) square (drop bit (bitsOf codewords)) (i * side)
+
+abbrev μ-loop : tie.MeasureT-loop
+μ-loop square₀ kinds codewords side mask table row₀ columns bit₀ i₀ square row bit i = side - i
+
+columns-requires : tie.Need-columns-requires Inv-loop μ-loop
+columns-requires c κs = (omega arith, refl)
+
+loop-holds : tie.Need-loop-holds Inv-loop μ-loop
+loop-holds c =
+    let start = c .before .before .before .before .before .before in
+    let m = maskBit (start .args .side) (start .args .mask) in
+    let ks = start .args .kinds .now in
+    let ds = bitsOf (start .args .codewords .now) in
+    let z : 0 ≡ 0 * start .args .side = sym (zero-mul (start .args .side)) in
+    (row-new, omega arith, subst (Placing m ks (placed m 0 ks ds) (drop (dataModules ks) ds) (start .args .square .now) ds) z (placing-begun m ks (start .args .square .now) ds (start .pre .1) (start .pre .0)))
+
+slice-aggregate-mask-row : tie.Need-slice-aggregate-mask-row Inv-loop μ-loop
+slice-aggregate-mask-row c = sym (c .before .before .loop .inv .0 .size)
+
+slice-aggregate-mask-row-2 : tie.Need-slice-aggregate-mask-row-2 Inv-loop μ-loop
+slice-aggregate-mask-row-2 c = sym (c .before .before .before .before .before .columns .ensures .size)
+
+mask-row-requires : tie.Need-mask-row-requires Inv-loop μ-loop
+mask-row-requires c κs =
+    let columns = c .before .before .before .before .before .columns .ensures in
+    let taken = c .before .before .loop-test .taken in
+    let side = c .before .before .before .before .before .before .before .before .before .before .pre .3 in (omega (arith, taken, side), omega (arith, side), columns-fewer (omega (arith, taken)) columns, columns, c .before .before .before .loop .inv .0)
+
+mul-at : tie.Need-mul-at Inv-loop μ-loop
+mul-at c = omega (arith, row-inside (c .before .before .before .before .before .loop .i) (c .before .before .before .before .before .before .before .before .before .before .before .before .args .side) (c .before .before .before .before .loop-test .taken), c .before .before .before .before .before .before .before .before .before .before .before .before .pre .4, c .before .before .before .before .before .before .before .before .before .before .before .before .pre .1, mul-le-mul-left (c .before .before .before .before .before .before .before .before .before .before .before .before .args .side) (c .before .before .before .before .before .before .before .before .before .before .before .before .pre .3), c .before .before .before .before .before .before .before .before .before .before .before .before .pre .3)
+
+add-end : tie.Need-add-end Inv-loop μ-loop
+add-end c = omega (arith, row-inside (c .before .before .before .before .before .loop .i) (c .before .before .before .before .before .before .before .before .before .before .before .before .args .side) (c .before .before .before .before .loop-test .taken), c .before .before .before .before .before .before .before .before .before .before .before .before .pre .4, c .before .before .before .before .before .before .before .before .before .before .before .before .pre .1, mul-le-mul-left (c .before .before .before .before .before .before .before .before .before .before .before .before .args .side) (c .before .before .before .before .before .before .before .before .before .before .before .before .pre .3), c .before .before .before .before .before .before .before .before .before .before .before .before .pre .3)
+
+part-put-row-end : tie.Need-part-put-row-end Inv-loop μ-loop
+part-put-row-end c = omega (arith, row-inside (c .before .before .before .before .before .loop .i) (c .before .before .before .before .before .before .before .before .before .before .before .before .args .side) (c .before .before .before .before .loop-test .taken), c .before .before .before .before .before .before .before .before .before .before .before .before .pre .4, c .before .before .before .before .before .before .before .before .before .before .before .before .pre .1, c .before .before .before .before .before .loop .inv .2 .size)
+
+part-put-row-end-2 : tie.Need-part-put-row-end-2 Inv-loop μ-loop
+part-put-row-end-2 c = omega (arith, row-inside (c .before .before .before .before .before .before .loop .i) (c .before .before .before .before .before .before .before .before .before .before .before .before .before .args .side) (c .before .before .before .before .before .loop-test .taken), c .before .before .before .before .before .before .before .before .before .before .before .before .before .pre .4, c .before .before .before .before .before .before .before .before .before .before .before .before .before .pre .1)
+
+slice-aggregate-put-row : tie.Need-slice-aggregate-put-row Inv-loop μ-loop
+slice-aggregate-put-row c = sym (c .before .before .before .before .mask-row .ensures .0 .size)
+
+put-row-requires : tie.Need-put-row-requires Inv-loop μ-loop
+put-row-requires c κs =
+    let start = c .before .before .before .before .before .before .before .before .before .before .before .before .before .before .before in
+    let loop = c .before .before .before .before .before .before .before .before .loop in
+    let h : loop .i * start .args .side + start .args .side ≤ length (start .args .kinds .now) = omega (arith, row-inside (c .before .before .before .before .before .before .before .before .loop .i) (c .before .before .before .before .before .before .before .before .before .before .before .before .before .before .before .args .side) (c .before .before .before .before .before .before .before .loop-test .taken), c .before .before .before .before .before .before .before .before .before .before .before .before .before .before .before .pre .4, c .before .before .before .before .before .before .before .before .before .before .before .before .before .before .before .pre .1) in
+    (row-blank (start .args .kinds .now) (loop .square) (loop .i * start .args .side) (start .args .side) (loop .inv .2 .size) (c .before .before .before .before .mask-row .ensures .0) (start .pre .3) h (start .pre .5), row-drawn (loop .i * start .args .side) (start .args .side) (loop .inv .2 .drawn) h)
+
+add-i : tie.Need-add-i Inv-loop μ-loop
+add-i c = omega (arith, c .before .before .before .before .before .before .before .before .before .before .loop-test .taken, c .before .before .before .before .before .before .before .before .before .before .before .before .before .before .before .before .before .before .pre .3)
+
+loop-less : tie.Need-loop-less Inv-loop μ-loop
+loop-less c = omega (arith, c .before .before .before .before .before .before .before .before .before .before .loop-test .taken)
+
+loop-again : tie.Need-loop-again Inv-loop μ-loop
+loop-again c =
+    let start = c .before .before .before .before .before .before .before .before .before .before .before .before .before .before .before .before .before .before in
+    let loop = c .before .before .before .before .before .before .before .before .before .before .before .loop in
+    let m = maskBit (start .args .side) (start .args .mask) in
+    let h : loop .i * start .args .side + start .args .side ≤ length (start .args .kinds .now) = omega (arith, row-inside (c .before .before .before .before .before .before .before .before .before .before .before .loop .i) (c .before .before .before .before .before .before .before .before .before .before .before .before .before .before .before .before .before .before .args .side) (c .before .before .before .before .before .before .before .before .before .before .loop-test .taken), c .before .before .before .before .before .before .before .before .before .before .before .before .before .before .before .before .before .before .pre .4, c .before .before .before .before .before .before .before .before .before .before .before .before .before .before .before .before .before .before .pre .1) in
+    let mask-row = c .before .before .before .before .before .before .before .mask-row in
+    let put-row = c .before .before .put-row .ensures in (
+      mask-row .ensures .0,
+      omega (arith, c .before .before .before .before .before .before .before .before .before .before .loop-test .taken),
+      placing-row m (start .args .kinds .now) (mask-row .last .0) (loop .i) (start .args .side) (loop .inv .2) h (λ k l. mask-row .ensures .1 k (omega arith) (omega arith) ∙ row-mask (start .args .mask) (loop .i) (start .args .side) k l) (put-row .0) (put-row .1) refl,
+    )
+
+same-length : tie.Need-same-length Inv-loop μ-loop
+same-length c = c .before .loop .inv .2 .size ∙ sym (c .before .before .before .before .before .before .before .before .pre .1)
+
+returns : tie.Need-returns Inv-loop μ-loop
+returns c =
+    let start = c .before .before .before .before .before .before .before .before in
+    let loop = c .before .loop in
+    let e : loop .i ≡ start .args .side = omega (arith, loop .inv .1, c .loop-test .left) in
+    placing-done (loop .inv .2) (omega (arith, start .pre .1, start .pre .4, ap (λ (n : ℕ). n * start .args .side) e))
+
+pub place-rows-spec : {M : Type 1} → statement M
+place-rows-spec =
+    tie.close
+    (tie.spec
+    Inv-loop
+    μ-loop
+    (λ c. omega arith)
+    (λ c. omega arith)
+    (λ c. refl)
+    columns-requires
+    loop-holds
+    slice-aggregate-mask-row
+    slice-aggregate-mask-row-2
+    mask-row-requires
+    mul-at
+    add-end
+    (λ c. omega arith)
+    (λ c. omega arith)
+    part-put-row-end
+    (λ c. omega arith)
+    (λ c. omega arith)
+    part-put-row-end-2
+    slice-aggregate-put-row
+    put-row-requires
+    add-i
+    loop-less
+    loop-again
+    same-length
+    returns)

@@ -1,0 +1,30 @@
+use Rattle.drawing.proofs.Puts.{masked-bytes}
+use Rattle.bits.proofs.Reading.{value-lt}
+use lib.Seq.{sets}
+use mathlib.Core.Path.{refl, ap, _∙_}
+use native.Mathlib.Omega.{arith}
+use borrow.Author.Needs.{needs}
+use Rattle.drawing.proofs.put_eight.Statement.{statement}
+use Rattle.drawing.proofs.put_eight.Tie as tie
+
+spread-requires : tie.Need-spread-requires
+spread-requires c κs = let start = c .before .before .before .before in omega (arith, c .window .ensures, value-lt (start .args .codewords .now) (start .args .p .bit) 8)
+
+returns : tie.Need-returns
+returns c =
+    let start = c .before .before .before .before .before .before .before .before .before .before .before in
+    let bytes = masked-bytes (start .args .codewords .now) (start .args .row .now) (start .args .p .bit) (start .args .p .column) (omega (arith, start .pre .4)) (start .pre .3) (c .before .before .before .before .before .before .before .window .ensures) (c .before .before .before .before .before .before .spread .ensures) (c .before .before .before .before .before .eight .ensures) in
+    record { column-is = refl; bit-is = refl; is = c .before .before .before .put .ensures ∙ ap (sets (start .args .square .now) (start .args .p .column)) bytes }
+
+pub put-eight-spec : {M : Type 1} → statement M
+put-eight-spec =
+    tie.close
+    (tie.spec
+    (λ c κs. search needs)
+    spread-requires
+    (λ c κs. search needs)
+    (λ c κs. search needs)
+    (λ c. search needs)
+    (λ c. search needs)
+    (λ c. search needs)
+    returns)

@@ -1,0 +1,47 @@
+use Rattle.drawing.proofs.Puts.{blank-kept, puts-none, puts-on, puts-all}
+use Rattle.drawing.specs.Puts.{Blank, Puts}
+use lib.ListN.{length}
+use mathlib.Core.Path.{sym, _∙_}
+use Prim.Native.Nat.{_-_, _≤_}
+use native.Mathlib.Omega.{arith}
+use Rattle.drawing.proofs.put_last.Statement.{statement}
+use Rattle.drawing.proofs.put_last.Tie as tie
+
+abbrev Inv-loop : tie.InvT-loop
+Inv-loop square₀ kinds row codewords p₀ square p = Blank square kinds row codewords × (p .column ≤ length kinds) × Puts kinds row codewords square₀ square p₀ p
+
+abbrev μ-loop : tie.MeasureT-loop
+μ-loop square₀ kinds row codewords p₀ square p = length kinds - p .column
+
+loop-holds : tie.Need-loop-holds Inv-loop μ-loop
+loop-holds c = let start = c .before .before .before .before in (start .pre .0, start .pre .1, puts-none)
+
+put-one-requires : tie.Need-put-one-requires Inv-loop μ-loop
+put-one-requires c κs = (c .before .before .before .loop .inv .0, c .before .if1 .taken)
+
+loop-less : tie.Need-loop-less Inv-loop μ-loop
+loop-less c = omega (arith, c .before .before .put-one .ensures .0, c .before .before .put-one .ensures .1)
+
+loop-again : tie.Need-loop-again Inv-loop μ-loop
+loop-again c =
+    let put-one = c .before .before .put-one in
+    let loop = c .before .before .before .before .before .before .loop in (blank-kept (put-one .kept .0) (loop .inv .0), put-one .ensures .1, puts-on (loop .inv .2) (put-one .ensures .2))
+
+same-length : tie.Need-same-length Inv-loop μ-loop
+same-length c = c .before .before .loop .inv .0 .size ∙ sym (c .before .before .before .before .before .before .before .pre .0 .size)
+
+returns : tie.Need-returns Inv-loop μ-loop
+returns c = puts-all (c .before .before .loop .inv .2) (omega (arith, c .if1 .left))
+
+pub put-last-spec : {M : Type 1} → statement M
+put-last-spec =
+    tie.close
+    (tie.spec
+    Inv-loop
+    μ-loop
+    loop-holds
+    put-one-requires
+    loop-less
+    loop-again
+    same-length
+    returns)

@@ -1,0 +1,56 @@
+use Rattle.drawing.proofs.Puts.{blank-kept, puts-none, puts-on, puts-end, placing-begun}
+use Rattle.drawing.specs.Puts.{getD₀, Blank, Puts}
+use Rattle.bits.specs.Bits.{bitsOf}
+use lib.ListN.{length, drop}
+use mathlib.Core.Path.{sym, _∙_}
+use Prim.Native.Nat.{_-_, _≤_}
+use native.Mathlib.Omega.{arith}
+use borrow.Author.Needs.{needs}
+use Rattle.drawing.proofs.put_row.Statement.{statement}
+use Rattle.drawing.proofs.put_row.Tie as tie
+
+abbrev Inv-loop : tie.InvT-loop
+Inv-loop square₀ kinds row codewords bit end p₀ square p = Blank square kinds row codewords × (p .column ≤ length kinds) × Puts kinds row codewords square₀ square p₀ p
+
+abbrev μ-loop : tie.MeasureT-loop
+μ-loop square₀ kinds row codewords bit end p₀ square p = length kinds - p .column
+
+loop-holds : tie.Need-loop-holds Inv-loop μ-loop
+loop-holds c = let start = c .before .before .before .before .before in (start .pre .0, omega arith, puts-none)
+
+put-step-requires : tie.Need-put-step-requires Inv-loop μ-loop
+put-step-requires c κs = let loop = c .before .before .before .loop in (loop .inv .0, c .before .before .before .before .groups-end .ensures .0 (loop .p .column) (c .before .if1 .taken))
+
+loop-less : tie.Need-loop-less Inv-loop μ-loop
+loop-less c = omega (arith, c .before .before .put-step .ensures .0, c .before .before .put-step .ensures .1)
+
+loop-again : tie.Need-loop-again Inv-loop μ-loop
+loop-again c =
+    let step = c .before .before .put-step in
+    let loop = c .before .before .before .before .before .before .loop in (blank-kept (step .kept .0) (loop .inv .0), step .ensures .1, puts-on (loop .inv .2) (step .ensures .2))
+
+put-last-requires : tie.Need-put-last-requires Inv-loop μ-loop
+put-last-requires c κs = let loop = c .before .before .before .loop in (loop .inv .0, loop .inv .1)
+
+same-length : tie.Need-same-length Inv-loop μ-loop
+same-length c = c .before .before .put-last .kept .0 ∙ c .before .before .before .before .before .before .loop .inv .0 .size ∙ sym (c .before .before .before .before .before .before .before .before .before .before .before .before .pre .0 .size)
+
+returns : tie.Need-returns Inv-loop μ-loop
+returns c =
+    let start = c .before .before .before .before .before .before .before .before .before .before .before .before in
+    puts-end (c .before .before .before .before .before .before .loop .inv .2) (c .before .before .put-last .ensures) .go _ _ (placing-begun (getD₀ (start .args .row .now)) (start .args .kinds .now) (start .args .square .now) (drop (start .args .bit) (bitsOf (start .args .codewords .now))) (start .pre .0 .size) (start .pre .1))
+
+pub put-row-spec : {M : Type 1} → statement M
+put-row-spec =
+    tie.close
+    (tie.spec
+    Inv-loop
+    μ-loop
+    (λ c κs. search needs)
+    loop-holds
+    put-step-requires
+    loop-less
+    loop-again
+    put-last-requires
+    same-length
+    returns)

@@ -1,0 +1,141 @@
+use Rattle.small_marks.proofs.Open.{open-layout, margin-few, open-turn}
+use Rattle.small_marks.proofs.Narrow.{low-small}
+use Rattle.placement.proofs.Rows.{part-length, row-inside, masked, rows-pending, walk-again, rows-begun, rows-done}
+use Rattle.placement.specs.Walk.{bitsFrom, Pending, Walk}
+use Rattle.symbol.specs.Version.{sideOf}
+use Rattle.symbol.specs.Layout.{layoutOf}
+use Rattle.codewords.specs.Codewords.{maskBit, dataBits}
+use lib.ListN.{length}
+use mathlib.Core.Path.{_≡_, refl, sym, ap, subst}
+use Prim.Native.Nat.{ℕ, _+_, _-_, _*_, _≤_}
+use native.Mathlib.Nat.{zero-mul}
+use native.Mathlib.Omega.{arith}
+use borrow.Author.Needs.{needs}
+use Rattle.small_marks.proofs.read_open_rows.Statement.{statement}
+use Rattle.small_marks.proofs.read_open_rows.Tie as tie
+
+abbrev Inv-loop : tie.InvT-loop
+Inv-loop out₀ square version mask side rows r₀ i₀ out r i = Pending r × (i ≤ sideOf version) × Walk (length out₀) (dataBits (maskBit (sideOf version) mask) 0 (layoutOf version) square) out (bitsFrom (maskBit (sideOf version) mask) (layoutOf version) square (i * sideOf version)) r
+
+abbrev μ-loop : tie.MeasureT-loop
+μ-loop out₀ square version mask side rows r₀ i₀ out r i = sideOf version - i
+
+mul-side : tie.Need-mul-side Inv-loop μ-loop
+mul-side c = omega arith
+
+add-side : tie.Need-add-side Inv-loop μ-loop
+add-side c = omega arith
+
+open-rows-requires : tie.Need-open-rows-requires Inv-loop μ-loop
+open-rows-requires c κs = tt
+
+loop-holds : tie.Need-loop-holds Inv-loop μ-loop
+loop-holds c =
+    let start = c .before .before .before in
+    let m = maskBit (sideOf (start .args .version)) (start .args .mask) in
+    let all = dataBits m 0 (layoutOf (start .args .version)) (start .args .square .now) in
+    let z : 0 ≡ 0 * sideOf (start .args .version) = sym (zero-mul (sideOf (start .args .version))) in (
+      rows-pending refl refl,
+      omega arith,
+      subst (λ (k : ℕ). Walk (length (start .args .out .now)) all (start .args .out .now) (bitsFrom m (layoutOf (start .args .version)) (start .args .square .now) k) (record { column = 0; n = 0; value = 0; bits = 0 })) z
+          (rows-begun all (start .args .out .now) refl refl refl (start .pre .5)),
+    )
+
+margin-requires : tie.Need-margin-requires Inv-loop μ-loop
+margin-requires c κs = omega (arith, c .loop-test .taken, c .before .before .before .before .before .pre .1)
+
+mul-at : tie.Need-mul-at Inv-loop μ-loop
+mul-at c = omega (arith, row-inside (c .before .before .loop .i) (sideOf (c .before .before .before .before .before .before .args .version)) (c .before .loop-test .taken), c .before .before .before .before .before .before .pre .3, c .before .before .before .before .before .before .pre .1)
+
+add-end : tie.Need-add-end Inv-loop μ-loop
+add-end c = omega (arith, row-inside (c .before .before .loop .i) (sideOf (c .before .before .before .before .before .before .args .version)) (c .before .loop-test .taken), c .before .before .before .before .before .before .pre .3, c .before .before .before .before .before .before .pre .1)
+
+mul-row : tie.Need-mul-row Inv-loop μ-loop
+mul-row c = omega (arith, c .before .before .before .before .before .before .pre .2)
+
+add-row : tie.Need-add-row Inv-loop μ-loop
+add-row c = omega (arith, c .before .before .before .before .before .before .pre .2, c .before .loop-test .taken, c .before .before .before .before .before .before .pre .1)
+
+mul-row-2 : tie.Need-mul-row-2 Inv-loop μ-loop
+mul-row-2 c = omega (arith, c .before .before .before .before .before .before .pre .2, c .before .loop-test .taken, c .before .before .before .before .before .before .pre .1)
+
+array-read-row : tie.Need-array-read-row Inv-loop μ-loop
+array-read-row c = omega (arith, c .before .before .before .open-rows .ensures .size, c .before .before .before .before .before .before .pre .2, c .before .loop-test .taken, c .before .before .before .before .before .before .pre .1)
+
+sub-read-span : tie.Need-sub-read-span Inv-loop μ-loop
+sub-read-span c = omega arith
+
+part-read-span-start : tie.Need-part-read-span-start Inv-loop μ-loop
+part-read-span-start c = omega arith
+
+part-read-span-end : tie.Need-part-read-span-end Inv-loop μ-loop
+part-read-span-end c = omega (arith, row-inside (c .before .before .before .loop .i) (sideOf (c .before .before .before .before .before .before .before .args .version)) (c .before .before .loop-test .taken), c .before .before .before .before .before .before .before .pre .3, c .before .before .before .before .before .before .before .pre .1)
+
+sub-read-span-2 : tie.Need-sub-read-span-2 Inv-loop μ-loop
+sub-read-span-2 c = omega (arith, margin-few (c .before .before .margin .ensures), c .before .before .before .before .before .before .before .before .pre .0)
+
+read-span-requires : tie.Need-read-span-requires Inv-loop μ-loop
+read-span-requires c κs =
+    let start = c .before .before .before .before .before .before .before .before in
+    let loop = c .before .before .before .before .loop in
+    let few = margin-few (c .before .before .margin .ensures) in
+    let v = start .args .version in
+    let h : loop .i * sideOf v + sideOf v ≤ length (start .args .square .now) = omega (arith, row-inside (loop .i) (sideOf v) (c .before .before .before .loop-test .taken), start .pre .3) in
+    let l = part-length (loop .i * sideOf v) (sideOf v) (start .args .square .now) h in
+    (masked (start .args .square .now) (loop .i * sideOf v) (sideOf v) (start .pre .4) (low-small 27 _) (omega (arith, start .pre .1)) h, record { few = loop .inv .0 .few; small = loop .inv .0 .small }, omega (arith, few), omega (arith, few), omega (arith, l), omega (arith, l, start .pre .1))
+
+add-i : tie.Need-add-i Inv-loop μ-loop
+add-i c = omega (arith, c .before .before .before .before .before .before .loop-test .taken, c .before .before .before .before .before .before .before .before .before .before .before .pre .1)
+
+loop-less : tie.Need-loop-less Inv-loop μ-loop
+loop-less c = omega (arith, c .before .before .before .before .before .before .loop-test .taken)
+
+loop-again : tie.Need-loop-again Inv-loop μ-loop
+loop-again c =
+    let start = c .before .before .before .before .before .before .before .before .before .before .before in
+    let loop = c .before .before .before .before .before .before .before .loop in
+    let v = start .args .version in
+    let taken = c .before .before .before .before .before .before .loop-test .taken in
+    let span = c .before .before .read-span .ensures in
+    let rows = c .before .before .before .before .before .before .before .before .open-rows .ensures in
+    let turn = open-turn (start .args .mask) (layoutOf v) (start .args .square .now) (loop .i) (sideOf v) (omega (arith, start .pre .0)) (open-layout v (start .pre .1)) (start .pre .3) taken (c .before .before .before .before .before .margin .ensures) (λ k lo hi. rows .is (start .args .mask) (loop .i) k (start .pre .2) (omega (arith, taken, start .pre .1)) (omega (arith, start .pre .1))) refl (span .1) (span .2) (walk-again refl refl refl (loop .inv .2)) in
+    (span .0, omega (arith, taken), turn)
+
+same-length : tie.Need-same-length Inv-loop μ-loop
+same-length c = c .before .loop .inv .2 .words .size
+
+returns : tie.Need-returns Inv-loop μ-loop
+returns c =
+    let start = c .before .before .before .before .before in
+    let loop = c .before .loop in
+    let e : loop .i ≡ sideOf (start .args .version) = omega (arith, loop .inv .1, c .loop-test .left) in
+    rows-done (maskBit (sideOf (start .args .version)) (start .args .mask)) (layoutOf (start .args .version)) (start .args .square .now) (loop .i * sideOf (start .args .version)) (omega (arith, start .pre .3, ap (λ (n : ℕ). n * sideOf (start .args .version)) e)) (loop .inv .0) (loop .inv .2)
+
+pub read-open-rows-spec : {M : Type 1} → statement M
+read-open-rows-spec =
+    tie.close
+    (tie.spec
+    Inv-loop
+    μ-loop
+    mul-side
+    add-side
+    open-rows-requires
+    loop-holds
+    margin-requires
+    mul-at
+    add-end
+    mul-row
+    add-row
+    mul-row-2
+    array-read-row
+    (λ c. search needs)
+    sub-read-span
+    part-read-span-start
+    part-read-span-end
+    sub-read-span-2
+    read-span-requires
+    add-i
+    loop-less
+    loop-again
+    same-length
+    returns)
