@@ -23,7 +23,7 @@ pub extern "C" fn compare_segments_from_data(
 ) -> Told
     ensures { λ r. ⌜ Is (fromData (now (codewords .entry)) (now (payload .entry)) (now (script .entry))) (r .refusal) (r .payload) (r .script) (now (payload .exit)) (now (script .exit)) ⌝ }
 {
-    let answer = segments::from_data(codewords, payload, script);
+    let answer = parse::from_data(codewords, payload, script);
     match answer {
         Answer::Read(n, m) => Told {
             refusal: 0,

@@ -199,7 +199,7 @@ fn tell_data(
 {
     let n = blockwise::gather_data(data, stream, row);
     told_of(
-        segments::from_data_with(&data[..n], payload, script, spare, stream),
+        parse::from_data_with(&data[..n], payload, script, spare, stream),
         count,
     )
 }

@@ -8,7 +8,7 @@ use segments::Answer;
 fn one(codewords: &[u8]) {
     let mut payload = [0u8; 12288];
     let mut script = [0u8; 12288];
-    let answer = segments::from_data(codewords, &mut payload, &mut script);
+    let answer = parse::from_data(codewords, &mut payload, &mut script);
     if let Answer::Read(n, _) = answer {
         replay::hex(&payload, n);
         io::write_all(STDOUT_FILENO, b"\n");

@@ -1,19 +1,18 @@
-// Segments of the data codewords (000: `parse` and the functions that it calls).
+// One segment of the data codewords (000: the functions that `parse` calls). The crate `parse` reads them all.
 //
 // What does not fit a lent buffer is counted and not stored. So a pass over spare buffers writes nothing that a refusal would have to undo,
 // and the same functions serve the second pass, where the spare buffers were too short.
 use bits::Word;
 ghost use mathlib.Core.Path.{_≡_};
 ghost use mathlib.Core.Bool.{true, false};
-ghost use mathlib.Core.List.{[], _∷_, _++_};
+ghost use mathlib.Core.List.{[], _∷_};
 ghost use Prim.Native.Nat.{_+_, _*_, _^_, _<_, _≤_};
-ghost use lib.ListN.{length, take, drop, set};
+ghost use lib.ListN.{length, drop, set};
 ghost use lib.Seq.{sets};
 ghost use Rattle.bits.specs.Bits.{bitsOf};
 ghost use Rattle.segments.specs.Script.{commandOf, runCommand, eci};
-ghost use Rattle.segments.specs.Segments.{digits, charOf, highOf, lowOf, regionSize, firstOf, secondOf, fourBytes, eciOf, eciValue, segmentOf, segmentsOf};
-ghost use Rattle.segments.specs.Passes.{countOf, Left, Inside, RegionLeft, EciLeft, Stepped, Passed, numericAt, textAt, bytesRunAt, bytesAt, regionAt, doubleByteAt, fourByteAt, runAt};
-ghost use Rattle.segments.specs.FromData.{fromData, told};
+ghost use Rattle.segments.specs.Segments.{digits, charOf, highOf, lowOf, regionSize, firstOf, secondOf, fourBytes, eciOf, eciValue, segmentOf};
+ghost use Rattle.segments.specs.Passes.{countOf, Left, Inside, RegionLeft, EciLeft, Stepped, numericAt, textAt, bytesRunAt, bytesAt, regionAt, doubleByteAt, fourByteAt, runAt};
 
 // Two numbers: a position with the payload bytes there or with an ECI's value, or the lengths of payload and script.
 pub enum Count {
@@ -530,44 +529,6 @@ pub fn segment(s: &[u8], place: Place, mode: usize, out: &mut [u8], script: &mut
     }
 }
 
-// One pass over the data.
-fn pass(s: &[u8], out: &mut [u8], script: &mut [u8]) -> Count
-    requires { ⌜ length (now s) ≤ 4096 ⌝ }
-    ensures { λ r. ⌜ Passed 0 0 (now (out .entry)) (now (script .entry)) (segmentsOf (now (s .entry))) r (now (out .exit)) (now (script .exit)) ⌝ }
-{
-    let mut at: usize = 0;
-    let mut n: usize = 0;
-    let mut m: usize = 0;
-    loop {
-        let got = bit_reader::mode(s, at);
-        let Word::Value(mode) = got else {
-            return Count::Done(n, m);
-        };
-        if mode == 0 {
-            return Count::Done(n, m);
-        }
-        let place = Place {
-            at: at + 4,
-            payload: n,
-            script: m,
-        };
-        let next = segment(s, place, mode, out, script);
-        match next {
-            Step::On(place, k, j) => {
-                at = place;
-                n = k;
-                m = j;
-            }
-            Step::Cut => {
-                return Count::Cut;
-            }
-            Step::Lacking => {
-                return Count::Lacking;
-            }
-        }
-    }
-}
-
 // The answers of Segments from data; specs/FromData.antt has their numbers.
 pub enum Answer {
     Read(usize, usize),
@@ -576,68 +537,4 @@ pub enum Answer {
     Empty,
     PayloadFull,
     ScriptFull,
-}
-
-// Copies the first n bytes.
-fn copy(to: &mut [u8], from: &[u8], n: usize)
-    requires { ⌜ (n ≤ length (now to)) × (n ≤ length (now from)) ⌝ }
-    ensures { λ _. ⌜ now (to .exit) ≡ take n (now (from .entry)) ++ drop n (now (to .entry)) ⌝ }
-{
-    let mut i: usize = 0;
-    while i < n {
-        to[i] = from[i];
-        i += 1;
-    }
-}
-
-// Segments from data: payload and script in lent buffers, which a refusal leaves as they were. The first pass stores into spare buffers of
-// any length; what fits them is copied, so that data are decoded once, and only for what does not fit is there a second pass.
-pub fn from_data_with(
-    data: &[u8],
-    payload: &mut [u8],
-    script: &mut [u8],
-    spare: &mut [u8],
-    other: &mut [u8],
-) -> Answer
-    ensures { λ r. ⌜ told r (now (payload .exit)) (now (script .exit)) ≡ fromData (now («data» .entry)) (now (payload .entry)) (now (script .entry)) ⌝ }
-{
-    if 3886 < data.len() {
-        return Answer::TooLong;
-    }
-    let first = pass(data, spare, other);
-    match first {
-        Count::Done(n, m) => {
-            if n == 0 {
-                return Answer::Empty;
-            }
-            if payload.len() < n {
-                return Answer::PayloadFull;
-            }
-            if script.len() < m {
-                return Answer::ScriptFull;
-            }
-            if spare.len() < n {
-                pass(data, payload, script);
-                return Answer::Read(n, m);
-            }
-            if other.len() < m {
-                pass(data, payload, script);
-                return Answer::Read(n, m);
-            }
-            copy(payload, spare, n);
-            copy(script, other, m);
-            Answer::Read(n, m)
-        }
-        Count::Cut => Answer::Broken,
-        Count::Lacking => Answer::Broken,
-    }
-}
-
-// The same with spare buffers of its own.
-pub fn from_data(data: &[u8], payload: &mut [u8], script: &mut [u8]) -> Answer
-    ensures { λ r. ⌜ told r (now (payload .exit)) (now (script .exit)) ≡ fromData (now («data» .entry)) (now (payload .entry)) (now (script .entry)) ⌝ }
-{
-    let mut spare = [0u8; 8192];
-    let mut other = [0u8; 4096];
-    from_data_with(data, payload, script, &mut spare, &mut other)
 }

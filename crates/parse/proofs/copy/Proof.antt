@@ -3,9 +3,9 @@ use mathlib.Core.List.{_++_}
 use Prim.Native.Nat.{_≤_, _-_}
 use native.Mathlib.Omega.{arith}
 use lib.ListN.{length, take, drop, length-set}
-use Rattle.segments.proofs.Stores.{copy-more}
-use Rattle.segments.proofs.copy.Statement.{statement}
-use Rattle.segments.proofs.copy.Tie as tie
+use Rattle.parse.proofs.Copies.{copy-more}
+use Rattle.parse.proofs.copy.Statement.{statement}
+use Rattle.parse.proofs.copy.Tie as tie
 
 abbrev Inv-loop : tie.InvT-loop
 Inv-loop to₀ from n i₀ to i = (length to ≡ length to₀) × (i ≤ n) × (to ≡ take i from ++ drop i to₀)

@@ -7,12 +7,12 @@ use lib.ListN.{length, drop}
 use Rattle.bits.specs.Bits.{bitsOf}
 use Rattle.bits.proofs.Words.{WordAt, word-read, word-few}
 use Rattle.bit_reader.proofs.Inside.{read-inside}
 use Rattle.segments.specs.declared.Count.{Count}
 use Rattle.segments.specs.Segments.{segmentOf, parse, segmentsOf}
 use Rattle.segments.specs.Passes.{Passed}
 use Rattle.segments.proofs.Steps.{step-room, pass-few, pass-end, pass-cut, pass-lacks, pass-on}
-use Rattle.segments.proofs.pass.Statement.{statement}
-use Rattle.segments.proofs.pass.Tie as tie
+use Rattle.parse.proofs.pass.Statement.{statement}
+use Rattle.parse.proofs.pass.Tie as tie
 
 abbrev Inv-loop : tie.InvT-loop
 Inv-loop s out₀ script₀ at₀ n₀ m₀ out script at n m =

@@ -1,7 +1,7 @@
-use Rattle.segments.proofs.Outcomes.{too-long, is-cut, is-lacking, is-empty, is-payload-full, is-script-full, is-read, is-copied}
+use Rattle.parse.proofs.Outcomes.{too-long, is-cut, is-lacking, is-empty, is-payload-full, is-script-full, is-read, is-copied}
 use borrow.Author.Needs.{needs}
-use Rattle.segments.proofs.from_data_with.Statement.{statement}
-use Rattle.segments.proofs.from_data_with.Tie as tie
+use Rattle.parse.proofs.from_data_with.Statement.{statement}
+use Rattle.parse.proofs.from_data_with.Tie as tie
 
 returns : tie.Need-returns
 returns c =

@@ -1,0 +1,3 @@
+-- Laws of Segments from data.
+pub mod Copies
+pub mod Outcomes
