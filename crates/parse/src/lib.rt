@@ -1,9 +1,4 @@
 // Segments from data (000: `parse`): all segments of the data codewords, one after the other.
-use bits::Word;
-use segments::Answer;
-use segments::Count;
-use segments::Place;
-use segments::Step;
 ghost use mathlib.Core.Path.{_≡_};
 ghost use mathlib.Core.List.{_++_};
 ghost use Prim.Native.Nat.{_≤_};
@@ -11,6 +6,11 @@ ghost use lib.ListN.{length, take, drop};
 ghost use Rattle.segments.specs.Segments.{segmentsOf};
 ghost use Rattle.segments.specs.Passes.{Passed};
 ghost use Rattle.segments.specs.FromData.{fromData, told};
+use bits::Word;
+use segments::Answer;
+use segments::Count;
+use segments::Place;
+use segments::Step;
 
 // One pass over the data.
 fn pass(s: &[u8], out: &mut [u8], script: &mut [u8]) -> Count
