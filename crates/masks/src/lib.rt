@@ -1,5 +1,5 @@
 // The mask of a row of a square, with no division for each module (000: `masked`).
-// The loop over a row has no branch and keeps to numbers of 16 bits, so that the compiler takes eight columns at once.
+// The loops over a row have no branch and keep to numbers of 16 bits, so that the compiler takes eight columns at once.
 ghost use mathlib.Core.Path.{_≡_};
 ghost use Prim.Native.Nat.{ℕ, _+_, _*_, _/_, _≤_, _<_};
 ghost use lib.ListN.{length, getD};
@@ -10,14 +10,11 @@ ghost use Rattle.masks.specs.Open.{OpenRows};
 
 mod open;
 
-// What a number is multiplied by in place of a division by j. Only mask 3 divides by columns.
-fn factor(mask: usize, j: usize) -> u16
+// What a number is multiplied by in place of a division by j.
+fn factor(j: usize) -> u16
     requires { ⌜ (0 < j) × (j ≤ 192) ⌝ }
-    ensures { λ r. ⌜ (2 < mask → r ≡ inverse j) ⌝ }
+    ensures { λ r. ⌜ r ≡ inverse j ⌝ }
 {
-    if mask < 3 {
-        return 0;
-    }
     (65535 / j + 1 - 1 / j) as u16
 }
 
@@ -28,8 +25,34 @@ fn rest_of(j: usize) -> u16
     (j % 3 + 1 / j) as u16
 }
 
-// Numbers, factors and rests of the first n columns; mask 0 needs none. Numbers are read from here too: counted in the loop over a row
-// they would be computed in 64 bits.
+// Mask 1 or 2 at row i and column c, both from 0 on.
+fn inverts_low(mask: usize, i: u16, c: u16) -> u16
+    requires { ⌜ (0 < mask) × (mask < 3) × (i < 3) × (c < 192) ⌝ }
+    ensures { λ r. ⌜ r ≡ maskAt mask (i + 1) (c + 1) ⌝ }
+{
+    if mask == 1 {
+        return (i + c + 1) % 2;
+    }
+    (i + 2 + (c + 1) / 3 + (i + c + 2) / 3) % 2
+}
+
+// The first three rows of mask 1 or 2, a third of the table for each: mask 1 repeats after two rows and mask 2 after three.
+fn fill_rows(table: &mut [u16], n: usize, mask: usize)
+    requires { ⌜ (n ≤ 192) × (length (now table) ≡ 576) × (0 < mask) × (mask < 3) ⌝ }
+    ensures { λ _. ⌜ Columns mask n (now (table .exit)) ⌝ }
+{
+    let mut c = 0;
+    while c < n {
+        let j = c as u16;
+        table[192 + c] = inverts_low(mask, 1, j);
+        table[384 + c] = inverts_low(mask, 2, j);
+        table[c] = inverts_low(mask, 0, j);
+        c += 1;
+    }
+}
+
+// What the rows of a mask are taken from, for the first n columns: nothing for mask 0, three rows for masks 1 and 2, and for mask 3 the
+// columns' numbers, factors and rests. Numbers are read from here too: counted in the loop over a row they would be computed in 64 bits.
 pub fn columns(table: &mut [u16], n: usize, mask: usize)
     requires { ⌜ (n ≤ 192) × (length (now table) ≡ 576) ⌝ }
     ensures { λ _. ⌜ Columns mask n (now (table .exit)) ⌝ }
@@ -37,9 +60,13 @@ pub fn columns(table: &mut [u16], n: usize, mask: usize)
     if mask == 0 {
         return;
     }
+    if mask < 3 {
+        fill_rows(table, n, mask);
+        return;
+    }
     let mut c = 0;
     while c < n {
-        table[192 + c] = factor(mask, c + 1);
+        table[192 + c] = factor(c + 1);
         table[384 + c] = rest_of(c + 1);
         table[c] = (c + 1) as u16;
         c += 1;
@@ -61,7 +88,7 @@ fn multiple(a: u16, factor: u16, j: u16) -> u16
 
 // Mask 3: i % j + j % i + i % 3 + j % 3 is even where the lowest bit of this sum without carries is 1.
 fn inverts_three(table: &[u16], i: usize, c: usize) -> u8
-    requires { ⌜ (length (now table) ≡ 576) × (i < 192) × (c < 192) × Column 3 (now table) i × Column 3 (now table) c ⌝ }
+    requires { ⌜ (length (now table) ≡ 576) × (i < 192) × (c < 192) × Column (now table) i × Column (now table) c ⌝ }
     ensures { λ r. ⌜ (r ≡ maskAt 3 (i + 1) (c + 1)) × (r < 2) ⌝ }
 {
     let a = table[i];
@@ -71,20 +98,28 @@ fn inverts_three(table: &[u16], i: usize, c: usize) -> u8
     (((a + table[384 + i] + 1) ^ b ^ table[384 + c] ^ below ^ above) % 2) as u8
 }
 
-// Whether a mask other than 0 inverts (1) the module at row i and column c.
-fn inverts(table: &[u16], mask: usize, i: usize, c: usize) -> u8
-    requires { ⌜ (length (now table) ≡ 576) × (0 < mask) × (i < 192) × (c < 192) × Column mask (now table) i × Column mask (now table) c ⌝ }
-    ensures { λ r. ⌜ (r ≡ maskAt mask (i + 1) (c + 1)) × (r < 2) ⌝ }
+// Which of the first three rows of mask 1 or 2 is the same as row i.
+fn section(mask: usize, i: usize) -> usize
+    requires { ⌜ (0 < mask) × (mask < 3) ⌝ }
+    ensures { λ r. ⌜ (r < 3) × ((j : ℕ) → maskAt mask (r + 1) j ≡ maskAt mask (i + 1) j) ⌝ }
 {
-    let a = table[i];
-    let b = table[c];
     if mask == 1 {
-        return (1 - (a + b) % 2) as u8;
+        return i % 2;
     }
-    if mask == 2 {
-        return ((1 + a + b / 3 + (a + b) / 3) % 2) as u8;
+    i % 3
+}
+
+// A row of mask 1 or 2, from the table's third that has it.
+fn copy_row(row: &mut [u8], table: &[u16], mask: usize, i: usize, from: usize, to: usize)
+    requires { ⌜ (0 < mask) × (mask < 3) × (to ≤ 192) × Columns mask to (now table) × Row mask (now row) ⌝ }
+    ensures { λ _. ⌜ Row mask (now (row .exit)) × ((c : ℕ) → from ≤ c → c < to → getD (now (row .exit)) c 0 ≡ maskAt mask (i + 1) (c + 1)) ⌝ }
+{
+    let at = 192 * section(mask, i);
+    let mut c = from;
+    while c < to {
+        row[c] = table[at + c] as u8;
+        c += 1;
     }
-    inverts_three(table, i, c)
 }
 
 // The mask of row i from one column on and before another; what the other columns hold is not said. A row of mask 0 is zero from the start
@@ -96,9 +131,13 @@ pub fn mask_row(row: &mut [u8], table: &[u16], mask: usize, i: usize, from: usiz
     if mask == 0 {
         return;
     }
+    if mask < 3 {
+        copy_row(row, table, mask, i, from, to);
+        return;
+    }
     let mut c = from;
     while c < to {
-        row[c] = inverts(table, mask, i, c);
+        row[c] = inverts_three(table, i, c);
         c += 1;
     }
 }

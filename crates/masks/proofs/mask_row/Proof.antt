@@ -1,7 +1,8 @@
-use Rattle.masks.proofs.Rows.{Filling, filling-start, filling-next, row-none}
+use Rattle.masks.proofs.Rows.{Filling, filling-start, filling-next, row-none, mask-above}
 use mathlib.Core.Path.{sym, _∙_}
 use Prim.Native.Nat.{_-_, _<_}
 use native.Mathlib.Omega.{arith}
+use borrow.Author.Needs.{needs}
 use Rattle.masks.proofs.mask_row.Statement.{statement}
 use Rattle.masks.proofs.mask_row.Tie as tie
 
@@ -14,29 +15,36 @@ abbrev μ-loop : tie.MeasureT-loop
 returns : tie.Need-returns Inv-loop μ-loop
 returns c = let start = c .before .before .before in (start .pre .4, λ k lo hi. row-none (start .args .i) (start .pre .4) (c .if1 .taken) k)
 
-loop-holds : tie.Need-loop-holds Inv-loop μ-loop
-loop-holds c = filling-start (c .before .before .before .pre .4)
+copy-row-requires : tie.Need-copy-row-requires Inv-loop μ-loop
+copy-row-requires c κs =
+    let start = c .before .before .before .before .before in (omega (arith, c .before .before .if1 .left), c .before .if2 .taken, start .pre .1, start .pre .3, start .pre .4)
 
-inverts-requires : tie.Need-inverts-requires Inv-loop μ-loop
-inverts-requires c κs =
-    let start = c .before .before .before .before .before in
-    let k = c .before .loop .c in
-    let p : 0 < start .args .mask = omega (arith, c .before .before .if1 .left) in
-    (start .pre .2 .size, p, start .pre .0, omega (arith, start .pre .1), start .pre .2 .column p (start .args .i) (omega arith), start .pre .3 .column p k (c .loop-test .taken))
+returns-2 : tie.Need-returns-2 Inv-loop μ-loop
+returns-2 c = c .before .before .copy-row .ensures
+
+loop-holds : tie.Need-loop-holds Inv-loop μ-loop
+loop-holds c = filling-start (c .before .before .before .before .pre .4)
+
+inverts-three-requires : tie.Need-inverts-three-requires Inv-loop μ-loop
+inverts-three-requires c κs =
+    let start = c .before .before .before .before .before .before in
+    let m : 2 < start .args .mask = omega (arith, c .before .before .if2 .left) in
+    (start .pre .2 .size, start .pre .0, omega (arith, start .pre .1), start .pre .2 .column m (start .args .i) (omega arith), start .pre .3 .column m (c .before .loop .c) (c .loop-test .taken))
 
 slice-write-row : tie.Need-slice-write-row Inv-loop μ-loop
-slice-write-row c = omega (arith, c .before .before .loop .inv .row-is .size, c .before .before .before .before .before .before .pre .1)
+slice-write-row c = omega (arith, c .before .before .loop .inv .row-is .size, c .before .before .before .before .before .before .before .pre .1)
 
 loop-again : tie.Need-loop-again Inv-loop μ-loop
 loop-again c =
-    let loop = c .before .before .loop in
-    let start = c .before .before .before .before .before .before in filling-next _ (loop .inv) (omega (arith, c .before .before .before .if1 .left)) (omega (arith, start .pre .1)) (c .inverts .ensures .0) (c .inverts .ensures .1)
+    let start = c .before .before .before .before .before .before .before in
+    let m : 2 < start .args .mask = omega (arith, c .before .before .before .if2 .left) in
+    filling-next _ (c .before .before .loop .inv) (omega (arith, m)) (omega (arith, start .pre .1)) (c .inverts-three .ensures .0 ∙ mask-above (start .args .mask) _ _ m) (c .inverts-three .ensures .1)
 
-same-length : tie.Need-same-length Inv-loop μ-loop
-same-length c = c .before .loop .inv .row-is .size ∙ sym (c .before .before .before .before .before .pre .4 .size)
+same-length-2 : tie.Need-same-length-2 Inv-loop μ-loop
+same-length-2 c = c .before .loop .inv .row-is .size ∙ sym (c .before .before .before .before .before .before .pre .4 .size)
 
-returns-2 : tie.Need-returns-2 Inv-loop μ-loop
-returns-2 c = let loop = c .before .loop in (loop .inv .row-is, λ k lo hi. loop .inv .done k lo (omega arith))
+returns-3 : tie.Need-returns-3 Inv-loop μ-loop
+returns-3 c = let loop = c .before .loop in (loop .inv .row-is, λ k lo hi. loop .inv .done k lo (omega arith))
 
 pub mask-row-spec : {M : Type 1} → statement M
 mask-row-spec =
@@ -45,11 +53,14 @@ mask-row-spec =
     Inv-loop
     μ-loop
     returns
+    copy-row-requires
+    (λ c. search needs)
+    returns-2
     loop-holds
-    inverts-requires
+    inverts-three-requires
     slice-write-row
     (λ c. omega arith)
     (λ c. omega arith)
     loop-again
-    same-length
-    returns-2)
+    same-length-2
+    returns-3)

@@ -1,0 +1,29 @@
+use Rattle.masks.proofs.Rows.{low-one, low-two}
+use mathlib.Core.Path.{_≡_}
+use native.Mathlib.Omega.{arith}
+use borrow.Author.Needs.{needs}
+use Rattle.masks.proofs.inverts_low.Statement.{statement}
+use Rattle.masks.proofs.inverts_low.Tie as tie
+
+returns : tie.Need-returns
+returns c = let start = c .before in low-one (start .args .mask) (start .args .i) (start .args .c) (c .if1 .taken)
+
+returns-2 : tie.Need-returns-2
+returns-2 c =
+    let start = c .before in
+    let m : start .args .mask ≡ 2 = omega (arith, start .pre .0, start .pre .1, c .if1 .left) in low-two (start .args .mask) (start .args .i) (start .args .c) m
+
+pub inverts-low-spec : {M : Type 1} → statement M
+inverts-low-spec =
+    tie.close
+    (tie.spec
+    (λ c. search needs)
+    (λ c. search needs)
+    returns
+    (λ c. search needs)
+    (λ c. search needs)
+    (λ c. search needs)
+    (λ c. search needs)
+    (λ c. search needs)
+    (λ c. search needs)
+    returns-2)
