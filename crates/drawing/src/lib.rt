@@ -175,7 +175,7 @@ fn place_rows(square: &mut [u8], kinds: &[u8], codewords: &[u8], side: usize, ma
     let mut bit = 0;
     let mut i = 0;
     while i < side {
-        masks::mask_row(&mut row, &table, mask, i, 0, columns);
+        masks::mask_row(&mut row, &table, mask, i, columns);
         let at = i * side;
         let end = at + side;
         bit = put_row(&mut square[at..end], &kinds[at..end], &row, codewords, bit);

@@ -124,16 +124,16 @@ repeat-two mask i j m = sym (mask-two mask (i % 3 + 1) j m) ∙ ap (λ (r : ℕ)
     thirds : (i % 3 + 1 + j) % 3 ≡ (i + 1 + j) % 3
     thirds = omega arith
 
--- a row filled from a column on
-pub record Filling (mask i from n : ℕ) (row : List ℕ) : Type 0 where
+-- a row filled before a column
+pub record Filling (mask i n : ℕ) (row : List ℕ) : Type 0 where
   pub row-is : Row mask row
-  pub done : (c : ℕ) → from ≤ c → c < n → getD row c 0 ≡ maskAt mask (i + 1) (c + 1)
+  pub done : (c : ℕ) → c < n → getD row c 0 ≡ maskAt mask (i + 1) (c + 1)
 
-pub filling-start : {mask i from : ℕ} {row : List ℕ} → Row mask row → Filling mask i from from row
-filling-start r = record { row-is = r; done = λ c a h. absurd (omega arith) }
+pub filling-start : {mask i : ℕ} {row : List ℕ} → Row mask row → Filling mask i 0 row
+filling-start r = record { row-is = r; done = λ c h. absurd (omega arith) }
 
-pub filling-next : {mask i from n : ℕ} {row : List ℕ} (x : ℕ) → Filling mask i from n row → 0 < mask → n < 192 → x ≡ maskAt mask (i + 1) (n + 1) → x < 2 → Filling mask i from (n + 1) (set row n x)
-filling-next {mask} {i} {from} {n} {row} x u p h e l =
+pub filling-next : {mask i n : ℕ} {row : List ℕ} (x : ℕ) → Filling mask i n row → 0 < mask → n < 192 → x ≡ maskAt mask (i + 1) (n + 1) → x < 2 → Filling mask i (n + 1) (set row n x)
+filling-next {mask} {i} {n} {row} x u p h e l =
     let same : getD (set row n x) n 0 ≡ x = getD-set-same row n x 0 (omega (arith, u .row-is .size)) in
     record {
       row-is = record {
@@ -144,9 +144,9 @@ filling-next {mask} {i} {from} {n} {row} x u p h e l =
         ];
         none = λ z. absurd (omega arith);
       };
-      done = λ c a k. elim (ℕ-discrete c n) [
+      done = λ c k. elim (ℕ-discrete c n) [
         | yes z ↦ ap (λ (j : ℕ). getD (set row n x) j 0) z ∙ same ∙ e ∙ sym (ap (λ (j : ℕ). maskAt mask (i + 1) (j + 1)) z)
-        | no z ↦ getD-set-other row n c x 0 z ∙ u .done c a (omega arith)
+        | no z ↦ getD-set-other row n c x 0 z ∙ u .done c (omega arith)
       ];
     }
 

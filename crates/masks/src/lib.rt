@@ -109,33 +109,32 @@ fn section(mask: usize, i: usize) -> usize
     i % 3
 }
 
-// A row of mask 1 or 2, from the table's third that has it.
-fn copy_row(row: &mut [u8], table: &[u16], mask: usize, i: usize, from: usize, to: usize)
+// A row of mask 1 or 2 before a column, from the table's third that has it.
+fn copy_row(row: &mut [u8], table: &[u16], mask: usize, i: usize, to: usize)
     requires { ⌜ (0 < mask) × (mask < 3) × (to ≤ 192) × Columns mask to (now table) × Row mask (now row) ⌝ }
-    ensures { λ _. ⌜ Row mask (now (row .exit)) × ((c : ℕ) → from ≤ c → c < to → getD (now (row .exit)) c 0 ≡ maskAt mask (i + 1) (c + 1)) ⌝ }
+    ensures { λ _. ⌜ Row mask (now (row .exit)) × ((c : ℕ) → c < to → getD (now (row .exit)) c 0 ≡ maskAt mask (i + 1) (c + 1)) ⌝ }
 {
     let at = 192 * section(mask, i);
-    let mut c = from;
+    let mut c = 0;
     while c < to {
         row[c] = table[at + c] as u8;
         c += 1;
     }
 }
 
-// The mask of row i from one column on and before another; what the other columns hold is not said. A row of mask 0 is zero from the start
-// and stays so.
-pub fn mask_row(row: &mut [u8], table: &[u16], mask: usize, i: usize, from: usize, to: usize)
+// The mask of row i before a column; what the other columns hold is not said. A row of mask 0 is zero from the start and stays so.
+pub fn mask_row(row: &mut [u8], table: &[u16], mask: usize, i: usize, to: usize)
     requires { ⌜ (i < 192) × (to ≤ 192) × Columns mask (i + 1) (now table) × Columns mask to (now table) × Row mask (now row) ⌝ }
-    ensures { λ _. ⌜ Row mask (now (row .exit)) × ((c : ℕ) → from ≤ c → c < to → getD (now (row .exit)) c 0 ≡ maskAt mask (i + 1) (c + 1)) ⌝ }
+    ensures { λ _. ⌜ Row mask (now (row .exit)) × ((c : ℕ) → c < to → getD (now (row .exit)) c 0 ≡ maskAt mask (i + 1) (c + 1)) ⌝ }
 {
     if mask == 0 {
         return;
     }
     if mask < 3 {
-        copy_row(row, table, mask, i, from, to);
+        copy_row(row, table, mask, i, to);
         return;
     }
-    let mut c = from;
+    let mut c = 0;
     while c < to {
         row[c] = inverts_three(table, i, c);
         c += 1;

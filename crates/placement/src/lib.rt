@@ -195,7 +195,7 @@ fn read_rows(out: &mut [u8], kinds: &[u8], square: &[u8], side: usize, mask: usi
     };
     let mut i = 0;
     while i < side {
-        masks::mask_row(&mut row, &table, mask, i, 0, columns);
+        masks::mask_row(&mut row, &table, mask, i, columns);
         let at = i * side;
         let end = at + side;
         let first = Run {

@@ -83,7 +83,7 @@ loop-again c =
     let put-row = c .before .before .put-row .ensures in (
       mask-row .ensures .0,
       omega (arith, c .before .before .before .before .before .before .before .before .before .before .loop-test .taken),
-      placing-row m (start .args .kinds .now) (mask-row .last .0) (loop .i) (start .args .side) (loop .inv .2) h (λ k l. mask-row .ensures .1 k (omega arith) (omega arith) ∙ row-mask (start .args .mask) (loop .i) (start .args .side) k l) (put-row .0) (put-row .1) refl,
+      placing-row m (start .args .kinds .now) (mask-row .last .0) (loop .i) (start .args .side) (loop .inv .2) h (λ k l. mask-row .ensures .1 k (omega arith) ∙ row-mask (start .args .mask) (loop .i) (start .args .side) k l) (put-row .0) (put-row .1) refl,
     )
 
 same-length : tie.Need-same-length Inv-loop μ-loop

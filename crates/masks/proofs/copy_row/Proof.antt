@@ -6,10 +6,10 @@ use Rattle.masks.proofs.copy_row.Statement.{statement}
 use Rattle.masks.proofs.copy_row.Tie as tie
 
 abbrev Inv-loop : tie.InvT-loop
-Inv-loop row₀ table mask i from to at c₀ row c = Filling mask i from c row
+Inv-loop row₀ table mask i to at c₀ row c = Filling mask i c row
 
 abbrev μ-loop : tie.MeasureT-loop
-μ-loop row₀ table mask i from to at c₀ row c = to - c
+μ-loop row₀ table mask i to at c₀ row c = to - c
 
 section-requires : tie.Need-section-requires Inv-loop μ-loop
 section-requires c κs = let start = c .before .before in (start .pre .0, start .pre .1)
@@ -50,7 +50,7 @@ same-length : tie.Need-same-length Inv-loop μ-loop
 same-length c = c .before .loop .inv .row-is .size ∙ sym (c .before .before .before .before .before .pre .4 .size)
 
 returns : tie.Need-returns Inv-loop μ-loop
-returns c = let loop = c .before .loop in (loop .inv .row-is, λ k lo hi. loop .inv .done k lo (omega arith))
+returns c = let loop = c .before .loop in (loop .inv .row-is, λ k hi. loop .inv .done k (omega arith))
 
 pub copy-row-spec : {M : Type 1} → statement M
 copy-row-spec =

@@ -7,13 +7,13 @@ use Rattle.masks.proofs.mask_row.Statement.{statement}
 use Rattle.masks.proofs.mask_row.Tie as tie
 
 abbrev Inv-loop : tie.InvT-loop
-Inv-loop row₀ table mask i from to c₀ row c = Filling mask i from c row
+Inv-loop row₀ table mask i to c₀ row c = Filling mask i c row
 
 abbrev μ-loop : tie.MeasureT-loop
-μ-loop row₀ table mask i from to c₀ row c = to - c
+μ-loop row₀ table mask i to c₀ row c = to - c
 
 returns : tie.Need-returns Inv-loop μ-loop
-returns c = let start = c .before .before .before in (start .pre .4, λ k lo hi. row-none (start .args .i) (start .pre .4) (c .if1 .taken) k)
+returns c = let start = c .before .before .before in (start .pre .4, λ k hi. row-none (start .args .i) (start .pre .4) (c .if1 .taken) k)
 
 copy-row-requires : tie.Need-copy-row-requires Inv-loop μ-loop
 copy-row-requires c κs =
@@ -44,7 +44,7 @@ same-length-2 : tie.Need-same-length-2 Inv-loop μ-loop
 same-length-2 c = c .before .loop .inv .row-is .size ∙ sym (c .before .before .before .before .before .before .pre .4 .size)
 
 returns-3 : tie.Need-returns-3 Inv-loop μ-loop
-returns-3 c = let loop = c .before .loop in (loop .inv .row-is, λ k lo hi. loop .inv .done k lo (omega arith))
+returns-3 c = let loop = c .before .loop in (loop .inv .row-is, λ k hi. loop .inv .done k (omega arith))
 
 pub mask-row-spec : {M : Type 1} → statement M
 mask-row-spec =

@@ -83,7 +83,7 @@ loop-again c =
     let h : loop .i * start .args .side + start .args .side ≤ length (start .args .square .now) = omega (arith, row-inside (c .before .before .before .before .before .before .before .before .before .before .before .before .loop .i) (c .before .before .before .before .before .before .before .before .before .before .before .before .before .before .before .before .before .before .before .args .side) (c .before .before .before .before .before .before .before .before .before .before .before .loop-test .taken), c .before .before .before .before .before .before .before .before .before .before .before .before .before .before .before .before .before .before .before .pre .3) in
     let mask-row = c .before .before .before .before .before .before .before .before .mask-row .ensures in
     let read-row = c .before .before .read-row .ensures in
-    let turn = rows-turn m ks sq (loop .i) (start .args .side) (start .pre .0 .kinds) h (λ k l. mask-row .1 k (omega arith) (omega arith) ∙ row-mask (start .args .mask) (loop .i) (start .args .side) k l) refl (read-row .1) (read-row .2) (walk-again refl refl refl (loop .inv .3)) in
+    let turn = rows-turn m ks sq (loop .i) (start .args .side) (start .pre .0 .kinds) h (λ k l. mask-row .1 k (omega arith) ∙ row-mask (start .args .mask) (loop .i) (start .args .side) k l) refl (read-row .1) (read-row .2) (walk-again refl refl refl (loop .inv .3)) in
     (mask-row .0, read-row .0, omega (arith, c .before .before .before .before .before .before .before .before .before .before .before .loop-test .taken), turn)
 
 same-length : tie.Need-same-length Inv-loop μ-loop
