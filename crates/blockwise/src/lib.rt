@@ -1,17 +1,15 @@
-// Blocks corrected and made, one after the other (document 01, "Blocks"). The row of the version and level is lent: three batches of count,
-// data, parity.
+// Blocks corrected, and their data gathered, one after the other (document 01, "Blocks"). The row of the version and level is lent: three
+// batches of count, data, parity. The crate `block_writer` makes blocks of data.
 ghost use mathlib.Core.Path.{_≡_};
 ghost use mathlib.Core.Bool.{true};
 ghost use mathlib.Core.List.{_++_};
-ghost use Prim.Native.Nat.{_+_, _-_, _*_, _≤_, _<_};
+ghost use Prim.Native.Nat.{_+_, _*_, _≤_, _<_};
 ghost use lib.Dec.{T};
 ghost use lib.ListN.{length, take, drop, getD};
-ghost use Rattle.reed_solomon.specs.Block.{parityOf};
 ghost use Rattle.remainder.specs.Words.{Prepared};
-ghost use Rattle.parity.specs.Encode.{withParity};
 ghost use Rattle.blocks.specs.Blocks.{batchHolds, rowLength, rowHolds, batch, shapes, totalSize, totalData, cut, joined, dataParts};
-ghost use Rattle.blockwise.specs.Blockwise.{corrected, refusalOf, countOf, blocksOf, streamOf, numberOf, correctionsOf};
-ghost use Rattle.blockwise.specs.Inner.{batchAt, batches, spliced, answerOf, Corrects, Writes, Gathers};
+ghost use Rattle.blockwise.specs.Blockwise.{corrected, refusalOf, countOf, blocksOf, numberOf, correctionsOf};
+ghost use Rattle.blockwise.specs.Inner.{batchAt, batches, spliced, answerOf, Corrects, Gathers};
 use corrector::Correction;
 
 // What became of the blocks: the count of all corrections, or the refusal 6 of document 01.
@@ -21,7 +19,7 @@ pub enum Blocks {
 }
 
 // The number at the place n of a row.
-fn number(row: &[u8], n: usize) -> usize
+pub fn number(row: &[u8], n: usize) -> usize
     requires { ⌜ (length (now row) ≡ 9) × (n < 9) ⌝ }
     ensures { λ r. ⌜ (r ≡ getD (now (row .entry)) n 0) × (r ≤ 255) ⌝ }
 {
@@ -29,7 +27,7 @@ fn number(row: &[u8], n: usize) -> usize
 }
 
 // Whether batch k of the row is one short block: a table for it would cost more than it saves.
-fn is_one_short(row: &[u8], k: usize) -> bool
+pub fn is_one_short(row: &[u8], k: usize) -> bool
     requires { ⌜ (length (now row) ≡ 9) × (k < 3) ⌝ }
     ensures { λ b. ⌜ (b ≡ true → getD (now (row .entry)) (3 * k) 0 ≡ 1) ⌝ }
 {
@@ -146,7 +144,7 @@ fn batch_data(row: &[u8], k: usize) -> usize
 }
 
 // Where batch k of the row begins in the stream.
-fn length_before(row: &[u8], k: usize) -> usize
+pub fn length_before(row: &[u8], k: usize) -> usize
     requires { ⌜ (length (now row) ≡ 9) × (k ≤ 3) ⌝ }
     ensures { λ r. ⌜ r ≡ totalSize (batches k (now (row .entry))) ⌝ }
 {
@@ -160,7 +158,7 @@ fn length_before(row: &[u8], k: usize) -> usize
 }
 
 // Where it begins in the data.
-fn data_before(row: &[u8], k: usize) -> usize
+pub fn data_before(row: &[u8], k: usize) -> usize
     requires { ⌜ (length (now row) ≡ 9) × (k ≤ 3) ⌝ }
     ensures { λ r. ⌜ r ≡ totalData (batches k (now (row .entry))) ⌝ }
 {
@@ -174,7 +172,7 @@ fn data_before(row: &[u8], k: usize) -> usize
 }
 
 // n bytes of src, from the place `from` on, written to dst from the place `to` on.
-fn copy(dst: &mut [u8], to: usize, src: &[u8], from: usize, n: usize)
+pub fn copy(dst: &mut [u8], to: usize, src: &[u8], from: usize, n: usize)
     requires { ⌜ (to + n ≤ length (now dst)) × (from + n ≤ length (now src)) ⌝ }
     ensures { λ _. ⌜ now (dst .exit) ≡ spliced to n (take n (drop from (now (src .entry)))) (now (dst .entry)) ⌝ }
 {
@@ -223,91 +221,4 @@ pub fn gather_data(out: &mut [u8], stream: &[u8], row: &[u8]) -> usize
         k += 1;
     }
     data_before(row, 3)
-}
-
-// Data at the front of a block, and their parity behind them.
-fn write_block(rows: &[u64], block: &mut [u8], info: &[u8])
-    requires { ⌜ (length (now info) ≤ length (now block)) × (length (now block) ≤ 255) × Prepared (length (now block) - length (now info)) (now rows) × (0 < length (now info)) ⌝ }
-    ensures { λ _. ⌜ now (block .exit) ≡ withParity (now (info .entry)) (parityOf 0x163 1 (length (now (block .entry)) - length (now (info .entry))) (now (info .entry))) ⌝ }
-{
-    let n = info.len();
-    copy(block, 0, info, 0, n);
-    parity::write_with(rows, block, n);
-}
-
-// The blocks of batch k of the row. The table for their parity is made once for all of them.
-fn write_many(stream: &mut [u8], data: &[u8], row: &[u8], k: usize)
-    requires { ⌜ (length (now row) ≡ 9) × (k < 3) × T (rowHolds (now row) (rowLength (now row))) × (rowLength (now row) ≤ length (now stream)) × (totalData (shapes (now row)) ≤ length (now «data»)) ⌝ }
-    ensures { λ _. ⌜ Writes (batchAt (now (row .entry)) k) (totalSize (batches k (now (row .entry)))) (drop (totalData (batches k (now (row .entry)))) (now («data» .entry))) (now (stream .entry)) (now (stream .exit)) ⌝ }
-{
-    let count = number(row, 3 * k);
-    if count == 0 {
-        return;
-    }
-    let info = number(row, 3 * k + 1);
-    let parity = number(row, 3 * k + 2);
-    let mut rows = [0u64; 512];
-    remainder::prepare(&mut rows, parity);
-    let mut at = data_before(row, k);
-    let mut from = length_before(row, k);
-    let mut i: usize = 0;
-    while i < count {
-        write_block(
-            &rows,
-            &mut stream[from..from + (info + parity)],
-            &data[at..at + info],
-        );
-        at += info;
-        from += info + parity;
-        i += 1;
-    }
-}
-
-// Data at the front of a short block, and their parity behind them.
-fn write_short_block(block: &mut [u8], info: &[u8])
-    requires { ⌜ (length (now info) ≤ length (now block)) × (length (now block) ≤ 255) × (0 < length (now info)) ⌝ }
-    ensures { λ _. ⌜ now (block .exit) ≡ withParity (now (info .entry)) (parityOf 0x163 1 (length (now (block .entry)) - length (now (info .entry))) (now (info .entry))) ⌝ }
-{
-    let n = info.len();
-    copy(block, 0, info, 0, n);
-    parity::write_short(block, n);
-}
-
-// The only block of batch k of the row, which is short.
-fn write_one(stream: &mut [u8], data: &[u8], row: &[u8], k: usize)
-    requires { ⌜ (length (now row) ≡ 9) × (k < 3) × T (rowHolds (now row) (rowLength (now row))) × (rowLength (now row) ≤ length (now stream)) × (totalData (shapes (now row)) ≤ length (now «data»)) × (getD (now row) (3 * k) 0 ≡ 1) ⌝ }
-    ensures { λ _. ⌜ Writes (batchAt (now (row .entry)) k) (totalSize (batches k (now (row .entry)))) (drop (totalData (batches k (now (row .entry)))) (now («data» .entry))) (now (stream .entry)) (now (stream .exit)) ⌝ }
-{
-    let info = number(row, 3 * k + 1);
-    let parity = number(row, 3 * k + 2);
-    let at = data_before(row, k);
-    let from = length_before(row, k);
-    write_short_block(
-        &mut stream[from..from + (info + parity)],
-        &data[at..at + info],
-    );
-}
-
-// The blocks of batch k of the row.
-fn write_batch(stream: &mut [u8], data: &[u8], row: &[u8], k: usize)
-    requires { ⌜ (length (now row) ≡ 9) × (k < 3) × T (rowHolds (now row) (rowLength (now row))) × (rowLength (now row) ≤ length (now stream)) × (totalData (shapes (now row)) ≤ length (now «data»)) ⌝ }
-    ensures { λ _. ⌜ Writes (batchAt (now (row .entry)) k) (totalSize (batches k (now (row .entry)))) (drop (totalData (batches k (now (row .entry)))) (now («data» .entry))) (now (stream .entry)) (now (stream .exit)) ⌝ }
-{
-    if is_one_short(row, k) {
-        write_one(stream, data, row, k);
-        return;
-    }
-    write_many(stream, data, row, k);
-}
-
-// The stream of data codewords: each block's data followed by their parity.
-pub fn write_blocks(stream: &mut [u8], data: &[u8], row: &[u8])
-    requires { ⌜ (length (now row) ≡ 9) × T (rowHolds (now row) (rowLength (now row))) × (rowLength (now row) ≤ length (now stream)) × (totalData (shapes (now row)) ≤ length (now «data»)) ⌝ }
-    ensures { λ _. ⌜ now (stream .exit) ≡ streamOf (shapes (now (row .entry))) (now («data» .entry)) ++ drop (rowLength (now (row .entry))) (now (stream .entry)) ⌝ }
-{
-    let mut k: usize = 0;
-    while k < 3 {
-        write_batch(stream, data, row, k);
-        k += 1;
-    }
 }

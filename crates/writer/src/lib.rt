@@ -72,7 +72,7 @@ fn encode_stream(stream: &mut [u8], data: &mut [u8], row: &[u8], script: &[u8], 
     ensures { λ _. ⌜ take (rowLength (now (row .entry))) (now (stream .exit)) ≡ streamOf (shapes (now (row .entry))) (encoded (totalData (shapes (now (row .entry)))) (commandsOf (now (script .entry)) (now (payload .entry)))) ⌝ }
 {
     encoding::encode(script, payload, data);
-    blockwise::write_blocks(stream, data, row);
+    block_writer::write_blocks(stream, data, row);
 }
 
 // A stream in the data modules of a square; the information modules are light. The codewords are put in order in a lent buffer.

@@ -1,11 +1,11 @@
 -- `write_blocks` meets its contract: one batch more in each turn. Assumes nothing.
 use Prim.Native.Nat.{_-_, _≤_}
 use native.Mathlib.Omega.{arith}
 use Rattle.blockwise.specs.Inner.{batches, Writes}
 use Rattle.blockwise.proofs.Makes.{writes-none, writes-batch, writes-row}
 use borrow.Author.Needs.{needs}
-use Rattle.blockwise.proofs.write_blocks.Statement.{statement}
-use Rattle.blockwise.proofs.write_blocks.Tie as tie
+use Rattle.block_writer.proofs.write_blocks.Statement.{statement}
+use Rattle.block_writer.proofs.write_blocks.Tie as tie
 
 abbrev Inv-loop : tie.InvT-loop
 Inv-loop stream₀ «data» row k₀ stream k = (k ≤ 3) × Writes (batches k row) 0 «data» stream₀ stream

@@ -1,10 +1,10 @@
 -- `write_block` meets its contract: data at the front, then their parity. Assumes nothing.
 use Prim.Native.Nat.{_-_}
 use native.Mathlib.Omega.{arith}
 use Rattle.blockwise.proofs.Makes.{front-written, prepared-as}
 use borrow.Author.Needs.{needs}
-use Rattle.blockwise.proofs.write_block.Statement.{statement}
-use Rattle.blockwise.proofs.write_block.Tie as tie
+use Rattle.block_writer.proofs.write_block.Statement.{statement}
+use Rattle.block_writer.proofs.write_block.Tie as tie
 
 copy-requires : tie.Need-copy-requires
 copy-requires c κs = search needs

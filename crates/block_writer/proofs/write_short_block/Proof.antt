@@ -1,9 +1,9 @@
 -- `write_short_block` meets its contract: data at the front, then their parity. Assumes nothing.
 use native.Mathlib.Omega.{arith}
 use borrow.Author.Needs.{needs}
 use Rattle.blockwise.proofs.Makes.{front-written}
-use Rattle.blockwise.proofs.write_short_block.Statement.{statement}
-use Rattle.blockwise.proofs.write_short_block.Tie as tie
+use Rattle.block_writer.proofs.write_short_block.Statement.{statement}
+use Rattle.block_writer.proofs.write_short_block.Tie as tie
 
 returns : tie.Need-returns
 returns c =

@@ -1,7 +1,7 @@
 -- `write_batch` meets its contract: with a table or without. Assumes nothing.
 use borrow.Author.Needs.{needs}
-use Rattle.blockwise.proofs.write_batch.Statement.{statement}
-use Rattle.blockwise.proofs.write_batch.Tie as tie
+use Rattle.block_writer.proofs.write_batch.Statement.{statement}
+use Rattle.block_writer.proofs.write_batch.Tie as tie
 
 write-one-requires : tie.Need-write-one-requires
 write-one-requires c κs =

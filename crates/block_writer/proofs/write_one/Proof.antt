@@ -3,10 +3,10 @@ use mathlib.Core.Path.{refl}
 use Prim.Native.Nat.{_+_}
 use native.Mathlib.Omega.{arith}
 use borrow.Author.Needs.{needs}
 use Rattle.blockwise.proofs.Batches.{row-batch, only-is, only-fit}
 use Rattle.blockwise.proofs.Makes.{only-room, part-length, one-written, only-written}
-use Rattle.blockwise.proofs.write_one.Statement.{statement}
-use Rattle.blockwise.proofs.write_one.Tie as tie
+use Rattle.block_writer.proofs.write_one.Statement.{statement}
+use Rattle.block_writer.proofs.write_one.Tie as tie
 
 add-write-short-block-2 : tie.Need-add-write-short-block-2
 add-write-short-block-2 c =

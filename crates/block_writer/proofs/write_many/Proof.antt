@@ -5,12 +5,12 @@ use native.Mathlib.Omega.{arith}
 use lib.ListN.{length, take, drop}
 use Rattle.reed_solomon.proofs.Massey.{zeros}
 use Rattle.blocks.specs.Blocks.{batch, totalSize, totalData}
 use Rattle.blockwise.specs.Inner.{batches, Writes}
 use Rattle.blockwise.proofs.Batches.{batch-is, numbers-fit, row-batch}
 use Rattle.blockwise.proofs.Makes.{writes-none, writes-zero, stream-room, data-room, part-length, one-written, prepared-as, writes-next, writes-end}
 use borrow.Author.Needs.{needs}
-use Rattle.blockwise.proofs.write_many.Statement.{statement}
-use Rattle.blockwise.proofs.write_many.Tie as tie
+use Rattle.block_writer.proofs.write_many.Statement.{statement}
+use Rattle.block_writer.proofs.write_many.Tie as tie
 
 abbrev Inv-loop : tie.InvT-loop
 Inv-loop stream₀ «data» row k count info parity rows at₀ from₀ i₀ stream at from i = (i ≤ count) × (at ≡ totalData (batches k row) + i * info) × (from ≡ totalSize (batches k row) + i * (info + parity)) × Writes (batch i info parity) (totalSize (batches k row)) (drop (totalData (batches k row)) «data») stream₀ stream
