@@ -24,8 +24,8 @@ use Rattle.squares.proofs.Refusals.{true-unless, false-unless, unless-true, unl
 use Rattle.squares.proofs.Modules.{modules-below}
 use Rattle.squares.proofs.Marks.{Ranges, ranges, version-is}
 use Rattle.squares.proofs.Starts.{in-body, no-receipt, in-refusal, side-range, side-back, level-range, mask-range}
-use Rattle.reader.specs.declared.Mark.{Mark}
-use Rattle.reader.specs.Inner.{Fitting, bodyOr1}
+use Rattle.receipts.specs.declared.Mark.{Mark}
+use Rattle.telling.specs.Inner.{Fitting, bodyOr1}
 use Rattle.reader.specs.Inner as near
 
 -- ---- two refusals, and others behind them

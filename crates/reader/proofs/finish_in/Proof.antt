@@ -1,5 +1,5 @@
 -- `finish_in` meets its contract. Assumes nothing.
-use Rattle.reader.proofs.Body.{finished}
+use Rattle.telling.proofs.Body.{finished}
 use borrow.Author.Needs.{needs}
 use Rattle.reader.proofs.finish_in.Statement.{statement}
 use Rattle.reader.proofs.finish_in.Tie as tie

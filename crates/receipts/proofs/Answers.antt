@@ -1,0 +1,83 @@
+-- What is told of an answer, and of an outcome. Assumes nothing.
+use mathlib.Core.Path.{_≡_, refl, sym, ap, subst, _∙_}
+use mathlib.Core.Logic.{inl, inr}
+use mathlib.Core.Bool.{Bool, true, false, cond}
+use mathlib.Core.List.{List, _++_}
+use Prim.Native.Nat.{ℕ, _+_, _-_, _≤_, _<_}
+use lib.Dec.{ltb, eqb}
+use lib.ListN.{length, take, drop, length-append, length-drop}
+use lib.Seq.{take-at}
+use native.Mathlib.Omega.{arith}
+use Rattle.segments.specs.declared.Answer.{Answer}
+use Rattle.segments.specs.declared.Answer.the-variants.{Read}
+use Rattle.segments.specs.Script.{Segment, payloadOf, scriptOf}
+use Rattle.segments.specs.Segments.{Result, cut, lacking, got, segmentsOf}
+use Rattle.segments.specs.FromData.{Outcome, refusalOf, payloadLengthOf, scriptLengthOf, told, refused, given, givenOr7, fromData}
+use Rattle.segments.proofs.Theorems.{room-enough}
+use Rattle.receipts.specs.declared.Told.{Told}
+use Rattle.receipts.specs.Inner.{Refuses, Answers, Tells}
+
+pub answers-read : (a : Answer) (p s n : ℕ) (t : Told) → a ≡ Read p s → t .number ≡ 0 → t .count ≡ n → t .payload ≡ p → t .script ≡ s → Answers a n t
+answers-read a p s n t e f g h k = subst (λ (b : Answer). Answers b n t) (sym e) (record { number = f; count = inr g; zero = λ z. g; payload = h; script = k })
+
+pub answers-refused : (b a : Answer) (n : ℕ) (t : Told) → a ≡ b → (refusalOf b ≡ 0 → ⊥) → payloadLengthOf b ≡ 0 → scriptLengthOf b ≡ 0
+    → Refuses (refusalOf b) t → Answers a n t
+answers-refused b a n t e d f g R =
+    subst (λ (b : Answer). Answers b n t) (sym e)
+    (record {
+      number = R .number;
+      count = inl (R .count);
+      zero = λ z. absurd (d (sym (R .number) ∙ z));
+      payload = R .payload ∙ sym f;
+      script = R .script ∙ sym g;
+    })
+
+-- the numbers of an outcome are small
+pub record Little (o : Outcome) : Type 0 where
+  pub number : o .refusal < 256
+  pub payload : o .payloadLength < 65536
+  pub script : o .scriptLength < 65536
+
+little-refused : (k : ℕ) (p c : List ℕ) → k < 256 → Little (refused k p c)
+little-refused k p c h = record { number = h; payload = omega arith; script = omega arith }
+
+little-if : (b : Bool) (o q : Outcome) → Little o → Little q → Little (cond b o q)
+little-if true o q l m = l
+little-if false o q l m = m
+
+little-given : (gs : List Segment) (p c : List ℕ) → length (payloadOf gs) ≤ 12288 → length (scriptOf gs) ≤ 12288 → Little (given gs p c)
+little-given gs p c h k =
+    little-if (eqb (length (payloadOf gs)) 0) _ _ (little-refused 8 p c (omega arith))
+    (little-if (ltb (length p) (length (payloadOf gs))) _ _ (little-refused 9 p c (omega arith))
+    (little-if (ltb (length c) (length (scriptOf gs))) _ _ (little-refused 10 p c (omega arith))
+    (record { number = omega arith; payload = omega arith; script = omega arith })))
+
+little-or7 : (s : List ℕ) (r : Result (List Segment)) (p c : List ℕ) → length s ≤ 3886 → segmentsOf s ≡ r → Little (givenOr7 r p c)
+little-or7 s cut p c h e = little-refused 7 p c (omega arith)
+little-or7 s lacking p c h e = little-refused 7 p c (omega arith)
+little-or7 s (got gs u) p c h e = little-given gs p c (room-enough s gs u h e .0) (room-enough s gs u h e .1)
+
+pub from-data-little : (s p c : List ℕ) → length s ≤ 3886 → Little (fromData s p c)
+from-data-little s p c h = little-if (ltb 3886 (length s)) _ _ (little-refused 2 p c (omega arith)) (little-or7 s (segmentsOf s) p c h refl)
+
+-- what is told of the answer is told of the outcome
+pub tells : (n : ℕ) (a : Answer) (t : Told) (d p₀ s₀ p s : List ℕ) (m : ℕ) → n < 65536 → length d ≡ m → m ≤ 3886 → Answers a n t → told a p s ≡ fromData d p₀ s₀
+    → Tells n (fromData d p₀ s₀) t p s
+tells n a t d p₀ s₀ p s m h k k′ A e =
+    let l = subst Little (sym e) (from-data-little d p₀ s₀ (omega arith)) in
+    record {
+      outcome = sym e ∙ (λ i. record { refusal = sym (A .number) i; payloadLength = sym (A .payload) i; scriptLength = sym (A .script) i; payload = p; script = s });
+      count = A .zero;
+      small = record {
+        number = subst (λ (x : ℕ). x < 256) (sym (A .number)) (l .number);
+        count = elim (A .count) [ inl z ↦ omega (arith, z) | inr z ↦ omega (arith, z) ];
+        payload = subst (λ (x : ℕ). x < 65536) (sym (A .payload)) (l .payload);
+        script = subst (λ (x : ℕ). x < 65536) (sym (A .script)) (l .script);
+      };
+    }
+
+-- n data at the front of a buffer
+pub gathered : (n : ℕ) (d was buffer : List ℕ) → buffer ≡ d ++ drop n was → n ≤ length was → length buffer ≡ length was → (length d ≡ n) × (take n buffer ≡ d)
+gathered n d was buffer e h k =
+    let l : length d ≡ n = omega (arith, ap length e, length-append d (drop n was), length-drop n was) in
+    (l, ap (take n) e ∙ take-at d (drop n was) n l)

@@ -1,0 +1,3 @@
+-- Laws of the receipt and of what is told.
+pub mod Receipts
+pub mod Answers

@@ -1,0 +1,55 @@
+-- `put` meets its contract. Assumes nothing.
+use mathlib.Core.Path.{refl}
+use Prim.Native.Nat.{_≤_, _-_}
+use Rattle.reed_solomon.specs.Inner.{Each, copied}
+use Rattle.reed_solomon.proofs.Each.{each-start, each-next}
+use Rattle.receipts.proofs.Receipts.{put-end}
+use borrow.Author.Needs.{needs}
+use native.Mathlib.Omega.{arith}
+use Rattle.receipts.proofs.put.Statement.{statement}
+use Rattle.receipts.proofs.put.Tie as tie
+
+abbrev Inv-loop : tie.InvT-loop
+Inv-loop receipt₀ bytes i₀ receipt i = Each (copied bytes) i receipt₀ receipt × (i ≤ 12)
+
+abbrev μ-loop : tie.MeasureT-loop
+μ-loop receipt₀ bytes i₀ receipt i = 12 - i
+
+loop-holds : tie.Need-loop-holds Inv-loop μ-loop
+loop-holds c = (each-start _ _, omega arith)
+
+element-copy-out-receipt : tie.Need-element-copy-out-receipt Inv-loop μ-loop
+element-copy-out-receipt c = search needs
+
+slice-write-receipt : tie.Need-slice-write-receipt Inv-loop μ-loop
+slice-write-receipt c = omega (arith, c .before .before .loop .inv .0 .size)
+
+add-i : tie.Need-add-i Inv-loop μ-loop
+add-i c = search needs
+
+loop-less : tie.Need-loop-less Inv-loop μ-loop
+loop-less c = search needs
+
+loop-again : tie.Need-loop-again Inv-loop μ-loop
+loop-again c = (each-next _ _ _ _ _ (c .before .before .loop .inv .0) (omega arith) refl, omega arith)
+
+same-length : tie.Need-same-length Inv-loop μ-loop
+same-length c = c .before .loop .inv .0 .size
+
+returns : tie.Need-returns Inv-loop μ-loop
+returns c = put-end _ _ _ _ (c .before .loop .inv .0) (omega arith) (c .before .before .pre .0) (c .before .before .pre .1)
+
+pub put-spec : {M : Type 1} → statement M
+put-spec =
+    tie.close
+    (tie.spec
+    Inv-loop
+    μ-loop
+    loop-holds
+    element-copy-out-receipt
+    slice-write-receipt
+    add-i
+    loop-less
+    loop-again
+    same-length
+    returns)

@@ -1,0 +1,81 @@
+-- `told_of` meets its contract. Assumes nothing.
+use mathlib.Core.Path.{refl}
+use Rattle.segments.specs.declared.Answer.the-variants.{TooLong, Broken, Empty, PayloadFull, ScriptFull}
+use Rattle.receipts.proofs.Answers.{answers-read, answers-refused}
+use native.Mathlib.Omega.{arith}
+use borrow.Author.Needs.{needs}
+use Rattle.receipts.proofs.told_of.Statement.{statement}
+use Rattle.receipts.proofs.told_of.Tie as tie
+
+enum-known-answer : tie.Need-enum-known-answer
+enum-known-answer c = search needs
+
+enum-told : tie.Need-enum-told
+enum-told c = search needs
+
+refused-requires : tie.Need-refused-requires
+refused-requires c κs = search needs
+
+enum-told-2 : tie.Need-enum-told-2
+enum-told-2 c = search needs
+
+refused-requires-2 : tie.Need-refused-requires-2
+refused-requires-2 c κs = search needs
+
+enum-told-3 : tie.Need-enum-told-3
+enum-told-3 c = search needs
+
+refused-requires-3 : tie.Need-refused-requires-3
+refused-requires-3 c κs = search needs
+
+enum-told-4 : tie.Need-enum-told-4
+enum-told-4 c = search needs
+
+refused-requires-4 : tie.Need-refused-requires-4
+refused-requires-4 c κs = search needs
+
+enum-told-5 : tie.Need-enum-told-5
+enum-told-5 c = search needs
+
+refused-requires-5 : tie.Need-refused-requires-5
+refused-requires-5 c κs = search needs
+
+returns : tie.Need-returns
+returns c = answers-read _ _ _ _ _ (c .before .answer .given .1) refl refl refl refl
+
+returns-2 : tie.Need-returns-2
+returns-2 c = answers-refused TooLong _ _ _ (c .before .enum-told .given .1) (λ n. omega arith) refl refl (c .refused .ensures)
+
+returns-3 : tie.Need-returns-3
+returns-3 c = answers-refused Broken _ _ _ (c .before .enum-told2 .given .1) (λ n. omega arith) refl refl (c .refused2 .ensures)
+
+returns-4 : tie.Need-returns-4
+returns-4 c = answers-refused Empty _ _ _ (c .before .enum-told3 .given .1) (λ n. omega arith) refl refl (c .refused3 .ensures)
+
+returns-5 : tie.Need-returns-5
+returns-5 c = answers-refused PayloadFull _ _ _ (c .before .enum-told4 .given .1) (λ n. omega arith) refl refl (c .refused4 .ensures)
+
+returns-6 : tie.Need-returns-6
+returns-6 c = answers-refused ScriptFull _ _ _ (c .before .enum-told5 .given .1) (λ n. omega arith) refl refl (c .refused5 .ensures)
+
+pub told-of-spec : {M : Type 1} → statement M
+told-of-spec =
+    tie.close
+    (tie.spec
+    enum-known-answer
+    enum-told
+    refused-requires
+    enum-told-2
+    refused-requires-2
+    enum-told-3
+    refused-requires-3
+    enum-told-4
+    refused-requires-4
+    enum-told-5
+    refused-requires-5
+    returns
+    returns-2
+    returns-3
+    returns-4
+    returns-5
+    returns-6)

@@ -1,0 +1,2 @@
+-- Laws of what is told of a square.
+pub mod Body

@@ -1,0 +1,58 @@
+-- `tell_blocks` meets its contract. Assumes nothing.
+use native.Mathlib.Omega.{arith}
+use Rattle.blocks.proofs.Rows.{total-small, total-ten}
+use Rattle.telling.proofs.Body.{ranged}
+use borrow.Author.Needs.{needs}
+use Rattle.telling.proofs.tell_blocks.Statement.{statement}
+use Rattle.telling.proofs.tell_blocks.Tie as tie
+
+read-stream-requires : tie.Need-read-stream-requires
+read-stream-requires c κs =
+    let a = c .before .before .before .before .before .before .before .before .pre in
+    (a .0, a .1, a .2, omega (arith, total-ten _ (a .0 .low) (c .before .before .if1 .taken)))
+
+tell-stream-requires : tie.Need-tell-stream-requires
+tell-stream-requires c κs =
+    let a = c .before .before .before .before .before .before .before .before .before .before .before .before .before .before .pre in
+    (ranged _ _ (a .0), omega (arith, total-ten _ (a .0 .low) (c .before .before .before .before .before .before .before .before .if1 .taken)))
+
+returns : tie.Need-returns
+returns c =
+    let t = c .before .before .before .before .before .before .before .tell-stream .ensures in
+    (t .reading _ (c .before .before .before .before .before .before .before .before .before .before .before .before .before .read-stream .ensures), t .small)
+
+read-stream-requires-2 : tie.Need-read-stream-requires-2
+read-stream-requires-2 c κs =
+    let a = c .before .before .before .before .before .before .before .before .pre in
+    (a .0, a .1, a .2, omega (arith, total-small _ (a .0 .low) (a .0 .high)))
+
+tell-stream-requires-2 : tie.Need-tell-stream-requires-2
+tell-stream-requires-2 c κs =
+    let a = c .before .before .before .before .before .before .before .before .before .before .before .before .before .before .pre in
+    (ranged _ _ (a .0), omega (arith, total-small _ (a .0 .low) (a .0 .high)))
+
+returns-2 : tie.Need-returns-2
+returns-2 c =
+    let t = c .before .before .before .before .before .before .before .tell-stream2 .ensures in
+    (t .reading _ (c .before .before .before .before .before .before .before .before .before .before .before .before .before .read-stream2 .ensures), t .small)
+
+pub tell-blocks-spec : {M : Type 1} → statement M
+tell-blocks-spec =
+    tie.close
+    (tie.spec
+    (λ c. search needs)
+    read-stream-requires
+    (λ c. search needs)
+    tell-stream-requires
+    (λ c. search needs)
+    (λ c. search needs)
+    (λ c. search needs)
+    returns
+    (λ c. search needs)
+    read-stream-requires-2
+    (λ c. search needs)
+    tell-stream-requires-2
+    (λ c. search needs)
+    (λ c. search needs)
+    (λ c. search needs)
+    returns-2)
