@@ -1,12 +1,12 @@
 -- The syndromes of a block, byte by byte. Assumes nothing.
-use mathlib.Core.Path.{_≡_, refl, sym, ap, ap₂, _∙_}
+use mathlib.Core.Path.{_≡_, sym, ap, ap₂, _∙_}
 use mathlib.Core.List.{List}
 use mathlib.Core.Logic.{inl, inr}
 use Prim.Native.Nat.{ℕ, suc, _+_, _*_, _≤_, _<_}
 use native.Mathlib.Omega.{arith}
 use native.Mathlib.Numerals.{add-one}
 use native.Mathlib.Decide.{decLt}
-use lib.ListN.{length, replicate}
+use lib.ListN.{length}
 use Rattle.field.specs.Field.{power, mul}
 use Rattle.field.proofs.Field.{Passes, mul-lt, mul-assoc, mul-power, power-period, sum-lt}
 use Rattle.field.proofs.Field.{mul-sum as sum-mul}
@@ -15,7 +15,6 @@ use Rattle.algebra.specs.Sum.{_⊕_, seq, horner}
 use Rattle.reed_solomon.specs.Inner.{Each, advanced, advancedTwo, Reduced, Syndromes}
 use Rattle.reed_solomon.proofs.Search.{Bytes}
 use Rattle.reed_solomon.proofs.Codeword.{eval-horner}
-use Rattle.reed_solomon.proofs.Massey.{zeros}
 
 -- after i bytes
 pub record Running (poly first parity : ℕ) (block : List ℕ) (i : ℕ) (s : List ℕ) : Type 0 where
@@ -23,9 +22,9 @@ pub record Running (poly first parity : ℕ) (block : List ℕ) (i : ℕ) (s : L
   pub bytes : Bytes s
   pub are : (j : ℕ) → j < parity → seq s j ≡ horner poly (seq block) (power poly (first + j)) i
 
-pub running-start : (poly first parity : ℕ) (block : List ℕ) → Running poly first parity block 0 (replicate 256 0)
+pub running-start : (poly first parity : ℕ) (block s : List ℕ) → length s ≡ 256 → ((i : ℕ) → seq s i ≡ 0) → Running poly first parity block 0 s
 unfolding horner
-running-start poly first parity block = record { size = refl; bytes = λ j. omega (arith, zeros 256 j); are = λ j h. zeros 256 j }
+running-start poly first parity block s e z = record { size = e; bytes = λ j. omega (arith, z j); are = λ j h. z j }
 
 pub running-next : (poly : ℕ) → Passes poly → (first parity : ℕ) (block : List ℕ) (i byte : ℕ) (s s′ : List ℕ) → Running poly first parity block i s
     → Each (advanced poly first byte) parity s s′ → byte ≡ seq block i → byte < 256 → Running poly first parity block (i + 1) s′

@@ -1,7 +1,7 @@
 // The values of a block at the roots of its code (001: `syndromes`).
 ghost use mathlib.Core.Path.{_≡_};
 ghost use Prim.Native.Nat.{ℕ, _+_, _≤_, _<_};
-ghost use lib.ListN.{length};
+ghost use lib.ListN.{length, getD};
 ghost use Rattle.field.specs.Table.{Field, polyOf};
 ghost use Rattle.reed_solomon.specs.Inner.{Each, advanced, advancedTwo, Reduced, Syndromes, isClean};
 
@@ -41,23 +41,22 @@ fn advance_two(field: &[u16; 1280], first: usize, s: &mut [u8], parity: usize, a
     }
 }
 
-// The syndromes of a block, and zeros behind them.
-pub fn syndromes(field: &[u16; 1280], first: usize, block: &[u8], parity: usize) -> [u8; 256]
+// The syndromes of a block, in place of zeros, with zeros behind them: the array is lent, since a returned one would be copied.
+pub fn syndromes(field: &[u16; 1280], first: usize, block: &[u8], parity: usize, s: &mut [u8])
     requires { ⌜ Field (now field) ⌝ }
     requires { ⌜ first + parity ≤ 256 ⌝ }
-    ensures { λ r. ⌜ Syndromes (polyOf (now (field .entry))) first parity (now (block .entry)) r ⌝ }
+    requires { ⌜ (length (now s) ≡ 256) × ((i : ℕ) → getD (now s) i 0 ≡ 0) ⌝ }
+    ensures { λ _. ⌜ Syndromes (polyOf (now (field .entry))) first parity (now (block .entry)) (now (s .exit)) ⌝ }
 {
-    let mut s = [0u8; 256];
     let mut i = 0;
     while i < block.len() / 2 {
-        advance_two(field, first, &mut s, parity, block[i + i], block[i + i + 1]);
+        advance_two(field, first, s, parity, block[i + i], block[i + i + 1]);
         i += 1;
     }
     if block.len() % 2 == 0 {
-        return s;
+        return;
     }
-    advance(field, first, &mut s, parity, block[i + i]);
-    s
+    advance(field, first, s, parity, block[i + i]);
 }
 
 // Whether all syndromes are zero.

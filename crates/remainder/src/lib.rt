@@ -377,17 +377,17 @@ fn lower(field: &[u16; 1280], first: usize, s: &mut [u8], parity: usize, n: usiz
     }
 }
 
-// The syndromes of a block out of what is left of it.
-pub fn syndromes(field: &[u16; 1280], first: usize, r: Register, parity: usize) -> [u8; 256]
+// The syndromes of a block out of what is left of it, in place of zeros.
+pub fn syndromes(field: &[u16; 1280], first: usize, r: Register, parity: usize, s: &mut [u8])
     requires { ⌜ Field (now field) ⌝ }
     requires { ⌜ (first ≤ 255) × (first + parity ≤ 256) ⌝ }
-    ensures { λ s. ⌜ ((block : List ℕ) → Remains (polyOf (now (field .entry))) first parity block r → Syndromes (polyOf (now (field .entry))) first parity block s) ⌝ }
+    requires { ⌜ (length (now s) ≡ 256) × ((i : ℕ) → getD (now s) i 0 ≡ 0) ⌝ }
+    ensures { λ _. ⌜ ((block : List ℕ) → Remains (polyOf (now (field .entry))) first parity block r → Syndromes (polyOf (now (field .entry))) first parity block (now (s .exit))) ⌝ }
 {
     let b = bytes(r);
     let k = kept(r);
-    let mut s = syndromes::syndromes(field, first, &b[..k], parity);
-    lower(field, first, &mut s, parity, 255 - k);
-    s
+    syndromes::syndromes(field, first, &b[..k], parity, s);
+    lower(field, first, s, parity, 255 - k);
 }
 
 // Whether nothing is left.

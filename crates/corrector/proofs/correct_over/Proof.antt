@@ -1,9 +1,10 @@
 -- `correct_over` meets its contract: the refusals 5 in their order, a block with no error, and one with errors. Assumes nothing.
-use mathlib.Core.Path.{sym, _∙_}
+use mathlib.Core.Path.{refl, sym, _∙_}
 use Rattle.field.proofs.Entries.{the-field}
 use Rattle.corrector.specs.Correct.{outcome}
 use Rattle.corrector.proofs.Settle.{unfit-refused, fit-settled, clean-settled}
 use Rattle.reed_solomon.proofs.Fit.{unfit-parity, unfit-length, unfit-long, fit}
+use Rattle.reed_solomon.proofs.Massey.{zeros}
 use native.Mathlib.Omega.{arith}
 use borrow.Author.Needs.{needs}
 use Rattle.corrector.proofs.correct_over.Statement.{statement}
@@ -22,48 +23,34 @@ unfolding outcome
 returns-3 c = unfit-refused _ _ _ _ (unfit-long _ _ (c .if3 .taken))
 
 syndromes-requires : tie.Need-syndromes-requires
-syndromes-requires c κs = search needs
-
-slice-aggregate-clean : tie.Need-slice-aggregate-clean
-slice-aggregate-clean c = search needs
-
-clean-requires : tie.Need-clean-requires
-clean-requires c κs = search needs
-
-same-length : tie.Need-same-length
-same-length c = search needs
+syndromes-requires c κs =
+    let start = c .before .before .before .before .before .before in (start .pre .0, (omega (arith, start .pre .1, c .before .before .before .if2 .left, c .before .before .if3 .left), (refl, zeros 256)))
 
 returns-4 : tie.Need-returns-4
 unfolding outcome
 returns-4 c =
-    let start = c .before .before .before .before .before .before .before .before .before in
-    let slice-known = c .before .before .before .before .before .before .before .before .slice-known in
-    let if1 = c .before .before .before .before .before .before .before .if1 in
-    let if2 = c .before .before .before .before .before .before .if2 in
-    let if3 = c .before .before .before .before .before .if3 in
-    clean-settled _ (the-field _ (start .pre .0)) _ _ _ (omega (arith, if3 .left)) (λ i. omega (arith, slice-known .given i)) _ (c .before .before .before .syndromes .ensures)
+    let start = c .before .before .before .before .before .before .before .before .before .before .before in
+    let slice-known = c .before .before .before .before .before .before .before .before .before .before .slice-known in
+    let if1 = c .before .before .before .before .before .before .before .before .before .if1 in
+    let if2 = c .before .before .before .before .before .before .before .before .if2 in
+    let if3 = c .before .before .before .before .before .before .before .if3 in
+    clean-settled _ (the-field _ (start .pre .0)) _ _ _ (omega (arith, if3 .left)) (λ i. omega (arith, slice-known .given i)) _ (c .before .before .before .before .syndromes .ensures)
     (sym (c .if4 .taken) ∙ c .before .clean .ensures)
     ∙ fit-settled _ _ _ _ (fit _ _ (if1 .left) (omega (arith, if2 .left)) (omega (arith, if3 .left)))
 
-slice-aggregate-repair : tie.Need-slice-aggregate-repair
-slice-aggregate-repair c = search needs
-
 repair-requires : tie.Need-repair-requires
 repair-requires c κs =
-    let start = c .before .before .before .before .before .before .before .before .before .before .before in
-    let if2 = c .before .before .before .before .before .before .before .before .if2 in
-    let if3 = c .before .before .before .before .before .before .before .if3 in
-    let syndromes = c .before .before .before .before .before .syndromes in
+    let start = c .before .before .before .before .before .before .before .before .before .before .before .before .before in
+    let if2 = c .before .before .before .before .before .before .before .before .before .before .if2 in
+    let if3 = c .before .before .before .before .before .before .before .before .before .if3 in
+    let syndromes = c .before .before .before .before .before .before .syndromes in
     (start .pre .0, ((start .pre .1, omega (arith, if2 .left, if3 .left), omega (arith, if3 .left)), syndromes .ensures))
-
-same-length-2 : tie.Need-same-length-2
-same-length-2 c = search needs
 
 returns-5 : tie.Need-returns-5
 returns-5 c =
-    let if1 = c .before .before .before .before .before .before .before .before .before .before .before .before .before .if1 in
-    let if2 = c .before .before .before .before .before .before .before .before .before .before .before .before .if2 in
-    let if3 = c .before .before .before .before .before .before .before .before .before .before .before .if3 in
+    let if1 = c .before .before .before .before .before .before .before .before .before .before .before .before .before .before .before .if1 in
+    let if2 = c .before .before .before .before .before .before .before .before .before .before .before .before .before .before .if2 in
+    let if3 = c .before .before .before .before .before .before .before .before .before .before .before .before .before .if3 in
     c .before .before .before .repair .ensures ∙ fit-settled _ _ _ _ (fit _ _ (if1 .left) (omega (arith, if2 .left)) (omega (arith, if3 .left)))
 
 pub correct-over-spec : {M : Type 1} → statement M
@@ -73,12 +60,13 @@ correct-over-spec =
     returns
     returns-2
     returns-3
+    (λ c. search needs)
     syndromes-requires
-    slice-aggregate-clean
-    clean-requires
-    same-length
+    (λ c. search needs)
+    (λ c κs. search needs)
+    (λ c. search needs)
     returns-4
-    slice-aggregate-repair
+    (λ c. search needs)
     repair-requires
-    same-length-2
+    (λ c. search needs)
     returns-5)
