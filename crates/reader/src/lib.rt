@@ -155,8 +155,8 @@ fn read_known_in(
     finish_in(kinds, square, m, payload, script, receipt)
 }
 
-// Read a square. A small one has a small buffer for its layout: to clear one for any layout takes longer than to read a small mark. The
-// buffer stands before all refusals, so that no path through this function does without it.
+// Read a square. One of version 1 to 10 has a small buffer for its layout, one up to version 40 a larger one: to clear a buffer for any
+// layout takes longer than to read a small mark. The buffer stands before all refusals, so that no path through this function does without it.
 pub fn read_square(
     square: &[u8],
     side: usize,
@@ -168,6 +168,10 @@ pub fn read_square(
 {
     if square.len() <= 1681 {
         let mut kinds = [0u8; 1681];
+        return read_square_in(&mut kinds, square, side, payload, script, receipt);
+    }
+    if square.len() <= 10201 {
+        let mut kinds = [0u8; 10201];
         return read_square_in(&mut kinds, square, side, payload, script, receipt);
     }
     let mut kinds = [0u8; 35721];
@@ -188,6 +192,19 @@ pub fn read_known(
 {
     if square.len() <= 1681 {
         let mut kinds = [0u8; 1681];
+        return read_known_in(
+            &mut kinds,
+            square,
+            version,
+            level,
+            mask,
+            payload,
+            script,
+            receipt,
+        );
+    }
+    if square.len() <= 10201 {
+        let mut kinds = [0u8; 10201];
         return read_known_in(
             &mut kinds,
             square,
