@@ -1,11 +1,11 @@
 // Where the errors are and what they are (001: `solve`, `magnitudes`). An error stands at its degree: 0 for the last place of the block.
 ghost use mathlib.Core.Path.{_≡_};
-ghost use Prim.Native.Nat.{ℕ, suc, _+_, _≤_, _<_};
+ghost use Prim.Native.Nat.{ℕ, suc, _+_, _*_, _≤_, _<_};
 ghost use lib.ListN.{length, set};
 ghost use Rattle.field.specs.Field.{mul};
 ghost use Rattle.field.specs.Table.{Field, polyOf};
 ghost use Rattle.algebra.specs.Sum.{_⊕_, seq};
-ghost use Rattle.reed_solomon.specs.Inner.{Each, shifted, carried, Sums, Located, stepped, SteppedTwo, numerator, denominator, Magnitude, ErrorAt, Errors, without, withoutAll, repaired};
+ghost use Rattle.reed_solomon.specs.Inner.{Each, Reduced, shifted, carried, Sums, Located, stepped, SteppedTwo, numerator, denominator, Magnitude, ErrorAt, Errors, without, withoutAll, repaired};
 use crate::syndromes::reduced;
 
 // The values of a locator at four places, one after the other.
@@ -16,16 +16,28 @@ pub struct Four {
     pub d: u8,
 }
 
-// The sums v of four places with a term t more, which from each place to the next is multiplied by α^n. All four go out from the same
-// logarithm, so that none waits for another.
-fn add_term(field: &[u16; 1280], v: Four, t: u8, n: usize) -> Four
+// Up to four times an exponent of a locator of length l, reduced to what the table has. Of a short locator none is above 254: the compiler
+// then makes a loop over its terms without this test.
+fn folded(n: usize, l: usize) -> usize
+    requires { ⌜ (n ≤ 4 * l) × (l ≤ 127) ⌝ }
+    ensures { λ r. ⌜ (r ≤ 255) × Reduced n r ⌝ }
+{
+    if l < 64 {
+        return n;
+    }
+    reduced(n)
+}
+
+// The sums v of four places with a term t more of a locator of length l, which from each place to the next is multiplied by α^n. All four go
+// out from the same logarithm, so that none waits for another.
+fn add_term(field: &[u16; 1280], v: Four, t: u8, n: usize, l: usize) -> Four
     requires { ⌜ Field (now field) ⌝ }
-    requires { ⌜ n ≤ 127 ⌝ }
+    requires { ⌜ (n ≤ l) × (l ≤ 127) ⌝ }
     ensures { λ r. ⌜ (r .a ≡ v .a ⊕ t) × (r .b ≡ v .b ⊕ shifted (polyOf (now (field .entry))) n 1 t) × (r .c ≡ v .c ⊕ shifted (polyOf (now (field .entry))) n 2 t) × (r .d ≡ v .d ⊕ shifted (polyOf (now (field .entry))) n 3 t) ⌝ }
 {
     let b = field::raised(field, t, n);
     let c = field::raised(field, t, 2 * n);
-    let d = field::raised(field, t, reduced(3 * n));
+    let d = field::raised(field, t, folded(3 * n, l));
     Four {
         a: v.a ^ t,
         b: v.b ^ b,
@@ -49,8 +61,8 @@ fn step(field: &[u16; 1280], terms: &mut [u8], l: usize) -> Four
     let mut i = 0;
     while i <= l {
         let t = terms[i];
-        v = add_term(field, v, t, l - i);
-        terms[i] = field::raised(field, t, reduced(4 * (l - i)));
+        v = add_term(field, v, t, l - i, l);
+        terms[i] = field::raised(field, t, folded(4 * (l - i), l));
         i += 1;
     }
     v

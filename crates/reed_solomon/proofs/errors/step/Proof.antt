@@ -32,7 +32,7 @@ loop-again c =
       sums-next _ _ _ _ _ _ _ _ _ _ _ _ _ (loop .inv .0) (loop .inv .1 .rest (loop .i) (omega arith))
           (add-term .ensures .0) (add-term .ensures .1) (add-term .ensures .2) (add-term .ensures .3),
       each-next _ _ _ _ _ (loop .inv .1) (omega arith)
-          (by-reduced _ (the-field _ (c .before .before .before .before .before .before .before .pre .0)) _ 4 _ _ _ (c .before .reduced .ensures .1) (c .raised .ensures)),
+          (by-reduced _ (the-field _ (c .before .before .before .before .before .before .before .pre .0)) _ 4 _ _ _ (c .before .folded .ensures .1) (c .raised .ensures)),
       omega arith,
     )
 

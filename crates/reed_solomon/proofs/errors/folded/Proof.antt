@@ -1,0 +1,13 @@
+-- `errors::folded` meets its contract. Assumes nothing.
+use mathlib.Core.Path.{refl}
+use mathlib.Core.Logic.{inl}
+use native.Mathlib.Omega.{arith}
+use borrow.Author.Needs.{needs}
+use Rattle.reed_solomon.proofs.errors.folded.Statement.{statement}
+use Rattle.reed_solomon.proofs.errors.folded.Tie as tie
+
+returns : tie.Need-returns
+returns c = (omega (arith, c .if1 .taken), record { is = inl refl })
+
+pub folded-spec : {M : Type 1} → statement M
+folded-spec = tie.close (tie.spec returns (λ c κs. search needs) (λ c. search needs))
