@@ -16,7 +16,7 @@ fn turns(call: &mut dyn FnMut()) -> u32 {
         for _ in 0..turns {
             call();
         }
-        if start.elapsed().as_micros() >= 1500 {
+        if start.elapsed().as_micros() >= 300 {
             return turns;
         }
         turns *= 2;
@@ -32,9 +32,9 @@ fn round(call: &mut dyn FnMut(), turns: u32) -> f64 {
     start.elapsed().as_secs_f64() * 1e9 / f64::from(turns)
 }
 
-const ROUNDS: usize = 9;
+const ROUNDS: usize = 45;
 
-/// The least of several rounds of either side, by turns, so that what else the machine does meets both.
+/// The least of many short rounds of either side, by turns, so that what else the machine does meets both and some rounds are free of it.
 pub fn time(ours: &mut dyn FnMut(), theirs: Option<&mut dyn FnMut()>) -> Times {
     let n = turns(ours);
     let Some(theirs) = theirs else {

@@ -26,6 +26,18 @@ pub fn reduced(n: usize) -> usize
     if n < 255 { n } else { n - 255 }
 }
 
+// The same for twice an exponent below `top`. Where top is small, none is above 254: the compiler then makes a loop over the syndromes without
+// this test.
+fn short(n: usize, top: usize) -> usize
+    requires { ⌜ (n ≤ top + top) × (n ≤ 510) ⌝ }
+    ensures { λ r. ⌜ (r ≤ 255) × Reduced n r ⌝ }
+{
+    if top < 128 {
+        return n;
+    }
+    reduced(n)
+}
+
 // The next two bytes. All syndromes advance together, so that their table lookups overlap, and by two bytes a time, so that each waits for
 // one product and not for two.
 fn advance_two(field: &[u16; 1280], first: usize, s: &mut [u8], parity: usize, a: u8, b: u8)
@@ -36,7 +48,8 @@ fn advance_two(field: &[u16; 1280], first: usize, s: &mut [u8], parity: usize, a
     let mut j = 0;
     while j < parity {
         let n = first + j;
-        s[j] = field::raised(field, s[j], reduced(n + n)) ^ (field::raised(field, a, n) ^ b);
+        s[j] = field::raised(field, s[j], short(n + n, first + parity))
+            ^ (field::raised(field, a, n) ^ b);
         j += 1;
     }
 }

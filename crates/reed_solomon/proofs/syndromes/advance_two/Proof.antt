@@ -19,39 +19,18 @@ abbrev μ-loop : tie.MeasureT-loop
 loop-holds : tie.Need-loop-holds Inv-loop μ-loop
 loop-holds c = (each-start _ _, omega arith)
 
-add-n : tie.Need-add-n Inv-loop μ-loop
-add-n c = search needs
-
 slice-read-raised : tie.Need-slice-read-raised Inv-loop μ-loop
 slice-read-raised c = omega (arith, c .before .before .loop .inv .0 .size)
 
-add-reduced : tie.Need-add-reduced Inv-loop μ-loop
-add-reduced c = search needs
-
-reduced-requires : tie.Need-reduced-requires Inv-loop μ-loop
-reduced-requires c κs = search needs
-
-raised-requires : tie.Need-raised-requires Inv-loop μ-loop
-raised-requires c κs = search needs
-
-raised-requires-2 : tie.Need-raised-requires-2 Inv-loop μ-loop
-raised-requires-2 c κs = search needs
-
 slice-write-s : tie.Need-slice-write-s Inv-loop μ-loop
 slice-write-s c = omega (arith, c .before .before .before .before .before .loop .inv .0 .size)
-
-add-j : tie.Need-add-j Inv-loop μ-loop
-add-j c = search needs
-
-loop-less : tie.Need-loop-less Inv-loop μ-loop
-loop-less c = search needs
 
 loop-again : tie.Need-loop-again Inv-loop μ-loop
 loop-again c =
     let start = c .before .before .before .before .before .before .before in
     let loop = c .before .before .before .before .before .loop in (
       each-next _ _ _ _ _ (loop .inv .0) (omega arith)
-          (two-at-once _ (the-field _ (start .pre .0)) _ _ _ _ _ _ _ _ (c .before .before .reduced .ensures .1) (c .before .raised .ensures) (c .raised2 .ensures)),
+          (two-at-once _ (the-field _ (start .pre .0)) _ _ _ _ _ _ _ _ (c .before .before .short .ensures .1) (c .before .raised .ensures) (c .raised2 .ensures)),
       omega arith,
     )
 
@@ -68,15 +47,16 @@ advance-two-spec =
     Inv-loop
     μ-loop
     loop-holds
-    add-n
+    (λ c. search needs)
     slice-read-raised
-    add-reduced
-    reduced-requires
-    raised-requires
-    raised-requires-2
+    (λ c. search needs)
+    (λ c. search needs)
+    (λ c κs. search needs)
+    (λ c κs. search needs)
+    (λ c κs. search needs)
     slice-write-s
-    add-j
-    loop-less
+    (λ c. search needs)
+    (λ c. search needs)
     loop-again
     same-length
     returns)
