@@ -126,32 +126,24 @@ fn read_square_in(
 fn read_known_in(
     kinds: &mut [u8],
     square: &[u8],
-    version: usize,
-    level: usize,
-    mask: usize,
+    m: Mark,
     payload: &mut [u8],
     script: &mut [u8],
     receipt: &mut [u8],
 ) -> usize
-    requires { ⌜ Roomy (now square) (now kinds) ⌝ }
-    ensures { λ r. ⌜ readingOf r (now (receipt .exit)) (now (payload .exit)) (now (script .exit)) ≡ readKnownOf (now (square .entry)) version level mask (now (payload .entry)) (now (script .entry)) (now (receipt .entry)) ⌝ }
+    requires { ⌜ Roomy (now square) (now kinds) × (m .distance ≡ 0) ⌝ }
+    ensures { λ r. ⌜ readingOf r (now (receipt .exit)) (now (payload .exit)) (now (script .exit)) ≡ readKnownOf (now (square .entry)) (m .version) (m .level) (m .mask) (now (payload .entry)) (now (script .entry)) (now (receipt .entry)) ⌝ }
 {
     if receipt.len() != 12 {
         return 2;
     }
-    let InfoBits::Word(_) = information::info_bits(version, level, mask) else {
+    let InfoBits::Word(_) = information::info_bits(m.version, m.level, m.mask) else {
         return receipts::refuse(receipt, 1);
     };
-    let early = square_refusal(square, Version { number: version }.side());
+    let early = square_refusal(square, Version { number: m.version }.side());
     if early != 0 {
         return receipts::refuse(receipt, early);
     }
-    let m = Mark {
-        version: version,
-        level: level,
-        mask: mask,
-        distance: 0,
-    };
     finish_in(kinds, square, m, payload, script, receipt)
 }
 
@@ -190,41 +182,20 @@ pub fn read_known(
 ) -> usize
     ensures { λ r. ⌜ readingOf r (now (receipt .exit)) (now (payload .exit)) (now (script .exit)) ≡ readKnownOf (now (square .entry)) version level mask (now (payload .entry)) (now (script .entry)) (now (receipt .entry)) ⌝ }
 {
+    let m = Mark {
+        version: version,
+        level: level,
+        mask: mask,
+        distance: 0,
+    };
     if square.len() <= 1681 {
         let mut kinds = [0u8; 1681];
-        return read_known_in(
-            &mut kinds,
-            square,
-            version,
-            level,
-            mask,
-            payload,
-            script,
-            receipt,
-        );
+        return read_known_in(&mut kinds, square, m, payload, script, receipt);
     }
     if square.len() <= 10201 {
         let mut kinds = [0u8; 10201];
-        return read_known_in(
-            &mut kinds,
-            square,
-            version,
-            level,
-            mask,
-            payload,
-            script,
-            receipt,
-        );
+        return read_known_in(&mut kinds, square, m, payload, script, receipt);
     }
     let mut kinds = [0u8; 35721];
-    read_known_in(
-        &mut kinds,
-        square,
-        version,
-        level,
-        mask,
-        payload,
-        script,
-        receipt,
-    )
+    read_known_in(&mut kinds, square, m, payload, script, receipt)
 }
