@@ -6,7 +6,7 @@ use native.Mathlib.Omega.{arith}
 use native.Mathlib.Numerals.{add-one}
 use native.Mathlib.Nat.{add-zero, add-suc}
 use native.Mathlib.Decide.{ℕ-discrete}
-use lib.Bits.{bitXor, xor-comm, xor-self, xor-zero-r, xor-mod}
+use lib.Bits.{bitXor, xor-self, xor-zero-r, xor-mod}
 use Rattle.field.specs.Field.{mul}
 use Rattle.field.proofs.Xor.{xor-assoc, xor-swap}
 use Rattle.field.proofs.Field.{Passes, mul-comm, mul-assoc}

@@ -1,22 +1,22 @@
 -- Which streams are refused, and what the blocks of the others become. Assumes nothing.
-use mathlib.Core.Path.{_≡_, refl, sym, ap, ap₂, subst, _∙_}
+use mathlib.Core.Path.{_≡_, refl, sym, ap, ap₂, _∙_}
 use mathlib.Core.Logic.{_⊎_, inl, inr}
 use mathlib.Core.Option.{Option, none, some}
-use mathlib.Core.List.{List, [], _∷_, _++_}
+use mathlib.Core.List.{List, _∷_}
 use Prim.Native.Nat.{ℕ, zero, suc, _+_, _/_, _≤_, _<_}
 use native.Mathlib.Omega.{arith}
-use lib.ListN.{length, take, drop, getD}
+use lib.ListN.{length}
 use lib.Dec.{T}
 use Rattle.field.proofs.Field.{passes}
 use Rattle.field.proofs.Instances.{passes-163}
 use Rattle.reed_solomon.specs.Block.{distance, nearest, isCodeword}
 use Rattle.reed_solomon.proofs.Search.{Bytes}
-use Rattle.reed_solomon.proofs.Nearest.{Near, near-some}
+use Rattle.reed_solomon.proofs.Nearest.{near-some}
 use Rattle.reed_solomon.proofs.Fit.{fit}
 use Rattle.corrector.specs.Correct.{Outcome, refused, settled, correctOf}
 use Rattle.corrector.proofs.Settle.{fit-settled}
-use Rattle.blocks.specs.Blocks.{Shape, size, totalSize, cut}
-use Rattle.blocks.proofs.Rows.{Sound, none as sound-none, more}
+use Rattle.blocks.specs.Blocks.{Shape, size}
+use Rattle.blocks.proofs.Rows.{Sound, more}
 use Rattle.blocks.proofs.Cuts.{Shaped}
 use Rattle.blockwise.specs.Blockwise.{outcomes, refusalOf, countOf, blocksOf, differences, blockAt, parityAt}
 use Rattle.blockwise.proofs.Corrects.{first, settled-number}

@@ -1,6 +1,6 @@
 -- What a customer may quote of blocks that are corrected and made one after the other. Each holds for any blocks that hold the rule of a
 -- row: data, parity, and at most 255 codewords. Assumes nothing.
-use mathlib.Core.Path.{_≡_, refl, sym, ap, subst, _∙_}
+use mathlib.Core.Path.{_≡_, sym, ap, subst, _∙_}
 use mathlib.Core.Logic.{_⊎_, inl, inr}
 use mathlib.Core.Option.{none, some}
 use mathlib.Core.List.{List, _++_}
@@ -20,7 +20,7 @@ use Rattle.blockwise.specs.Blockwise.{refusalOf, countOf, blocksOf, corr
 use Rattle.blockwise.proofs.Corrects.{blocks-shaped, joined-size}
 use Rattle.blockwise.proofs.Batches as batches
 use Rattle.blockwise.proofs.Batches.{cut-front}
-use Rattle.blockwise.proofs.Settle.{Coded, Lost, Each, lost-refused, each-settled, either, coded-shaped, coded-each, block-small}
+use Rattle.blockwise.proofs.Settle.{Coded, lost-refused, each-settled, either, coded-shaped, coded-each, block-small}
 use Rattle.blockwise.proofs.Written.{encoded-coded, joined-bytes}
 
 -- The length of a row that holds the rule for a total is that total, so that the row holds it for its own length.

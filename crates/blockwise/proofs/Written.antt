@@ -1,10 +1,10 @@
 -- The blocks that are written: codewords that begin with their data. Assumes nothing.
-use mathlib.Core.Path.{_≡_, refl, sym, ap, ap₂, subst, _∙_}
-use mathlib.Core.List.{List, [], _∷_, _++_}
-use Prim.Native.Nat.{ℕ, zero, suc, _+_, _≤_, _<_}
+use mathlib.Core.Path.{_≡_, sym, ap, ap₂, subst, _∙_}
+use mathlib.Core.List.{List, _∷_}
+use Prim.Native.Nat.{ℕ, _+_, _≤_}
 use native.Mathlib.Omega.{arith}
 use lib.Dec.{T}
-use lib.ListN.{length, take, drop, getD, length-append, length-drop}
+use lib.ListN.{length, take, drop, length-append, length-drop}
 use lib.Seq.{take-at, getD-drop, length-take-le}
 use Rattle.field.proofs.Instances.{passes-163}
 use Rattle.reed_solomon.specs.Block.{isCodeword, parityOf}
@@ -12,9 +12,9 @@ use Rattle.reed_solomon.proofs.Search.{Bytes}
 use Rattle.parity.specs.Encode.{withParity}
 use Rattle.parity.proofs.Followed.{append-bytes, take-bytes}
 use Rattle.parity.proofs.Theorems.{has-parity, parity-makes-codeword}
-use Rattle.blocks.specs.Blocks.{Shape, size, totalSize, totalData, joined, cutData}
-use Rattle.blocks.proofs.Rows.{Sound, none as sound-none, more}
-use Rattle.blocks.proofs.Cuts.{Shaped, Begins}
+use Rattle.blocks.specs.Blocks.{Shape, size, totalData, joined, cutData}
+use Rattle.blocks.proofs.Rows.{Sound, more}
+use Rattle.blocks.proofs.Cuts.{Begins}
 use Rattle.blockwise.specs.Blockwise.{encoded}
 use Rattle.blockwise.proofs.Settle.{Coded}
 

@@ -1,9 +1,9 @@
 -- Document 01, "Codewords" (000: `masked`, first half of `decode_data`): from a square to its stream of codewords, and back.
-use mathlib.Core.List.{List, [], _∷_, _++_, map}
-use Prim.Native.Nat.{ℕ, zero, suc, _+_, _-_, _*_, _/_, _%_, _^_}
+use mathlib.Core.List.{List, _∷_, _++_, map}
+use Prim.Native.Nat.{ℕ, zero, suc, _+_, _-_, _/_, _%_}
 use lib.Bits.{bitXor}
 use Rattle.bits.specs.Bits.{bitsOf, firstWords}
-use lib.ListN.{length, getD, set, take, drop, replicate}
+use lib.ListN.{length, getD, set, replicate}
 
 -- Masks: 1 where the module is inverted.
 

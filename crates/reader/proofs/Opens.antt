@@ -2,7 +2,7 @@
 use mathlib.Core.Path.{_≡_, refl, sym, ap, subst, _∙_}
 use mathlib.Core.Logic.{_≢_}
 use mathlib.Core.Bool.{Bool, true, false, cond}
-use mathlib.Core.List.{List, [], _∷_}
+use mathlib.Core.List.{List, _∷_}
 use Prim.Native.Nat.{ℕ, _*_, _≤_, _<_}
 use native.Mathlib.Omega.{arith}
 use native.Mathlib.Decide.{ℕ-discrete}
@@ -20,9 +20,9 @@ use Rattle.information.specs.Information.{isInfo, copyOf, nearestRefusal, neare
 use Rattle.blocks.specs.Blocks.{hasBlocks}
 use Rattle.squares.specs.Receipt.{refusalReceipt}
 use Rattle.squares.specs.Read.{Reading, readingOf, refused, firstRefusal, unless, areModules, levelIn, maskIn, distanceIn, readRefusal, knownRefusal, bodyOf, withReceipt, readOf, readKnownOf}
-use Rattle.squares.proofs.Refusals.{true-unless, false-unless, unless-true, unless-false, first-skips, first-takes, first-left, first-none, eqb-fact}
+use Rattle.squares.proofs.Refusals.{true-unless, unless-true, unless-false, first-skips, first-takes, first-left, first-none, eqb-fact}
 use Rattle.squares.proofs.Modules.{modules-below}
-use Rattle.squares.proofs.Marks.{Ranges, ranges, version-is}
+use Rattle.squares.proofs.Marks.{ranges, version-is}
 use Rattle.squares.proofs.Starts.{in-body, no-receipt, in-refusal, side-range, side-back, level-range, mask-range}
 use Rattle.receipts.specs.declared.Mark.{Mark}
 use Rattle.telling.specs.Inner.{Fitting, bodyOr1}

@@ -1,13 +1,13 @@
 -- What the writer's tests say.
 use mathlib.Core.Path.{_≡_, refl, sym, _∙_, subst}
 use mathlib.Core.Bool.{Bool, true, false, not, _&&_, _||_}
-use mathlib.Core.List.{List, [], _∷_}
+use mathlib.Core.List.{List, _∷_}
 use Prim.Native.Nat.{ℕ, zero, suc, _<_}
 use borrow.Author.Tests.{ltb-true, eqb-true}
 use lib.Dec.{T, ltb, eqb}
 use lib.ListN.{getD}
 use Rattle.segments.specs.Segments.{charOf, highOf, lowOf, regionSize, firstOf, secondOf}
-use Rattle.script.specs.Writer.{all, codeOf, inSubset, inText, pairCode, inRegion, inRegions, doubleCode, inDouble, same}
+use Rattle.script.specs.Writer.{codeOf, inSubset, inText, pairCode, inRegion, inRegions, doubleCode, inDouble, same}
 
 pub false-true : false ≡ true → ⊥
 false-true z = subst (λ (t : Bool). T (not t)) z tt

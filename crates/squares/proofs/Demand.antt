@@ -1,34 +1,34 @@
 -- From a mark to its reading: a written mark within reach is read as it was written. Assumes nothing.
 use mathlib.Core.Path.{_≡_, refl, sym, ap, ap₂, _∙_, subst}
-use mathlib.Core.Bool.{Bool, true, false, cond}
-use mathlib.Core.List.{List, [], _∷_, _++_}
+use mathlib.Core.Bool.{Bool, true, cond}
+use mathlib.Core.List.{List, _∷_, _++_}
 use Prim.Native.Nat.{ℕ, _+_, _*_, _/_, _≤_, _<_}
 use native.Mathlib.Omega.{arith}
-use borrow.Author.Tests.{eq-eqb, ne-eqb, le-leb}
+use borrow.Author.Tests.{eq-eqb, le-leb}
 use lib.Dec.{eqb, leb}
-use lib.ListN.{length, getD, drop}
+use lib.ListN.{length, drop}
 use Rattle.symbol.specs.Version.{sideOf, isSide, sideVersion}
 use Rattle.symbol.specs.Layout.{layoutOf}
 use Rattle.information.specs.Information.{isInfo, infoBits, infoFlips}
 use Rattle.blocks.specs.Blocks.{totalOf, shapesOf, hasBlocks, rowHolds, rowOf, dataModules, totalSize, totalData, cut, Shape}
 use Rattle.blocks.proofs.Rows.{Sound, total-small}
 use Rattle.blocks.proofs.Theorems.{shapes-total, shapes-sound}
-use Rattle.codewords.specs.Codewords.{maskBit, streamIn, squareOf}
+use Rattle.codewords.specs.Codewords.{maskBit, streamIn}
 use Rattle.codewords.proofs.Back.{written-stream}
 use Rattle.reed_solomon.specs.Block.{distance}
 use Rattle.blockwise.specs.Blockwise.{refusalOf, countOf, corrected, dataOf, streamOf, differences, blockAt, parityAt}
 use Rattle.blockwise.proofs.Theorems.{written-blocks, in-reach}
-use Rattle.segments.specs.FromData.{Outcome, fromData}
+use Rattle.segments.specs.FromData.{fromData}
 use Rattle.script.specs.Check.{commandsOf, encoded}
 use Rattle.script.proofs.Theorems.{encoded-data, round-trip}
 use Rattle.squares.specs.Receipt.{receiptOf}
 use Rattle.squares.specs.Read.{Reading, refused, firstRefusal, unless, areModules, levelIn, maskIn, distanceIn, streamFrom, blocksIn, readRefusal, knownRefusal, told, bodyOf, withReceipt, readOf, readKnownOf}
-use Rattle.squares.specs.Write.{roomOf, markOf, writeOf}
+use Rattle.squares.specs.Write.{roomOf, markOf}
 use Rattle.squares.proofs.Refusals.{unless-true, first-skips, both-true, leb-fact}
 use Rattle.squares.proofs.Modules.{below-modules, stream-length}
 use Rattle.codewords.proofs.Small.{Below}
 use Rattle.squares.proofs.Data.{data-below}
-use Rattle.squares.proofs.Marks.{Ranges, Written, info-is, side-is, side-version, mark-length, level-is, mask-is, distance-le}
+use Rattle.squares.proofs.Marks.{Ranges, Written, info-is, side-is, side-version, level-is, mask-is, distance-le}
 
 -- the data codewords are no more than the codewords
 pub data-le : (bs : List Shape) → totalData bs ≤ totalSize bs

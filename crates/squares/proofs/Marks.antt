@@ -1,20 +1,20 @@
 -- A mark made by the writer: what its making says, and what is read of its information. Assumes nothing.
 use mathlib.Core.Path.{_≡_, refl, sym, ap, ap₂, _∙_, subst}
 use mathlib.Core.Bool.{Bool, true, false, cond, _&&_}
-use mathlib.Core.List.{List, [], _∷_}
-use Prim.Native.Nat.{ℕ, suc, _+_, _*_, _/_, _%_, _^_, _-_, _<_, _≤_}
+use mathlib.Core.List.{List, _∷_}
+use Prim.Native.Nat.{ℕ, _+_, _*_, _/_, _%_, _^_, _-_, _<_, _≤_}
 use native.Mathlib.Omega.{arith}
 use native.Mathlib.Decide.{ℕ-discrete}
 use borrow.Author.Tests.{eq-eqb, ne-eqb, le-leb}
 use lib.Dec.{eqb, leb}
-use lib.ListN.{length, getD}
+use lib.ListN.{length}
 use Rattle.symbol.specs.Version.{sideOf, isVersion, isSide, sideVersion}
 use Rattle.symbol.specs.Layout.{layoutOf}
 use Rattle.symbol.proofs.Theorems.{layout-length}
-use Rattle.information.specs.Information.{isInfo, infoBits, wordAt, infoWritten, copyOf, infoFlips, nearest, distance, nearestLevel, nearestMask, nearestDistance}
+use Rattle.information.specs.Information.{isInfo, infoBits, wordAt, copyOf, infoFlips, nearest, distance, nearestLevel, nearestMask, nearestDistance}
 use Rattle.information.proofs.Apart.{word-lt}
 use Rattle.information.proofs.Flips.{flips-nearest, write-then-first, write-then-second, info-length, info-bits}
-use Rattle.blocks.specs.Blocks.{totalOf, shapesOf, hasBlocks, rowHolds, rowOf, dataModules}
+use Rattle.blocks.specs.Blocks.{shapesOf, hasBlocks}
 use Rattle.codewords.specs.Codewords.{maskBit, squareOf}
 use Rattle.codewords.proofs.Back.{length-square}
 use Rattle.blockwise.specs.Blockwise.{streamOf}
@@ -22,7 +22,7 @@ use Rattle.script.specs.declared.Check.{Check}
 use Rattle.script.specs.declared.Check.the-variants.{Bits, Malformed, Lacking, Empty}
 use Rattle.script.specs.Check.{commandsOf, checkOf, bitsOfCheck, encoded}
 use Rattle.script.specs.Check.{refusalOf as checkRefusal}
-use Rattle.squares.specs.Read.{firstRefusal, unless, levelIn, maskIn, distanceIn}
+use Rattle.squares.specs.Read.{unless, levelIn, maskIn, distanceIn}
 use Rattle.squares.specs.Write.{Writing, roomOf, writeRefusal, markOf, writeOf}
 use Rattle.squares.proofs.Refusals.{true-unless, first-none, both-true, true-both, leb-fact, eqb-fact}
 use Rattle.codewords.proofs.Masks.{mask-bit-lt}

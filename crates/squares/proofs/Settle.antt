@@ -1,24 +1,23 @@
 -- What a reading answers for any square that passes the first refusals. Assumes nothing.
-use mathlib.Core.Path.{_≡_, refl, sym, ap, ap₂, _∙_, subst}
+use mathlib.Core.Path.{_≡_, sym, ap, ap₂, _∙_}
 use mathlib.Core.Logic.{_⊎_, inl, inr, _≢_}
-use mathlib.Core.Bool.{Bool, true, false, cond, _&&_}
+use mathlib.Core.Bool.{Bool, true, false, cond}
 use mathlib.Core.Option.{Option, none, some}
-use mathlib.Core.List.{List, [], _∷_, _++_}
-use Prim.Native.Nat.{ℕ, _+_, _*_, _/_, _≤_, _<_}
+use mathlib.Core.List.{List}
+use Prim.Native.Nat.{ℕ, _≤_, _<_}
 use native.Mathlib.Omega.{arith}
-use native.Mathlib.Decide.{ℕ-discrete}
-use borrow.Author.Tests.{eq-eqb, ne-eqb}
+use borrow.Author.Tests.{eq-eqb}
 use lib.Dec.{eqb, ltb}
-use lib.ListN.{length, getD}
+use lib.ListN.{length}
 use Rattle.reed_solomon.specs.Block.{nearest}
 use Rattle.field.proofs.Field.{passes}
 use Rattle.field.proofs.Instances.{passes-163}
 use Rattle.reed_solomon.proofs.Nearest.{Near, near-none, near-some}
-use Rattle.blocks.specs.Blocks.{Shape, totalOf, shapesOf, totalSize, cut, dataParts}
+use Rattle.blocks.specs.Blocks.{Shape, shapesOf, totalSize, cut, dataParts}
 use Rattle.blocks.proofs.Rows.{Sound}
 use Rattle.blocks.proofs.Cuts.{cut-shaped}
 use Rattle.blocks.proofs.Theorems.{shapes-total, shapes-sound}
-use Rattle.blockwise.specs.Blockwise.{refusalOf, countOf, blocksOf, corrected, dataOf, differences, blockAt, parityAt}
+use Rattle.blockwise.specs.Blockwise.{refusalOf, countOf, corrected, dataOf, differences, blockAt, parityAt}
 use Rattle.blockwise.proofs.Settle.{block-small}
 use Rattle.blockwise.proofs.Theorems as blocks
 use Rattle.segments.specs.Segments.{Result, cut as cutShort, lacking, got, segmentsOf}

@@ -1,24 +1,21 @@
 -- THE THEOREM OF DEMAND 3, for Read a square and for Read with known version, level, mask, over the definitions that the contracts cite.
 -- First: a mark made by the writer is read as it was written, whichever modules flip within reach. Second: what a reading answers for any
 -- square at all that passes its first refusals. Assumes nothing.
-use mathlib.Core.Path.{_≡_, refl, sym, ap, _∙_, subst}
-use mathlib.Core.Bool.{Bool, true, false, cond, _&&_}
-use mathlib.Core.List.{List, [], _∷_, _++_}
-use Prim.Native.Nat.{ℕ, _+_, _-_, _*_, _/_, _%_, _≤_, _<_}
-use native.Mathlib.Omega.{arith}
-use lib.Dec.{eqb, leb}
+use mathlib.Core.Path.{_≡_, sym, ap, _∙_, subst}
+use mathlib.Core.List.{List, _++_}
+use Prim.Native.Nat.{ℕ, _+_, _-_, _*_, _/_, _≤_, _<_}
 use lib.ListN.{length, getD, drop}
 use Rattle.symbol.specs.Version.{sideOf, isSide, sideVersion}
 use Rattle.symbol.specs.Layout.{layoutOf}
 use Rattle.information.specs.Information.{isInfo, infoFlips}
-use Rattle.blocks.specs.Blocks.{shapesOf, hasBlocks, dataParts}
+use Rattle.blocks.specs.Blocks.{shapesOf, dataParts}
 use Rattle.reed_solomon.specs.Block.{distance}
 use Rattle.blockwise.specs.Blockwise.{differences, blockAt, parityAt}
 use Rattle.segments.specs.FromData.{fromData}
 use Rattle.squares.specs.Receipt.{receiptOf}
-use Rattle.squares.specs.Read.{Reading, refused, unless, areModules, levelIn, maskIn, distanceIn, blocksIn, readRefusal, knownRefusal, told, bodyOf, withReceipt, readOf, readKnownOf}
-use Rattle.squares.specs.Write.{Writing, markOf, writeOf}
-use Rattle.squares.proofs.Refusals.{true-unless, first-none, eqb-fact}
+use Rattle.squares.specs.Read.{Reading, refused, unless, levelIn, maskIn, distanceIn, blocksIn, readRefusal, knownRefusal, told, bodyOf, readOf, readKnownOf}
+use Rattle.squares.specs.Write.{markOf, writeOf}
+use Rattle.squares.proofs.Refusals.{true-unless, first-none}
 use Rattle.squares.proofs.Marks.{Written, Ranges, ranges, written, mark-length}
 use Rattle.squares.proofs.Starts.{in-body, side-range, level-range}
 use Rattle.squares.proofs.Demand as demand

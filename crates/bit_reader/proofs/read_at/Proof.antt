@@ -9,9 +9,6 @@ returns : tie.Need-returns
 unfolding readAt
 returns c = simp (lt-ltb _ _ (c .if1 .taken))
 
-mul-if2 : tie.Need-mul-if2
-mul-if2 c = search needs
-
 returns-2 : tie.Need-returns-2
 unfolding readAt
 returns-2 c = simp (le-ltb _ _ (c .before .if1 .left), lt-ltb _ _ (c .if2 .taken))
@@ -20,13 +17,9 @@ returns-3 : tie.Need-returns-3
 unfolding readAt
 returns-3 c = simp (le-ltb _ _ (c .before .before .if1 .left), le-ltb _ _ (c .before .if2 .left), lt-ltb _ _ (c .if3 .taken))
 
-read-bits-requires : tie.Need-read-bits-requires
-read-bits-requires c κs = search needs
-
 returns-4 : tie.Need-returns-4
 unfolding readAt
 returns-4 c = simp (le-ltb _ _ (c .before .before .before .if1 .left), le-ltb _ _ (c .before .before .if2 .left), le-ltb _ _ (c .before .if3 .left)) (c .read-bits .ensures)
 
 pub read-at-spec : {M : Type 1} → statement M
-read-at-spec =
-    tie.close (tie.spec returns mul-if2 returns-2 returns-3 read-bits-requires returns-4)
+read-at-spec = tie.close (tie.spec returns (λ c. search needs) returns-2 returns-3 (λ c κs. search needs) returns-4)

@@ -14,12 +14,6 @@ Inv-loop s at n first end last v₀ i₀ v i = (first ≤ i) × (i ≤ last) × 
 abbrev μ-loop : tie.MeasureT-loop
 μ-loop s at n first end last v₀ i₀ v i = last - i
 
-add-end : tie.Need-add-end Inv-loop μ-loop
-add-end c = omega arith
-
-add-last : tie.Need-add-last Inv-loop μ-loop
-add-last c = omega arith
-
 loop-holds : tie.Need-loop-holds Inv-loop μ-loop
 loop-holds c =
     let a = c .before .args in
@@ -32,23 +26,11 @@ mul-v c =
     let a = c .before .before .before .args in
     omega (arith, window-small (a .s .now) (a .at / 8) (l .i - a .at / 8) 3 (omega arith) (omega arith))
 
-shared-slice-read-wide : tie.Need-shared-slice-read-wide Inv-loop μ-loop
-shared-slice-read-wide c = omega arith
-
-wide-requires : tie.Need-wide-requires Inv-loop μ-loop
-wide-requires c κs = search needs
-
 add-v : tie.Need-add-v Inv-loop μ-loop
 add-v c =
     let l = c .before .before .before .loop in
     let a = c .before .before .before .before .before .args in
     omega (arith, window-small (a .s .now) (a .at / 8) (l .i - a .at / 8) 3 (omega arith) (omega arith))
-
-add-i : tie.Need-add-i Inv-loop μ-loop
-add-i c = omega arith
-
-loop-less : tie.Need-loop-less Inv-loop μ-loop
-loop-less c = omega arith
 
 loop-again : tie.Need-loop-again Inv-loop μ-loop
 loop-again c =
@@ -59,18 +41,6 @@ loop-again c =
     let j : a .at / 8 + (l .i - a .at / 8) ≡ l .i = omega arith in
     let b : c .wide .result ≡ getD (a .s .now) (a .at / 8 + (l .i - a .at / 8)) 0 = rw j (c .wide .ensures .0) in
     (omega arith, omega arith, rw (l .inv .2, ← k) (window-more (a .s .now) (a .at / 8) (l .i - a .at / 8) (c .wide .result) (omega arith) (c .wide .ensures .1) b))
-
-mul-t9 : tie.Need-mul-t9 Inv-loop μ-loop
-mul-t9 c = omega arith
-
-sub-t15 : tie.Need-sub-t15 Inv-loop μ-loop
-sub-t15 c = omega arith
-
-shr-t16 : tie.Need-shr-t16 Inv-loop μ-loop
-shr-t16 c = omega arith
-
-shl-t17 : tie.Need-shl-t17 Inv-loop μ-loop
-shl-t17 c = omega arith
 
 rem-t18 : tie.Need-rem-t18 Inv-loop μ-loop
 rem-t18 c =
@@ -86,23 +56,6 @@ returns c =
 
 pub read-last-spec : {M : Type 1} → statement M
 read-last-spec =
-    tie.close
-    (tie.spec
-    Inv-loop
-    μ-loop
-    add-end
-    add-last
-    loop-holds
-    mul-v
-    shared-slice-read-wide
-    wide-requires
-    add-v
-    add-i
-    loop-less
-    loop-again
-    mul-t9
-    sub-t15
-    shr-t16
-    shl-t17
-    rem-t18
-    returns)
+    tie.close (tie.spec Inv-loop μ-loop (λ c. omega arith) (λ c. omega arith) loop-holds mul-v (λ c. omega arith) (λ c κs. search needs)
+    add-v (λ c. omega arith) (λ c. omega arith) loop-again (λ c. omega arith) (λ c. omega arith) (λ c. omega arith) (λ c. omega arith)
+    rem-t18 returns)

@@ -1,13 +1,10 @@
-use mathlib.Core.Path.{_≡_, ap, _∙_}
-use mathlib.Core.List.{List}
-use Prim.Native.Nat.{_+_, _-_, _*_, _/_, _%_}
+use mathlib.Core.Path.{_≡_}
+use Prim.Native.Nat.{_-_, _%_}
 use native.Mathlib.Nat.{mod-le}
 use native.Mathlib.Omega.{arith}
-use lib.ListN.{length, take}
+use lib.ListN.{length}
 use lib.Pow.{pow-pos}
-use lib.Seq.{sets}
 use Rattle.bits.specs.Bits.{bitsOf, lowBits}
-use Rattle.bits.specs.Four.{fourOf}
 use Rattle.bits.proofs.Reading.{length-bits}
 use Rattle.bits.proofs.Words.{length-low}
 use Rattle.bits.proofs.Window.{one-shifted}
@@ -16,15 +13,6 @@ use borrow.Author.Needs.{needs}
 use Rattle.bits.proofs.write_bits.Statement.{statement}
 use Rattle.bits.proofs.write_bits.Tie as tie
 
-sub-if1 : tie.Need-sub-if1
-sub-if1 c = search needs
-
-write-last-requires : tie.Need-write-last-requires
-write-last-requires c κs = search needs
-
-same-length : tie.Need-same-length
-same-length c = search needs
-
 returns : tie.Need-returns
 returns c =
     let a = c .before .before .before .before .before .before .args in
@@ -32,18 +20,6 @@ returns c =
     let e = length-bits (a .buf .now) in
     let w : length (lowBits (a .n) (a .v)) ≡ a .n = length-low (a .n) (a .v) in
     rw (c .before .before .write-last .ensures) (rw w at (behind-set b (a .at) (lowBits (a .n) (a .v)) (rw (w, e) (omega arith))))
-
-slice-read-wide : tie.Need-slice-read-wide
-slice-read-wide c = search needs
-
-wide-requires : tie.Need-wide-requires
-wide-requires c κs = search needs
-
-sub-before : tie.Need-sub-before
-sub-before c = search needs
-
-shl-before : tie.Need-shl-before
-shl-before c = search needs
 
 rem-before : tie.Need-rem-before
 rem-before c =
@@ -59,25 +35,10 @@ joins c =
     let a = c .before .before .before .before .before .args in
     joined-is (c .before .wide .result) (a .at % 8) (a .n) (a .v) (c .before .wide .ensures .1) (omega arith) (omega arith)
 
-mul-store-four : tie.Need-mul-store-four
-mul-store-four c = search needs
-
-shl-store-four : tie.Need-shl-store-four
-shl-store-four c = search needs
-
 rem-store-four : tie.Need-rem-store-four
 rem-store-four c =
     let a = c .before .before .before .before .before .args in
     rw (one-shifted (a .n) (omega arith)) (pow-pos (a .n))
-
-sub-store-four : tie.Need-sub-store-four
-sub-store-four c = search needs
-
-sub-store-four-2 : tie.Need-sub-store-four-2
-sub-store-four-2 c = search needs
-
-shl-store-four-2 : tie.Need-shl-store-four-2
-shl-store-four-2 c = search needs
 
 add-store-four : tie.Need-add-store-four
 add-store-four c = let j = joins c in rw (j .0) (omega arith)
@@ -86,9 +47,6 @@ store-four-requires : tie.Need-store-four-requires
 store-four-requires c κs =
     let j = joins c in
     (omega arith, rw (j .0) (j .1))
-
-same-length-2 : tie.Need-same-length-2
-same-length-2 c = search needs
 
 returns-2 : tie.Need-returns-2
 returns-2 c =
@@ -100,25 +58,7 @@ returns-2 c =
 
 pub write-bits-spec : {M : Type 1} → statement M
 write-bits-spec =
-    tie.close
-    (tie.spec
-    sub-if1
-    write-last-requires
-    same-length
-    returns
-    slice-read-wide
-    wide-requires
-    sub-before
-    shl-before
-    rem-before
-    sub-before-2
-    mul-store-four
-    shl-store-four
-    rem-store-four
-    sub-store-four
-    sub-store-four-2
-    shl-store-four-2
-    add-store-four
-    store-four-requires
-    same-length-2
+    tie.close (tie.spec (λ c. search needs) (λ c κs. search needs) (λ c. search needs) returns (λ c. search needs)
+    (λ c κs. search needs) (λ c. search needs) (λ c. search needs) rem-before sub-before-2 (λ c. search needs) (λ c. search needs)
+    rem-store-four (λ c. search needs) (λ c. search needs) (λ c. search needs) add-store-four store-four-requires (λ c. search needs)
     returns-2)

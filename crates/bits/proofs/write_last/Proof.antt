@@ -20,27 +20,6 @@ abbrev μ-loop : tie.MeasureT-loop
 loop-holds : tie.Need-loop-holds Inv-loop μ-loop
 loop-holds c = (refl, omega arith, simp (sub-zero, add-zero))
 
-add-write-bit : tie.Need-add-write-bit Inv-loop μ-loop
-add-write-bit c = omega arith
-
-sub-write-bit : tie.Need-sub-write-bit Inv-loop μ-loop
-sub-write-bit c = omega arith
-
-sub-write-bit-2 : tie.Need-sub-write-bit-2 Inv-loop μ-loop
-sub-write-bit-2 c = omega arith
-
-shr-write-bit : tie.Need-shr-write-bit Inv-loop μ-loop
-shr-write-bit c = omega arith
-
-write-bit-requires : tie.Need-write-bit-requires Inv-loop μ-loop
-write-bit-requires c κs = omega arith
-
-add-i : tie.Need-add-i Inv-loop μ-loop
-add-i c = omega arith
-
-loop-less : tie.Need-loop-less Inv-loop μ-loop
-loop-less c = omega arith
-
 loop-again : tie.Need-loop-again Inv-loop μ-loop
 loop-again c =
     let start = c .before .before .before .before .before .before .before in
@@ -50,9 +29,6 @@ loop-again c =
     let l = loop in
     (write-bit .kept .0 ∙ l .inv .0, omega arith, l .inv .2 ∙ write-more (bitsOf (l .buf)) (a .at) (a .n) (l .i) (a .v) (omega arith) ∙ ap (λ (B : List ℕ). sets B (a .at + (l .i + 1)) (lowBits (a .n - (l .i + 1)) (a .v))) (sym (write-bit .ensures)))
 
-same-length : tie.Need-same-length Inv-loop μ-loop
-same-length c = omega arith
-
 returns : tie.Need-returns Inv-loop μ-loop
 returns c =
     let a = c .before .before .before .args in
@@ -61,18 +37,5 @@ returns c =
 
 pub write-last-spec : {M : Type 1} → statement M
 write-last-spec =
-    tie.close
-    (tie.spec
-    Inv-loop
-    μ-loop
-    loop-holds
-    add-write-bit
-    sub-write-bit
-    sub-write-bit-2
-    shr-write-bit
-    write-bit-requires
-    add-i
-    loop-less
-    loop-again
-    same-length
-    returns)
+    tie.close (tie.spec Inv-loop μ-loop loop-holds (λ c. omega arith) (λ c. omega arith) (λ c. omega arith) (λ c. omega arith)
+    (λ c κs. omega arith) (λ c. omega arith) (λ c. omega arith) loop-again (λ c. omega arith) returns)

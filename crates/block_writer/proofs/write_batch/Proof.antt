@@ -9,4 +9,6 @@ write-one-requires c κs =
     (start .pre .0, start .pre .1, start .pre .2, start .pre .3, start .pre .4, c .before .before .is-one-short .ensures (c .before .if1 .taken))
 
 pub write-batch-spec : {M : Type 1} → statement M
-write-batch-spec = tie.close (tie.spec (λ c κs. search needs) write-one-requires (λ c. search needs) (λ c. search needs) (λ c κs. search needs) (λ c. search needs) (λ c. search needs))
+write-batch-spec =
+    tie.close (tie.spec (λ c κs. search needs) write-one-requires (λ c. search needs) (λ c. search needs) (λ c κs. search needs)
+    (λ c. search needs) (λ c. search needs))

@@ -6,9 +6,6 @@ use borrow.Author.Needs.{needs}
 use Rattle.block_writer.proofs.write_block.Statement.{statement}
 use Rattle.block_writer.proofs.write_block.Tie as tie
 
-copy-requires : tie.Need-copy-requires
-copy-requires c κs = search needs
-
 write-with-requires : tie.Need-write-with-requires
 write-with-requires c κs =
     let start = c .before .before .before .before .before .before .before .before in
@@ -22,4 +19,4 @@ returns c =
     front-written (start .args .block .now) (start .args .info .now) (copy .last .0) _ _ (start .pre .0) (copy .ensures) (c .before .before .write-with .ensures) (copy .kept .0) (omega arith)
 
 pub write-block-spec : {M : Type 1} → statement M
-write-block-spec = tie.close (tie.spec copy-requires write-with-requires (λ c. search needs) returns)
+write-block-spec = tie.close (tie.spec (λ c κs. search needs) write-with-requires (λ c. search needs) returns)

@@ -22,21 +22,12 @@ write-batch-requires c κs =
     let start = c .before .before .before .before .before .before in
     (start .pre .0, c .before .loop-test .taken, start .pre .1, omega (arith, start .pre .2, c .before .before .loop .inv .1 .size), start .pre .3)
 
-add-k : tie.Need-add-k Inv-loop μ-loop
-add-k c = search needs
-
-loop-less : tie.Need-loop-less Inv-loop μ-loop
-loop-less c = search needs
-
 loop-again : tie.Need-loop-again Inv-loop μ-loop
 loop-again c =
     let start = c .before .before .before .before .before .before .before .before .before in
     let loop = c .before .before .before .before .before .loop in
     let loop-test = c .before .before .before .before .loop-test in
     (omega arith, writes-batch (start .args .row .now) (loop .k) (loop-test .taken) (start .args .«data» .now) _ _ _ (start .pre .2) (loop .inv .1) (c .before .before .write-batch .ensures))
-
-same-length : tie.Need-same-length Inv-loop μ-loop
-same-length c = c .before .loop .inv .1 .size
 
 returns : tie.Need-returns Inv-loop μ-loop
 returns c =
@@ -46,14 +37,5 @@ returns c =
 
 pub write-blocks-spec : {M : Type 1} → statement M
 write-blocks-spec =
-    tie.close
-    (tie.spec
-    Inv-loop
-    μ-loop
-    loop-holds
-    write-batch-requires
-    add-k
-    loop-less
-    loop-again
-    same-length
-    returns)
+    tie.close (tie.spec Inv-loop μ-loop loop-holds write-batch-requires (λ c. search needs) (λ c. search needs) loop-again
+    (λ c. c .before .loop .inv .1 .size) returns)

@@ -18,34 +18,10 @@ Inv-loop stream₀ «data» row k count info parity rows at₀ from₀ i₀ stre
 abbrev μ-loop : tie.MeasureT-loop
 μ-loop stream₀ «data» row k count info parity rows at₀ from₀ i₀ stream at from i = count - i
 
-mul-number : tie.Need-mul-number Inv-loop μ-loop
-mul-number c = search needs
-
-number-requires : tie.Need-number-requires Inv-loop μ-loop
-number-requires c κs = search needs
-
 returns : tie.Need-returns Inv-loop μ-loop
 returns c =
     let start = c .before .before .before .before .before in
     writes-zero (start .args .row .now) (start .args .k) _ _ _ _ (c .before .number .ensures .0) (c .if1 .taken)
-
-mul-number-2 : tie.Need-mul-number-2 Inv-loop μ-loop
-mul-number-2 c = search needs
-
-add-number : tie.Need-add-number Inv-loop μ-loop
-add-number c = search needs
-
-number-requires-2 : tie.Need-number-requires-2 Inv-loop μ-loop
-number-requires-2 c κs = search needs
-
-mul-number-3 : tie.Need-mul-number-3 Inv-loop μ-loop
-mul-number-3 c = search needs
-
-add-number-2 : tie.Need-add-number-2 Inv-loop μ-loop
-add-number-2 c = search needs
-
-number-requires-3 : tie.Need-number-requires-3 Inv-loop μ-loop
-number-requires-3 c κs = search needs
 
 prepare-requires : tie.Need-prepare-requires Inv-loop μ-loop
 prepare-requires c κs = (refl, zeros 512)
@@ -67,9 +43,6 @@ loop-holds c = (omega arith, omega (arith, c .before .data-before .ensures), ome
 slice-aggregate-write-block : tie.Need-slice-aggregate-write-block Inv-loop μ-loop
 slice-aggregate-write-block c = sym (c .before .before .before .before .before .before .prepare .ensures .size)
 
-add-write-block : tie.Need-add-write-block Inv-loop μ-loop
-add-write-block c = search needs
-
 add-write-block-2 : tie.Need-add-write-block-2 Inv-loop μ-loop
 add-write-block-2 c =
     let start = c .before .before .before .before .before .before .before .before .before .before .before .before .before .before .before in
@@ -78,9 +51,6 @@ add-write-block-2 c =
     let number3 = c .before .before .before .before .before .before .before .before .number3 in
     let loop = c .before .before .loop in
     omega (arith, loop .inv .2, loop .inv .3 .size, start .pre .3, stream-room (start .args .row .now) (start .args .k) (number .result) (number2 .result) (number3 .result) (start .pre .1) (number .ensures .0) (number2 .ensures .0) (number3 .ensures .0) (loop .i) (c .before .loop-test .taken))
-
-sub-write-block : tie.Need-sub-write-block Inv-loop μ-loop
-sub-write-block c = search needs
 
 part-write-block-start : tie.Need-part-write-block-start Inv-loop μ-loop
 part-write-block-start c =
@@ -108,9 +78,6 @@ add-write-block-3 c =
     let number3 = c .before .before .before .before .before .before .before .before .before .number3 in
     let loop = c .before .before .before .loop in
     omega (arith, loop .inv .1, start .pre .4, data-room (start .args .row .now) (start .args .k) (number .result) (number2 .result) (number3 .result) (start .pre .1) (number .ensures .0) (number2 .ensures .0) (number3 .ensures .0) (loop .i) (c .before .before .loop-test .taken))
-
-sub-write-block-2 : tie.Need-sub-write-block-2 Inv-loop μ-loop
-sub-write-block-2 c = search needs
 
 part-write-block-start-2 : tie.Need-part-write-block-start-2 Inv-loop μ-loop
 part-write-block-start-2 c =
@@ -178,12 +145,6 @@ add-from-2 c =
     let loop-test = c .before .before .before .before .before .before .loop-test in
     omega (arith, loop .inv .2, loop .inv .3 .size, start .pre .3, stream-room (start .args .row .now) (start .args .k) (number .result) (number2 .result) (number3 .result) (start .pre .1) (number .ensures .0) (number2 .ensures .0) (number3 .ensures .0) (loop .i) (loop-test .taken))
 
-add-i : tie.Need-add-i Inv-loop μ-loop
-add-i c = search needs
-
-loop-less : tie.Need-loop-less Inv-loop μ-loop
-loop-less c = search needs
-
 loop-again : tie.Need-loop-again Inv-loop μ-loop
 loop-again c =
     let start = c .before .before .before .before .before .before .before .before .before .before .before .before .before .before .before .before .before .before .before .before in
@@ -200,9 +161,6 @@ loop-again c =
           (one-written (number2 .result) (number3 .result) (loop .from) _ (loop .at) _ (start .args .«data» .now) (loop .stream) (write-block .last .1 .0) refl refl (omega (arith, loop .inv .2, loop .inv .3 .size, start .pre .3, stream-room (start .args .row .now) (start .args .k) (number .result) (number2 .result) (number3 .result) (start .pre .1) (number .ensures .0) (number2 .ensures .0) (number3 .ensures .0) (loop .i) (loop-test .taken))) (omega (arith, loop .inv .1, start .pre .4, data-room (start .args .row .now) (start .args .k) (number .result) (number2 .result) (number3 .result) (start .pre .1) (number .ensures .0) (number2 .ensures .0) (number3 .ensures .0) (loop .i) (loop-test .taken))) (write-block .kept .1 .0) (write-block .ensures)),
     )
 
-same-length : tie.Need-same-length Inv-loop μ-loop
-same-length c = c .before .loop .inv .3 .size
-
 returns-2 : tie.Need-returns-2 Inv-loop μ-loop
 returns-2 c =
     let start = c .before .before .before .before .before .before .before .before .before .before .before .before .before .before in
@@ -214,40 +172,9 @@ returns-2 c =
 
 pub write-many-spec : {M : Type 1} → statement M
 write-many-spec =
-    tie.close
-    (tie.spec
-    Inv-loop
-    μ-loop
-    mul-number
-    number-requires
-    returns
-    mul-number-2
-    add-number
-    number-requires-2
-    mul-number-3
-    add-number-2
-    number-requires-3
-    (λ c. search needs)
-    prepare-requires
-    data-before-requires
-    length-before-requires
-    loop-holds
-    slice-aggregate-write-block
-    add-write-block
-    add-write-block-2
-    sub-write-block
-    part-write-block-start
-    part-write-block-end
-    add-write-block-3
-    sub-write-block-2
-    part-write-block-start-2
-    part-write-block-end-2
-    write-block-requires
-    add-at
-    add-from
-    add-from-2
-    add-i
-    loop-less
-    loop-again
-    same-length
-    returns-2)
+    tie.close (tie.spec Inv-loop μ-loop (λ c. search needs) (λ c κs. search needs) returns (λ c. search needs) (λ c. search needs)
+    (λ c κs. search needs) (λ c. search needs) (λ c. search needs) (λ c κs. search needs) (λ c. search needs) prepare-requires
+    data-before-requires length-before-requires loop-holds slice-aggregate-write-block (λ c. search needs) add-write-block-2
+    (λ c. search needs) part-write-block-start part-write-block-end add-write-block-3 (λ c. search needs) part-write-block-start-2
+    part-write-block-end-2 write-block-requires add-at add-from add-from-2 (λ c. search needs) (λ c. search needs) loop-again
+    (λ c. c .before .loop .inv .3 .size) returns-2)

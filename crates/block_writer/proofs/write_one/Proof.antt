@@ -76,6 +76,7 @@ returns c =
 
 pub write-one-spec : {M : Type 1} → statement M
 write-one-spec =
-    tie.close
-    (tie.spec (λ c. search needs) (λ c. search needs) (λ c κs. search needs) (λ c. search needs) (λ c. search needs) (λ c κs. search needs) (λ c κs. search needs) (λ c κs. search needs) (λ c. search needs) add-write-short-block-2 (λ c. search needs) (λ c. search needs) part-write-short-block-end
-    add-write-short-block-3 (λ c. search needs) (λ c. search needs) part-write-short-block-end-2 write-short-block-requires (λ c. search needs) returns)
+    tie.close (tie.spec (λ c. search needs) (λ c. search needs) (λ c κs. search needs) (λ c. search needs) (λ c. search needs)
+    (λ c κs. search needs) (λ c κs. search needs) (λ c κs. search needs) (λ c. search needs) add-write-short-block-2 (λ c. search needs)
+    (λ c. search needs) part-write-short-block-end add-write-short-block-3 (λ c. search needs) (λ c. search needs)
+    part-write-short-block-end-2 write-short-block-requires (λ c. search needs) returns)

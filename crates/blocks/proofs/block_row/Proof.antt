@@ -28,15 +28,5 @@ returns-2 c = let start = c .before .before .before in row-copied (start .args .
 
 pub block-row-spec : {M : Type 1} → statement M
 block-row-spec =
-    tie.close
-    (tie.spec
-    (λ c. omega arith)
-    (λ c. omega arith)
-    (λ c. omega arith)
-    (λ c. omega arith)
-    (λ c. search needs)
-    nine-requires
-    returns
-    (λ c. search needs)
-    nine-requires-2
-    returns-2)
+    tie.close (tie.spec (λ c. omega arith) (λ c. omega arith) (λ c. omega arith) (λ c. omega arith) (λ c. search needs) nine-requires
+    returns (λ c. search needs) nine-requires-2 returns-2)

@@ -19,22 +19,10 @@ loop-holds : tie.Need-loop-holds Inv-loop μ-loop
 unfolding dataModules
 loop-holds c = (omega arith, refl)
 
-run-end-requires : tie.Need-run-end-requires Inv-loop μ-loop
-run-end-requires c κs = search needs
-
-run-modules-requires : tie.Need-run-modules-requires Inv-loop μ-loop
-run-modules-requires c κs = search needs
-
-cast-count : tie.Need-cast-count Inv-loop μ-loop
-cast-count c = search needs
-
 add-count : tie.Need-add-count Inv-loop μ-loop
 add-count c =
     let kinds = c .before .before .before .before .before .args .kinds .now in
     let end = c .before .run-end .result in omega (arith, c .run-modules .ensures, modules-few (take end kinds), length-take-le end kinds (omega arith))
-
-loop-less : tie.Need-loop-less Inv-loop μ-loop
-loop-less c = omega arith
 
 loop-again : tie.Need-loop-again Inv-loop μ-loop
 loop-again c = (omega arith, omega (arith, c .run-modules .ensures))
@@ -47,15 +35,5 @@ returns c =
 
 pub data-modules-spec : {M : Type 1} → statement M
 data-modules-spec =
-    tie.close
-    (tie.spec
-    Inv-loop
-    μ-loop
-    loop-holds
-    run-end-requires
-    run-modules-requires
-    cast-count
-    add-count
-    loop-less
-    loop-again
-    returns)
+    tie.close (tie.spec Inv-loop μ-loop loop-holds (λ c κs. search needs) (λ c κs. search needs) (λ c. search needs) add-count
+    (λ c. omega arith) loop-again returns)

@@ -14,24 +14,6 @@ Inv-loop kinds from to count₀ i₀ count i = (i ≤ to) × (from + count ≤ i
 abbrev μ-loop : tie.MeasureT-loop
 μ-loop kinds from to count₀ i₀ count i = to - i
 
-loop-holds : tie.Need-loop-holds Inv-loop μ-loop
-loop-holds c = (omega arith, omega arith, omega arith)
-
-shared-slice-read-data-module : tie.Need-shared-slice-read-data-module Inv-loop μ-loop
-shared-slice-read-data-module c = omega arith
-
-data-module-requires : tie.Need-data-module-requires Inv-loop μ-loop
-data-module-requires c κs = search needs
-
-add-count : tie.Need-add-count Inv-loop μ-loop
-add-count c = omega (arith, c .data-module .ensures .1)
-
-add-i : tie.Need-add-i Inv-loop μ-loop
-add-i c = omega arith
-
-loop-less : tie.Need-loop-less Inv-loop μ-loop
-loop-less c = omega arith
-
 loop-again : tie.Need-loop-again Inv-loop μ-loop
 loop-again c =
     let start = c .before .before .before .before .before in
@@ -48,15 +30,5 @@ returns c =
 
 pub run-modules-spec : {M : Type 1} → statement M
 run-modules-spec =
-    tie.close
-    (tie.spec
-    Inv-loop
-    μ-loop
-    loop-holds
-    shared-slice-read-data-module
-    data-module-requires
-    add-count
-    add-i
-    loop-less
-    loop-again
-    returns)
+    tie.close (tie.spec Inv-loop μ-loop (λ c. (omega arith, omega arith, omega arith)) (λ c. omega arith) (λ c κs. search needs)
+    (λ c. omega (arith, c .data-module .ensures .1)) (λ c. omega arith) (λ c. omega arith) loop-again returns)

@@ -6,15 +6,6 @@ use borrow.Author.Needs.{needs}
 use Rattle.blocks.proofs.total_codewords.Statement.{statement}
 use Rattle.blocks.proofs.total_codewords.Tie as tie
 
-sub-result : tie.Need-sub-result
-sub-result c = search needs
-
-mul-result : tie.Need-mul-result
-mul-result c = search needs
-
-array-read-result : tie.Need-array-read-result
-array-read-result c = search needs
-
 cast-result : tie.Need-cast-result
 unfolding totals totalOf
 cast-result c = omega (arith, total-small (c .args .version) (c .pre .0) (c .pre .1))
@@ -24,5 +15,4 @@ unfolding totals totalOf
 returns c = (search needs, total-small (c .args .version) (c .pre .0) (c .pre .1))
 
 pub total-codewords-spec : {M : Type 1} → statement M
-total-codewords-spec =
-    tie.close (tie.spec sub-result mul-result array-read-result cast-result returns)
+total-codewords-spec = tie.close (tie.spec (λ c. search needs) (λ c. search needs) (λ c. search needs) cast-result returns)

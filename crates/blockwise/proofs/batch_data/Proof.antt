@@ -1,27 +1,12 @@
 -- `batch_data` meets its contract: count times the data of a block. Assumes nothing.
-use mathlib.Core.Path.{_≡_, sym, ap₂, _∙_}
-use Prim.Native.Nat.{ℕ, _*_, _≤_}
+use mathlib.Core.Path.{sym, ap₂, _∙_}
+use Prim.Native.Nat.{_*_}
 use native.Mathlib.Nat.{mul-le-mul}
 use native.Mathlib.Omega.{arith}
 use Rattle.blockwise.proofs.Makes.{data-batch}
 use borrow.Author.Needs.{needs}
 use Rattle.blockwise.proofs.batch_data.Statement.{statement}
 use Rattle.blockwise.proofs.batch_data.Tie as tie
-
-mul-number : tie.Need-mul-number
-mul-number c = search needs
-
-number-requires : tie.Need-number-requires
-number-requires c κs = search needs
-
-mul-number-2 : tie.Need-mul-number-2
-mul-number-2 c = search needs
-
-add-number : tie.Need-add-number
-add-number c = search needs
-
-number-requires-2 : tie.Need-number-requires-2
-number-requires-2 c κs = search needs
 
 mul-result : tie.Need-mul-result
 mul-result c = omega (arith, mul-le-mul (c .before .number .ensures .1) (c .number2 .ensures .1))
@@ -33,12 +18,5 @@ returns c =
 
 pub batch-data-spec : {M : Type 1} → statement M
 batch-data-spec =
-    tie.close
-    (tie.spec
-    mul-number
-    number-requires
-    mul-number-2
-    add-number
-    number-requires-2
-    mul-result
-    returns)
+    tie.close (tie.spec (λ c. search needs) (λ c κs. search needs) (λ c. search needs) (λ c. search needs) (λ c κs. search needs)
+    mul-result returns)

@@ -1,5 +1,5 @@
 -- `batch_length` meets its contract: count times the length of a block. Assumes nothing.
-use mathlib.Core.Path.{_≡_, sym, ap, ap₂, _∙_}
+use mathlib.Core.Path.{sym, ap₂, _∙_}
 use Prim.Native.Nat.{ℕ, _+_, _*_, _≤_}
 use native.Mathlib.Nat.{mul-le-mul}
 use native.Mathlib.Omega.{arith}
@@ -10,33 +10,6 @@ use Rattle.blockwise.proofs.batch_length.Tie as tie
 
 bounded : (a b d : ℕ) → a ≤ 255 → b ≤ 255 → d ≤ 255 → a * (b + d) ≤ 130050
 bounded a b d h i j = let k : b + d ≤ 510 = omega arith in mul-le-mul h k
-
-mul-number : tie.Need-mul-number
-mul-number c = search needs
-
-number-requires : tie.Need-number-requires
-number-requires c κs = search needs
-
-mul-number-2 : tie.Need-mul-number-2
-mul-number-2 c = search needs
-
-add-number : tie.Need-add-number
-add-number c = search needs
-
-number-requires-2 : tie.Need-number-requires-2
-number-requires-2 c κs = search needs
-
-mul-number-3 : tie.Need-mul-number-3
-mul-number-3 c = search needs
-
-add-number-2 : tie.Need-add-number-2
-add-number-2 c = search needs
-
-number-requires-3 : tie.Need-number-requires-3
-number-requires-3 c κs = search needs
-
-add-result : tie.Need-add-result
-add-result c = search needs
 
 mul-result : tie.Need-mul-result
 mul-result c =
@@ -54,16 +27,5 @@ returns c =
 
 pub batch-length-spec : {M : Type 1} → statement M
 batch-length-spec =
-    tie.close
-    (tie.spec
-    mul-number
-    number-requires
-    mul-number-2
-    add-number
-    number-requires-2
-    mul-number-3
-    add-number-2
-    number-requires-3
-    add-result
-    mul-result
-    returns)
+    tie.close (tie.spec (λ c. search needs) (λ c κs. search needs) (λ c. search needs) (λ c. search needs) (λ c κs. search needs)
+    (λ c. search needs) (λ c. search needs) (λ c κs. search needs) (λ c. search needs) mul-result returns)

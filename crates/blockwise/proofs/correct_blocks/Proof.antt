@@ -29,15 +29,6 @@ correct-batch-requires c κs =
     let loop-test = c .before .loop-test in
     (start .pre .0, loop-test .taken, row-batch _ _ (start .pre .1) (loop .k) (loop-test .taken), omega (arith, loop .inv .2, batch-in (start .args .row .now) (start .args .stream .now) (start .pre .2) (loop .k) (loop .at) (loop .total) (loop .stream) (loop-test .taken) (loop .inv .1) (loop .inv .3)))
 
-enum-known-r : tie.Need-enum-known-r Inv-loop μ-loop
-enum-known-r c = search needs
-
-enum-told : tie.Need-enum-told Inv-loop μ-loop
-enum-told c = search needs
-
-same-length : tie.Need-same-length Inv-loop μ-loop
-same-length c = search needs
-
 returns : tie.Need-returns Inv-loop μ-loop
 unfolding numberOf
 returns c =
@@ -57,21 +48,12 @@ add-total c =
     let correct-batch = c .before .before .before .before .before .correct-batch in
     omega (arith, batch-count (start .args .row .now) (start .args .stream .now) (start .pre .2) (loop .k) (loop .at) (loop .total) (loop .stream) (loop-test .taken) (loop .inv .1) (loop .inv .3) _ _ (accepted (batchAt (start .args .row .now) (loop .k)) (loop .at) (loop .stream) (correct-batch .last .0) (correct-batch .result) _ (c .before .r .given .1) (correct-batch .ensures)))
 
-batch-length-requires : tie.Need-batch-length-requires Inv-loop μ-loop
-batch-length-requires c κs = search needs
-
 add-at : tie.Need-add-at Inv-loop μ-loop
 add-at c =
     let start = c .before .before .before .before .before .before .before .before .before .before .before .before in
     let loop = c .before .before .before .before .before .before .before .before .before .loop in
     let loop-test = c .before .before .before .before .before .before .before .before .loop-test in
     omega (arith, c .batch-length .ensures .0, batch-in (start .args .row .now) (start .args .stream .now) (start .pre .2) (loop .k) (loop .at) (loop .total) (loop .stream) (loop-test .taken) (loop .inv .1) (loop .inv .3))
-
-add-k : tie.Need-add-k Inv-loop μ-loop
-add-k c = search needs
-
-loop-less : tie.Need-loop-less Inv-loop μ-loop
-loop-less c = search needs
 
 loop-again : tie.Need-loop-again Inv-loop μ-loop
 loop-again c =
@@ -85,9 +67,6 @@ loop-again c =
       batch-done (start .args .row .now) (start .args .stream .now) (start .pre .2) (loop .k) (loop .at) (loop .total) (loop .stream) (loop-test .taken) (loop .inv .1) (loop .inv .3) _ _ _ (accepted (batchAt (start .args .row .now) (loop .k)) (loop .at) (loop .stream) (correct-batch .last .0) (correct-batch .result) _ (c .before .before .r .given .1) (correct-batch .ensures)) (omega arith),
     )
 
-same-length-2 : tie.Need-same-length-2 Inv-loop μ-loop
-same-length-2 c = c .before .loop .inv .2
-
 returns-2 : tie.Need-returns-2 Inv-loop μ-loop
 unfolding numberOf correctionsOf
 returns-2 c =
@@ -97,21 +76,6 @@ returns-2 c =
 
 pub correct-blocks-spec : {M : Type 1} → statement M
 correct-blocks-spec =
-    tie.close
-    (tie.spec
-    Inv-loop
-    μ-loop
-    loop-holds
-    correct-batch-requires
-    enum-known-r
-    enum-told
-    same-length
-    returns
-    add-total
-    batch-length-requires
-    add-at
-    add-k
-    loop-less
-    loop-again
-    same-length-2
+    tie.close (tie.spec Inv-loop μ-loop loop-holds correct-batch-requires (λ c. search needs) (λ c. search needs) (λ c. search needs)
+    returns add-total (λ c κs. search needs) add-at (λ c. search needs) (λ c. search needs) loop-again (λ c. c .before .loop .inv .2)
     returns-2)

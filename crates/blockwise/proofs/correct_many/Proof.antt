@@ -29,9 +29,6 @@ returns c =
     let start = c .before .before .before .before in
     batch-end _ (c .before .number .result) _ _ (batch-is (start .args .row .now) (start .args .k) _ _ _ (c .before .number .ensures .0) refl refl) 0 _ _ _ 0 (omega arith) (omega (arith, c .if1 .taken)) (done-none _ _)
 
-slice-aggregate-correct-block : tie.Need-slice-aggregate-correct-block Inv-loop μ-loop
-slice-aggregate-correct-block c = sym (c .before .before .before .before .prepare .ensures .size)
-
 loop-holds : tie.Need-loop-holds Inv-loop μ-loop
 unfolding batch
 loop-holds c = (omega arith, omega arith, refl, done-none _ _)
@@ -104,9 +101,6 @@ loop-again c =
       block-done (number2 .result) (number3 .result) (start .args .from) (number .result) (start .args .stream .now) (omega (arith, start .pre .3, ap totalSize (batch-is (start .args .row .now) (start .args .k) _ _ _ (number .ensures .0) (number2 .ensures .0) (number3 .ensures .0)))) (loop .i) (loop .at) (loop .n) (loop .stream) (loop-test .taken) (loop .inv .1) (loop .inv .3) _ _ (accepted (batch 1 (number2 .result) (number3 .result)) (loop .at) (loop .stream) (correct-block .last .1 .0) (correct-block .result) _ (c .before .r .given .1) (correct-block .ensures)),
     )
 
-same-length-2 : tie.Need-same-length-2 Inv-loop μ-loop
-same-length-2 c = c .before .loop .inv .2
-
 returns-3 : tie.Need-returns-3 Inv-loop μ-loop
 returns-3 c =
     let start = c .before .before .before .before .before .before .before .before .before .before .before in
@@ -116,7 +110,8 @@ returns-3 c =
 
 pub correct-many-spec : {M : Type 1} → statement M
 correct-many-spec =
-    tie.close
-    (tie.spec Inv-loop μ-loop (λ c. search needs) (λ c κs. search needs) returns (λ c. search needs) (λ c. search needs) (λ c κs. search needs) (λ c. search needs) (λ c. search needs)
-    (λ c κs. search needs) (λ c. search needs) prepare-requires loop-holds slice-aggregate-correct-block correct-block-requires (λ c. search needs) (λ c. search needs) (λ c. search needs) returns-2 add-n
-    add-at add-at-2 (λ c. search needs) (λ c. search needs) loop-again same-length-2 returns-3)
+    tie.close (tie.spec Inv-loop μ-loop (λ c. search needs) (λ c κs. search needs) returns (λ c. search needs) (λ c. search needs)
+    (λ c κs. search needs) (λ c. search needs) (λ c. search needs) (λ c κs. search needs) (λ c. search needs) prepare-requires
+    loop-holds (λ c. sym (c .before .before .before .before .prepare .ensures .size)) correct-block-requires (λ c. search needs)
+    (λ c. search needs) (λ c. search needs) returns-2 add-n add-at add-at-2 (λ c. search needs) (λ c. search needs) loop-again
+    (λ c. c .before .loop .inv .2) returns-3)

@@ -1,6 +1,6 @@
 -- `data_before` meets its contract: one batch more in each turn. Assumes nothing.
 use mathlib.Core.Path.{_≡_, refl, ap, _∙_}
-use Prim.Native.Nat.{ℕ, _+_, _-_, _*_, _≤_}
+use Prim.Native.Nat.{ℕ, _-_, _*_, _≤_}
 use native.Mathlib.Omega.{arith}
 use Rattle.blocks.specs.Blocks.{totalData}
 use Rattle.blockwise.specs.Inner.{batches}
@@ -19,18 +19,6 @@ loop-holds : tie.Need-loop-holds Inv-loop μ-loop
 unfolding batches totalData
 loop-holds c = (omega arith, refl, omega arith)
 
-batch-data-requires : tie.Need-batch-data-requires Inv-loop μ-loop
-batch-data-requires c κs = search needs
-
-add-n : tie.Need-add-n Inv-loop μ-loop
-add-n c = omega (arith, c .batch-data .ensures .1)
-
-add-i : tie.Need-add-i Inv-loop μ-loop
-add-i c = search needs
-
-loop-less : tie.Need-loop-less Inv-loop μ-loop
-loop-less c = search needs
-
 loop-again : tie.Need-loop-again Inv-loop μ-loop
 loop-again c = (omega arith, data-place _ _ _ _ (c .before .before .loop .inv .1) (c .batch-data .ensures .0), omega (arith, c .batch-data .ensures .1))
 
@@ -42,14 +30,5 @@ returns c =
 
 pub data-before-spec : {M : Type 1} → statement M
 data-before-spec =
-    tie.close
-    (tie.spec
-    Inv-loop
-    μ-loop
-    loop-holds
-    batch-data-requires
-    add-n
-    add-i
-    loop-less
-    loop-again
-    returns)
+    tie.close (tie.spec Inv-loop μ-loop loop-holds (λ c κs. search needs) (λ c. omega (arith, c .batch-data .ensures .1))
+    (λ c. search needs) (λ c. search needs) loop-again returns)

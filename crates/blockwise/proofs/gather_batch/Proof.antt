@@ -1,8 +1,8 @@
 -- `gather_batch` meets its contract: the data part of one block more in each turn. Assumes nothing.
-use mathlib.Core.Path.{_≡_, refl, sym, _∙_}
+use mathlib.Core.Path.{_≡_}
 use Prim.Native.Nat.{_+_, _-_, _*_, _≤_}
 use native.Mathlib.Omega.{arith}
-use lib.ListN.{length, drop}
+use lib.ListN.{drop}
 use Rattle.blocks.specs.Blocks.{batch, totalSize, totalData}
 use Rattle.blockwise.specs.Inner.{batches, Gathers}
 use Rattle.blockwise.proofs.Batches.{batch-is}
@@ -16,30 +16,6 @@ Inv-loop out₀ stream row k count info parity at₀ from₀ i₀ out at from i 
 
 abbrev μ-loop : tie.MeasureT-loop
 μ-loop out₀ stream row k count info parity at₀ from₀ i₀ out at from i = count - i
-
-mul-number : tie.Need-mul-number Inv-loop μ-loop
-mul-number c = search needs
-
-number-requires : tie.Need-number-requires Inv-loop μ-loop
-number-requires c κs = search needs
-
-mul-number-2 : tie.Need-mul-number-2 Inv-loop μ-loop
-mul-number-2 c = search needs
-
-add-number : tie.Need-add-number Inv-loop μ-loop
-add-number c = search needs
-
-number-requires-2 : tie.Need-number-requires-2 Inv-loop μ-loop
-number-requires-2 c κs = search needs
-
-mul-number-3 : tie.Need-mul-number-3 Inv-loop μ-loop
-mul-number-3 c = search needs
-
-add-number-2 : tie.Need-add-number-2 Inv-loop μ-loop
-add-number-2 c = search needs
-
-number-requires-3 : tie.Need-number-requires-3 Inv-loop μ-loop
-number-requires-3 c κs = search needs
 
 data-before-requires : tie.Need-data-before-requires Inv-loop μ-loop
 data-before-requires c κs =
@@ -97,12 +73,6 @@ add-from-2 c =
     let loop-test = c .before .before .before .before .loop-test in
     omega (arith, loop .inv .2, start .pre .2, stream-room (start .args .row .now) (start .args .k) (number .result) (number2 .result) (number3 .result) (start .pre .1) (number .ensures .0) (number2 .ensures .0) (number3 .ensures .0) (loop .i) (loop-test .taken))
 
-add-i : tie.Need-add-i Inv-loop μ-loop
-add-i c = search needs
-
-loop-less : tie.Need-loop-less Inv-loop μ-loop
-loop-less c = search needs
-
 loop-again : tie.Need-loop-again Inv-loop μ-loop
 loop-again c =
     let start = c .before .before .before .before .before .before .before .before .before .before .before .before .before .before in
@@ -119,9 +89,6 @@ loop-again c =
           (one-gathered (number2 .result) (number3 .result) (loop .at) (loop .from) (start .args .stream .now) _ _ (copy .kept .0) (copy .ensures)),
     )
 
-same-length : tie.Need-same-length Inv-loop μ-loop
-same-length c = c .before .loop .inv .3 .size
-
 returns : tie.Need-returns Inv-loop μ-loop
 returns c =
     let start = c .before .before .before .before .before .before .before .before .before .before in
@@ -133,27 +100,7 @@ returns c =
 
 pub gather-batch-spec : {M : Type 1} → statement M
 gather-batch-spec =
-    tie.close
-    (tie.spec
-    Inv-loop
-    μ-loop
-    mul-number
-    number-requires
-    mul-number-2
-    add-number
-    number-requires-2
-    mul-number-3
-    add-number-2
-    number-requires-3
-    data-before-requires
-    length-before-requires
-    loop-holds
-    copy-requires
-    add-at
-    add-from
-    add-from-2
-    add-i
-    loop-less
-    loop-again
-    same-length
-    returns)
+    tie.close (tie.spec Inv-loop μ-loop (λ c. search needs) (λ c κs. search needs) (λ c. search needs) (λ c. search needs)
+    (λ c κs. search needs) (λ c. search needs) (λ c. search needs) (λ c κs. search needs) data-before-requires length-before-requires
+    loop-holds copy-requires add-at add-from add-from-2 (λ c. search needs) (λ c. search needs) loop-again
+    (λ c. c .before .loop .inv .3 .size) returns)

@@ -1,8 +1,6 @@
 -- `gather_data` meets its contract: the data of one batch more in each turn. Assumes nothing.
-use mathlib.Core.Path.{_≡_, refl, _∙_}
 use Prim.Native.Nat.{_-_, _≤_}
 use native.Mathlib.Omega.{arith}
-use lib.ListN.{length}
 use Rattle.blockwise.specs.Inner.{batches, Gathers}
 use Rattle.blockwise.proofs.Makes.{gathers-none, gathers-batch, gathers-row}
 use borrow.Author.Needs.{needs}
@@ -24,12 +22,6 @@ gather-batch-requires c κs =
     let start = c .before .before .before .before .before .before in
     (start .pre .0, c .before .loop-test .taken, start .pre .1, omega (arith, start .pre .2, c .before .before .loop .inv .1 .size))
 
-add-k : tie.Need-add-k Inv-loop μ-loop
-add-k c = search needs
-
-loop-less : tie.Need-loop-less Inv-loop μ-loop
-loop-less c = search needs
-
 loop-again : tie.Need-loop-again Inv-loop μ-loop
 loop-again c =
     let start = c .before .before .before .before .before .before .before .before .before in
@@ -40,9 +32,6 @@ loop-again c =
 data-before-requires : tie.Need-data-before-requires Inv-loop μ-loop
 data-before-requires c κs = (c .before .before .before .before .before .pre .0, omega arith)
 
-same-length : tie.Need-same-length Inv-loop μ-loop
-same-length c = c .before .before .loop .inv .1 .size
-
 returns : tie.Need-returns Inv-loop μ-loop
 returns c =
     let start = c .before .before .before .before .before .before in
@@ -51,15 +40,5 @@ returns c =
 
 pub gather-data-spec : {M : Type 1} → statement M
 gather-data-spec =
-    tie.close
-    (tie.spec
-    Inv-loop
-    μ-loop
-    loop-holds
-    gather-batch-requires
-    add-k
-    loop-less
-    loop-again
-    data-before-requires
-    same-length
-    returns)
+    tie.close (tie.spec Inv-loop μ-loop loop-holds gather-batch-requires (λ c. search needs) (λ c. search needs) loop-again
+    data-before-requires (λ c. c .before .before .loop .inv .1 .size) returns)

@@ -4,10 +4,8 @@ use borrow.Author.Needs.{needs}
 use Rattle.blockwise.proofs.is_one_short.Statement.{statement}
 use Rattle.blockwise.proofs.is_one_short.Tie as tie
 
-returns : tie.Need-returns
-returns c = λ e. absurd (false≢true e)
-
 pub is-one-short-spec : {M : Type 1} → statement M
 is-one-short-spec =
-    tie.close
-    (tie.spec (λ c. search needs) (λ c κs. search needs) returns (λ c. search needs) (λ c. search needs) (λ c κs. search needs) (λ c. search needs) (λ c. search needs) (λ c κs. search needs) (λ c. search needs) (λ c. search needs))
+    tie.close (tie.spec (λ c. search needs) (λ c κs. search needs) (λ c. λ e. absurd (false≢true e)) (λ c. search needs)
+    (λ c. search needs) (λ c κs. search needs) (λ c. search needs) (λ c. search needs) (λ c κs. search needs) (λ c. search needs)
+    (λ c. search needs))

@@ -1,6 +1,6 @@
 -- `length_before` meets its contract: one batch more in each turn. Assumes nothing.
 use mathlib.Core.Path.{_≡_, refl, ap, _∙_}
-use Prim.Native.Nat.{ℕ, _+_, _-_, _*_, _≤_}
+use Prim.Native.Nat.{ℕ, _-_, _*_, _≤_}
 use native.Mathlib.Omega.{arith}
 use Rattle.blocks.specs.Blocks.{totalSize}
 use Rattle.blockwise.specs.Inner.{batches}
@@ -19,18 +19,6 @@ loop-holds : tie.Need-loop-holds Inv-loop μ-loop
 unfolding batches totalSize
 loop-holds c = (omega arith, refl, omega arith)
 
-batch-length-requires : tie.Need-batch-length-requires Inv-loop μ-loop
-batch-length-requires c κs = search needs
-
-add-n : tie.Need-add-n Inv-loop μ-loop
-add-n c = omega (arith, c .batch-length .ensures .1)
-
-add-i : tie.Need-add-i Inv-loop μ-loop
-add-i c = search needs
-
-loop-less : tie.Need-loop-less Inv-loop μ-loop
-loop-less c = search needs
-
 loop-again : tie.Need-loop-again Inv-loop μ-loop
 loop-again c =
     let loop = c .before .before .loop in
@@ -44,14 +32,5 @@ returns c =
 
 pub length-before-spec : {M : Type 1} → statement M
 length-before-spec =
-    tie.close
-    (tie.spec
-    Inv-loop
-    μ-loop
-    loop-holds
-    batch-length-requires
-    add-n
-    add-i
-    loop-less
-    loop-again
-    returns)
+    tie.close (tie.spec Inv-loop μ-loop loop-holds (λ c κs. search needs) (λ c. omega (arith, c .batch-length .ensures .1))
+    (λ c. search needs) (λ c. search needs) loop-again returns)

@@ -9,34 +9,13 @@ use Rattle.codewords.proofs.masked.Tie as tie
 returns : tie.Need-returns
 returns c = (mask-zero (c .before .args .mask) (c .before .args .i) (c .before .args .j) (omega arith), omega arith)
 
-add-result : tie.Need-add-result
-add-result c = search needs
-
-sub-result : tie.Need-sub-result
-sub-result c = search needs
-
 returns-2 : tie.Need-returns-2
 returns-2 c = (mask-one (c .before .before .args .mask) (c .before .before .args .i) (c .before .before .args .j) (omega arith), omega arith)
-
-add-result-2 : tie.Need-add-result-2
-add-result-2 c = search needs
-
-add-result-3 : tie.Need-add-result-3
-add-result-3 c = search needs
-
-sub-result-2 : tie.Need-sub-result-2
-sub-result-2 c = search needs
 
 returns-3 : tie.Need-returns-3
 returns-3 c =
     let start = c .before .before .before in
     (mask-two (start .args .mask) (start .args .i) (start .args .j) (omega arith), omega arith)
-
-rem-result : tie.Need-rem-result
-rem-result c = search needs
-
-rem-result-2 : tie.Need-rem-result-2
-rem-result-2 c = search needs
 
 add-result-4 : tie.Need-add-result-4
 add-result-4 c =
@@ -53,9 +32,6 @@ add-result-6 c =
     let start = c .before .before .before in
     omega (arith, mod-lt (start .args .i) {m = start .args .j} (omega arith), mod-lt (start .args .j) {m = start .args .i} (omega arith))
 
-sub-result-3 : tie.Need-sub-result-3
-sub-result-3 c = search needs
-
 returns-4 : tie.Need-returns-4
 returns-4 c =
     let start = c .before .before .before in
@@ -63,20 +39,6 @@ returns-4 c =
 
 pub masked-spec : {M : Type 1} → statement M
 masked-spec =
-    tie.close
-    (tie.spec
-    returns
-    add-result
-    sub-result
-    returns-2
-    add-result-2
-    add-result-3
-    sub-result-2
-    returns-3
-    rem-result
-    rem-result-2
-    add-result-4
-    add-result-5
-    add-result-6
-    sub-result-3
+    tie.close (tie.spec returns (λ c. search needs) (λ c. search needs) returns-2 (λ c. search needs) (λ c. search needs)
+    (λ c. search needs) returns-3 (λ c. search needs) (λ c. search needs) add-result-4 add-result-5 add-result-6 (λ c. search needs)
     returns-4)

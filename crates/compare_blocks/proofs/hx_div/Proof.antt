@@ -7,12 +7,6 @@ use borrow.Author.Needs.{needs}
 use Rattle.compare_blocks.proofs.hx_div.Statement.{statement}
 use Rattle.compare_blocks.proofs.hx_div.Tie as tie
 
-returns : tie.Need-returns
-returns c = search needs
-
-han-xin-requires : tie.Need-han-xin-requires
-han-xin-requires c κs = search needs
-
 div-requires : tie.Need-div-requires
 div-requires c κs = (c .before .han-xin .ensures .0, omega (arith, c .before .before .if1 .left))
 
@@ -25,4 +19,4 @@ returns-2 c =
     }
 
 pub hx-div-spec : {M : Type 1} → statement M
-hx-div-spec = tie.close (tie.spec returns han-xin-requires div-requires returns-2)
+hx-div-spec = tie.close (tie.spec (λ c. search needs) (λ c κs. search needs) div-requires returns-2)

@@ -9,9 +9,6 @@ use borrow.Author.Needs.{needs}
 use Rattle.compare_blocks.proofs.hx_power.Statement.{statement}
 use Rattle.compare_blocks.proofs.hx_power.Tie as tie
 
-han-xin-requires : tie.Need-han-xin-requires
-han-xin-requires c κs = search needs
-
 power-requires : tie.Need-power-requires
 power-requires c κs = (c .before .han-xin .ensures .0, omega arith)
 
@@ -23,4 +20,4 @@ returns c =
     ∙ (let e : 255 * (start .args .n / 255) + start .args .n % 255 ≡ start .args .n = omega arith in ap (power 0x163) e)
 
 pub hx-power-spec : {M : Type 1} → statement M
-hx-power-spec = tie.close (tie.spec han-xin-requires power-requires returns)
+hx-power-spec = tie.close (tie.spec (λ c κs. search needs) power-requires returns)

@@ -3,21 +3,6 @@ use borrow.Author.Needs.{needs}
 use Rattle.compare_segments.proofs.compare_segments_check.Statement.{statement}
 use Rattle.compare_segments.proofs.compare_segments_check.Tie as tie
 
-check-script-requires : tie.Need-check-script-requires
-check-script-requires c κs = search needs
-
-enum-known-answer : tie.Need-enum-known-answer
-enum-known-answer c = search needs
-
-enum-told : tie.Need-enum-told
-enum-told c = search needs
-
-enum-told-2 : tie.Need-enum-told-2
-enum-told-2 c = search needs
-
-enum-told-3 : tie.Need-enum-told-3
-enum-told-3 c = search needs
-
 returns : tie.Need-returns
 returns c =
     let v = c .before .answer .given in
@@ -34,14 +19,5 @@ returns-4 c = rw (sym (c .before .before .check-script .ensures) ∙ c .enum-tol
 
 pub compare-segments-check-spec : {M : Type 1} → statement M
 compare-segments-check-spec =
-    tie.close
-    (tie.spec
-    check-script-requires
-    enum-known-answer
-    enum-told
-    enum-told-2
-    enum-told-3
-    returns
-    returns-2
-    returns-3
-    returns-4)
+    tie.close (tie.spec (λ c κs. search needs) (λ c. search needs) (λ c. search needs) (λ c. search needs) (λ c. search needs) returns
+    returns-2 returns-3 returns-4)

@@ -25,12 +25,6 @@ returns-4 : tie.Need-returns-4
 unfolding rowAnswer isVersion
 returns-4 c = simp (le-leb _ _ (c .before .before .before .if1 .left), le-leb _ _ (c .before .before .if2 .left), le-leb _ _ (c .before .if3 .left), le-ltb _ _ (c .if4 .taken))
 
-block-row-requires : tie.Need-block-row-requires
-block-row-requires c κs = search needs
-
-array-read-result : tie.Need-array-read-result
-array-read-result c = search needs
-
 returns-5 : tie.Need-returns-5
 unfolding rowAnswer isVersion
 returns-5 c =
@@ -39,6 +33,4 @@ returns-5 c =
     simp (le-leb _ _ (if1 .left), le-leb _ _ (c .before .before .before .if2 .left), le-leb _ _ (c .before .before .if3 .left), lt-ltb _ _ (c .before .if4 .left)) (ap (λ (r : List ℕ). getD r (start .args .n) 0) (c .block-row .ensures))
 
 pub hx-block-number-spec : {M : Type 1} → statement M
-hx-block-number-spec =
-    tie.close
-    (tie.spec returns returns-2 returns-3 returns-4 block-row-requires array-read-result returns-5)
+hx-block-number-spec = tie.close (tie.spec returns returns-2 returns-3 returns-4 (λ c κs. search needs) (λ c. search needs) returns-5)

@@ -16,13 +16,9 @@ returns-3 : tie.Need-returns-3
 unfolding positionAnswer
 returns-3 c = simp (le-leb _ _ (c .before .before .if1 .left), le-leb _ _ (c .before .if2 .left), le-ltb _ _ (c .if3 .taken))
 
-info-position-requires : tie.Need-info-position-requires
-info-position-requires c κs = search needs
-
 returns-4 : tie.Need-returns-4
 unfolding positionAnswer
 returns-4 c = simp (le-leb _ _ (c .before .before .before .if1 .left), le-leb _ _ (c .before .before .if2 .left), lt-ltb _ _ (c .before .if3 .left)) (c .info-position .ensures .0)
 
 pub hx-info-position-spec : {M : Type 1} → statement M
-hx-info-position-spec =
-    tie.close (tie.spec returns returns-2 returns-3 info-position-requires returns-4)
+hx-info-position-spec = tie.close (tie.spec returns returns-2 returns-3 (λ c κs. search needs) returns-4)

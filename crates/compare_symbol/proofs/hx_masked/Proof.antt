@@ -12,19 +12,9 @@ returns-2 : tie.Need-returns-2
 unfolding maskAnswer
 returns-2 c = simp (lt-ltb _ _ (c .before .if1 .left), le-ltb _ _ (c .if2 .taken))
 
-add-masked : tie.Need-add-masked
-add-masked c = search needs
-
-add-masked-2 : tie.Need-add-masked-2
-add-masked-2 c = search needs
-
-masked-requires : tie.Need-masked-requires
-masked-requires c κs = search needs
-
 returns-3 : tie.Need-returns-3
 unfolding maskAnswer
 returns-3 c = simp (lt-ltb _ _ (c .before .before .if1 .left), lt-ltb _ _ (c .before .if2 .left)) (c .masked .ensures .0)
 
 pub hx-masked-spec : {M : Type 1} → statement M
-hx-masked-spec =
-    tie.close (tie.spec returns returns-2 add-masked add-masked-2 masked-requires returns-3)
+hx-masked-spec = tie.close (tie.spec returns returns-2 (λ c. search needs) (λ c. search needs) (λ c κs. search needs) returns-3)

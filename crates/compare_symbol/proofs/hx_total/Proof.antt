@@ -13,12 +13,9 @@ returns-2 : tie.Need-returns-2
 unfolding totalAnswer isVersion
 returns-2 c = simp (le-leb _ _ (c .before .if1 .left), lt-leb _ _ (c .if2 .taken))
 
-total-codewords-requires : tie.Need-total-codewords-requires
-total-codewords-requires c κs = search needs
-
 returns-3 : tie.Need-returns-3
 unfolding totalAnswer isVersion
 returns-3 c = simp (le-leb _ _ (c .before .before .if1 .left), le-leb _ _ (c .before .if2 .left)) (c .total-codewords .ensures .0)
 
 pub hx-total-spec : {M : Type 1} → statement M
-hx-total-spec = tie.close (tie.spec returns returns-2 total-codewords-requires returns-3)
+hx-total-spec = tie.close (tie.spec returns returns-2 (λ c κs. search needs) returns-3)

@@ -10,5 +10,5 @@ prepare-requires c κs = (refl, zeros 512)
 
 pub correct-spec : {M : Type 1} → statement M
 correct-spec =
-    tie.close
-    (tie.spec (λ c κs. search needs) (λ c. search needs) (λ c. search needs) (λ c. search needs) prepare-requires (λ c. search needs) (λ c κs. search needs) (λ c. search needs) (λ c. search needs))
+    tie.close (tie.spec (λ c κs. search needs) (λ c. search needs) (λ c. search needs) (λ c. search needs) prepare-requires
+    (λ c. search needs) (λ c κs. search needs) (λ c. search needs) (λ c. search needs))

@@ -38,5 +38,5 @@ returns-2 c =
 
 pub correct-left-spec : {M : Type 1} → statement M
 correct-left-spec =
-    tie.close
-    (tie.spec (λ c κs. search needs) returns (λ c κs. search needs) (λ c. search needs) syndromes-requires (λ c. search needs) repair-requires (λ c. search needs) returns-2)
+    tie.close (tie.spec (λ c κs. search needs) returns (λ c κs. search needs) (λ c. search needs) syndromes-requires (λ c. search needs)
+    repair-requires (λ c. search needs) returns-2)

@@ -55,18 +55,5 @@ returns-5 c =
 
 pub correct-over-spec : {M : Type 1} → statement M
 correct-over-spec =
-    tie.close
-    (tie.spec
-    returns
-    returns-2
-    returns-3
-    (λ c. search needs)
-    syndromes-requires
-    (λ c. search needs)
-    (λ c κs. search needs)
-    (λ c. search needs)
-    returns-4
-    (λ c. search needs)
-    repair-requires
-    (λ c. search needs)
-    returns-5)
+    tie.close (tie.spec returns returns-2 returns-3 (λ c. search needs) syndromes-requires (λ c. search needs) (λ c κs. search needs)
+    (λ c. search needs) returns-4 (λ c. search needs) repair-requires (λ c. search needs) returns-5)

@@ -6,9 +6,6 @@ use borrow.Author.Needs.{needs}
 use Rattle.corrector.proofs.is_plain.Statement.{statement}
 use Rattle.corrector.proofs.is_plain.Tie as tie
 
-returns : tie.Need-returns
-returns c = λ e. absurd (true≢false e)
-
 mul-result : tie.Need-mul-result
 mul-result c =
     let fits = c .before .is-untabled .ensures (c .if1 .left) in omega (arith, fits .2, mul-le-mul-left (c .before .before .args .n) (fits .0 .1))
@@ -17,4 +14,4 @@ returns-2 : tie.Need-returns-2
 returns-2 c = λ e. c .before .is-untabled .ensures (c .if1 .left)
 
 pub is-plain-spec : {M : Type 1} → statement M
-is-plain-spec = tie.close (tie.spec (λ c κs. search needs) returns mul-result returns-2)
+is-plain-spec = tie.close (tie.spec (λ c κs. search needs) (λ c. λ e. absurd (true≢false e)) mul-result returns-2)

@@ -9,19 +9,10 @@ use borrow.Author.Needs.{needs}
 use Rattle.corrector.proofs.repair.Statement.{statement}
 use Rattle.corrector.proofs.repair.Tie as tie
 
-slice-aggregate-locator : tie.Need-slice-aggregate-locator
-slice-aggregate-locator c = search needs
-
 locator-requires : tie.Need-locator-requires
 locator-requires c κs =
     let start = c .before .before .before .before in
     (start .pre .0, (omega arith, ((start .pre .1 .1 .size, start .pre .1 .1 .bytes), (refl, zeros 256))))
-
-add-if1 : tie.Need-add-if1
-add-if1 c = search needs
-
-same-length : tie.Need-same-length
-same-length c = search needs
 
 returns : tie.Need-returns
 unfolding outcome
@@ -31,26 +22,11 @@ returns c =
     long-settled _ (the-field _ (start .pre .0)) _ _ _ (start .pre .1 .0 .2) (λ i. omega (arith, slice-known .given i)) _ (start .pre .1 .1)
     _ _ (c .before .before .locator .ensures) (c .if1 .taken)
 
-slice-aggregate-roots : tie.Need-slice-aggregate-roots
-slice-aggregate-roots c = search needs
-
 roots-requires : tie.Need-roots-requires
 roots-requires c κs =
     let start = c .before .before .before .before .before .before .before .before .before in
     let locator = c .before .before .before .before .locator in
     (start .pre .0, (omega (arith, c .before .before .if1 .left, start .pre .1 .0 .1), locator .ensures .size, locator .ensures .bytes, omega arith, refl))
-
-slice-aggregate-magnitudes : tie.Need-slice-aggregate-magnitudes
-slice-aggregate-magnitudes c = search needs
-
-slice-aggregate-magnitudes-2 : tie.Need-slice-aggregate-magnitudes-2
-slice-aggregate-magnitudes-2 c = search needs
-
-magnitudes-requires : tie.Need-magnitudes-requires
-magnitudes-requires c κs = search needs
-
-slice-aggregate-take-off-all : tie.Need-slice-aggregate-take-off-all
-slice-aggregate-take-off-all c = search needs
 
 take-off-all-requires : tie.Need-take-off-all-requires
 take-off-all-requires c κs =
@@ -63,21 +39,12 @@ clean-requires c κs =
     let start = c .before .before .before .before .before .before .before .before .before .before .before .before .before .before .before .before .before .before .before .before .before .before in
     omega (arith, c .before .before .before .take-off-all .ensures .size, start .pre .1 .1 .size, start .pre .1 .0 .1)
 
-slice-aggregate-add : tie.Need-slice-aggregate-add
-slice-aggregate-add c = search needs
-
 add-requires : tie.Need-add-requires
 add-requires c κs =
     let start = c .before .before .before .before .before .before .before .before .before .before .before .before .before .before .before .before .before .before .before .before .before .before .before .before .before .before in
     let roots = c .before .before .before .before .before .before .before .before .before .before .before .before .before .before .before .before .roots in
     let magnitudes = c .before .before .before .before .before .before .before .before .before .before .before .magnitudes in
     omega (arith, magnitudes .ensures .size, roots .ensures .size, start .pre .1 .0 .2)
-
-same-length-2 : tie.Need-same-length-2
-same-length-2 c = search needs
-
-same-length-3 : tie.Need-same-length-3
-same-length-3 c = search needs
 
 returns-2 : tie.Need-returns-2
 unfolding outcome
@@ -95,9 +62,6 @@ returns-2 c =
     _ _ (locator .ensures) _ _ _ (roots .ensures) (magnitudes .ensures) (take-off-all .ensures)
     (omega (arith, if1 .left)) (sym (if2 .taken) ∙ clean .ensures) _ (c .before .before .add .ensures)
 
-same-length-4 : tie.Need-same-length-4
-same-length-4 c = search needs
-
 returns-3 : tie.Need-returns-3
 unfolding outcome
 returns-3 c =
@@ -113,25 +77,6 @@ returns-3 c =
 
 pub repair-spec : {M : Type 1} → statement M
 repair-spec =
-    tie.close
-    (tie.spec
-    slice-aggregate-locator
-    locator-requires
-    add-if1
-    same-length
-    returns
-    slice-aggregate-roots
-    roots-requires
-    slice-aggregate-magnitudes
-    slice-aggregate-magnitudes-2
-    magnitudes-requires
-    slice-aggregate-take-off-all
-    take-off-all-requires
-    clean-requires
-    slice-aggregate-add
-    add-requires
-    same-length-2
-    same-length-3
-    returns-2
-    same-length-4
-    returns-3)
+    tie.close (tie.spec (λ c. search needs) locator-requires (λ c. search needs) (λ c. search needs) returns (λ c. search needs)
+    roots-requires (λ c. search needs) (λ c. search needs) (λ c κs. search needs) (λ c. search needs) take-off-all-requires
+    clean-requires (λ c. search needs) add-requires (λ c. search needs) (λ c. search needs) returns-2 (λ c. search needs) returns-3)

@@ -10,8 +10,4 @@ returns-2 : tie.Need-returns-2
 returns-2 c = pattern-dark (c .before .args .kind) (omega (arith, c .if1 .left))
 
 pub pattern-spec : {M : Type 1} → statement M
-pattern-spec =
-    tie.close
-    (tie.spec
-    returns
-    returns-2)
+pattern-spec = tie.close (tie.spec returns returns-2)

@@ -29,11 +29,5 @@ returns c =
 
 pub place-codewords-spec : {M : Type 1} → statement M
 place-codewords-spec =
-    tie.close
-    (tie.spec
-    (λ c. search needs)
-    slice-aggregate-place-all
-    slice-aggregate-place-all-2
-    place-all-requires
-    (λ c. search needs)
+    tie.close (tie.spec (λ c. search needs) slice-aggregate-place-all slice-aggregate-place-all-2 place-all-requires (λ c. search needs)
     returns)

@@ -21,9 +21,6 @@ Inv-loop square₀ kinds codewords side mask table row₀ columns bit₀ i₀ sq
 abbrev μ-loop : tie.MeasureT-loop
 μ-loop square₀ kinds codewords side mask table row₀ columns bit₀ i₀ square row bit i = side - i
 
-columns-requires : tie.Need-columns-requires Inv-loop μ-loop
-columns-requires c κs = (omega arith, refl)
-
 loop-holds : tie.Need-loop-holds Inv-loop μ-loop
 loop-holds c =
     let start = c .before .before .before .before .before .before in
@@ -32,12 +29,6 @@ loop-holds c =
     let ds = bitsOf (start .args .codewords .now) in
     let z : 0 ≡ 0 * start .args .side = sym (zero-mul (start .args .side)) in
     (row-new, omega arith, subst (Placing m ks (placed m 0 ks ds) (drop (dataModules ks) ds) (start .args .square .now) ds) z (placing-begun m ks (start .args .square .now) ds (start .pre .1) (start .pre .0)))
-
-slice-aggregate-mask-row : tie.Need-slice-aggregate-mask-row Inv-loop μ-loop
-slice-aggregate-mask-row c = sym (c .before .before .loop .inv .0 .size)
-
-slice-aggregate-mask-row-2 : tie.Need-slice-aggregate-mask-row-2 Inv-loop μ-loop
-slice-aggregate-mask-row-2 c = sym (c .before .before .before .before .before .columns .ensures .size)
 
 mask-row-requires : tie.Need-mask-row-requires Inv-loop μ-loop
 mask-row-requires c κs =
@@ -56,9 +47,6 @@ part-put-row-end c = omega (arith, row-inside (c .before .before .before .before
 
 part-put-row-end-2 : tie.Need-part-put-row-end-2 Inv-loop μ-loop
 part-put-row-end-2 c = omega (arith, row-inside (c .before .before .before .before .before .before .loop .i) (c .before .before .before .before .before .before .before .before .before .before .before .before .before .args .side) (c .before .before .before .before .before .loop-test .taken), c .before .before .before .before .before .before .before .before .before .before .before .before .before .pre .4, c .before .before .before .before .before .before .before .before .before .before .before .before .before .pre .1)
-
-slice-aggregate-put-row : tie.Need-slice-aggregate-put-row Inv-loop μ-loop
-slice-aggregate-put-row c = sym (c .before .before .before .before .mask-row .ensures .0 .size)
 
 put-row-requires : tie.Need-put-row-requires Inv-loop μ-loop
 put-row-requires c κs =
@@ -98,30 +86,8 @@ returns c =
 
 pub place-rows-spec : {M : Type 1} → statement M
 place-rows-spec =
-    tie.close
-    (tie.spec
-    Inv-loop
-    μ-loop
-    (λ c. omega arith)
-    (λ c. omega arith)
-    (λ c. refl)
-    columns-requires
-    loop-holds
-    slice-aggregate-mask-row
-    slice-aggregate-mask-row-2
-    mask-row-requires
-    mul-at
-    add-end
-    (λ c. omega arith)
-    (λ c. omega arith)
-    part-put-row-end
-    (λ c. omega arith)
-    (λ c. omega arith)
-    part-put-row-end-2
-    slice-aggregate-put-row
-    put-row-requires
-    add-i
-    loop-less
-    loop-again
-    same-length
-    returns)
+    tie.close (tie.spec Inv-loop μ-loop (λ c. omega arith) (λ c. omega arith) (λ c. refl) (λ c κs. (omega arith, refl)) loop-holds
+    (λ c. sym (c .before .before .loop .inv .0 .size)) (λ c. sym (c .before .before .before .before .before .columns .ensures .size))
+    mask-row-requires mul-at add-end (λ c. omega arith) (λ c. omega arith) part-put-row-end (λ c. omega arith) (λ c. omega arith)
+    part-put-row-end-2 (λ c. sym (c .before .before .before .before .mask-row .ensures .0 .size)) put-row-requires add-i loop-less
+    loop-again same-length returns)

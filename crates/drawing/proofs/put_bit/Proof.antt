@@ -19,13 +19,5 @@ returns-2 c = let start = c .before .before .before .before in record { room = �
 
 pub put-bit-spec : {M : Type 1} → statement M
 put-bit-spec =
-    tie.close
-    (tie.spec
-    (λ c. search needs)
-    returns
-    (λ c κs. search needs)
-    cast-square
-    (λ c. search needs)
-    (λ c. search needs)
-    (λ c. search needs)
-    returns-2)
+    tie.close (tie.spec (λ c. search needs) returns (λ c κs. search needs) cast-square (λ c. search needs) (λ c. search needs)
+    (λ c. search needs) returns-2)

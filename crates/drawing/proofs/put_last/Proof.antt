@@ -34,14 +34,4 @@ returns : tie.Need-returns Inv-loop μ-loop
 returns c = puts-all (c .before .before .loop .inv .2) (omega (arith, c .if1 .left))
 
 pub put-last-spec : {M : Type 1} → statement M
-put-last-spec =
-    tie.close
-    (tie.spec
-    Inv-loop
-    μ-loop
-    loop-holds
-    put-one-requires
-    loop-less
-    loop-again
-    same-length
-    returns)
+put-last-spec = tie.close (tie.spec Inv-loop μ-loop loop-holds put-one-requires loop-less loop-again same-length returns)

@@ -15,11 +15,4 @@ returns : tie.Need-returns
 returns c = spread-is (c .args .v) (c .pre)
 
 pub spread-spec : {M : Type 1} → statement M
-spread-spec =
-    tie.close
-    (tie.spec
-    (λ c. search needs)
-    (λ c. search needs)
-    mul-result-2
-    add-result
-    returns)
+spread-spec = tie.close (tie.spec (λ c. search needs) (λ c. search needs) mul-result-2 add-result returns)

@@ -27,12 +27,6 @@ loop-holds c =
     let a = s .args in
     (refl, omega arith, omega arith, s .pre .long, begun (a .script .now) (a .payload .now) (length (a .codewords .now)) (a .codewords .now) (λ k. omega (arith, y .shared-slice-known .given k)) (s .pre))
 
-command-at-requires : tie.Need-command-at-requires Inv-loop μ-loop
-command-at-requires c κs = omega arith
-
-enum-known-next : tie.Need-enum-known-next Inv-loop μ-loop
-enum-known-next c = c .match .keys1
-
 add-end : tie.Need-add-end Inv-loop μ-loop
 add-end c =
     let k = c in
@@ -106,12 +100,6 @@ write-run-requires c κs =
     let w = l .inv .0 in
     rw (z, w) (omega arith, u .0, u .1, front-has (a .script .now) (a .payload .now) (length (a .codewords .now)) (l .codewords) (l .i) (l .j) (l .at) h (g .command-at .result) (g .command-at .ensures) d (run (v .0 .0) (take (v .0 .1 .0) (drop (l .j) (a .payload .now)))) (commandSize (v .0 .0)) (v .0 .1 .0) (t .1), r)
 
-command-size-requires : tie.Need-command-size-requires Inv-loop μ-loop
-command-size-requires c κs = search needs
-
-add-i : tie.Need-add-i Inv-loop μ-loop
-add-i c = omega arith
-
 loop-less : tie.Need-loop-less Inv-loop μ-loop
 loop-less c =
     let before = c .before .before .before .before .before .before in
@@ -153,9 +141,6 @@ loop-again c =
       rw e (front-done (a .script .now) (a .payload .now) (length (a .codewords .now)) (l .codewords) (l .i) (l .j) (l .at) h (g .command-at .result) (g .command-at .ensures) d (run (v .0 .0) (take (v .0 .1 .0) (drop (l .j) (a .payload .now)))) (commandSize (v .0 .0)) (v .0 .1 .0) (t .1) (q .last .0) (q .result) (omega arith) (u .3) f),
     )
 
-enum-known-next-2 : tie.Need-enum-known-next-2 Inv-loop μ-loop
-enum-known-next-2 c = c .match .keys2
-
 write-eci-requires : tie.Need-write-eci-requires Inv-loop μ-loop
 write-eci-requires c κs =
     let k = c .before in
@@ -171,9 +156,6 @@ write-eci-requires c κs =
     let r = front-room (a .script .now) (a .payload .now) (length (a .codewords .now)) (l .codewords) (l .i) (l .j) (l .at) h (g .command-at .result) (g .command-at .ensures) d (eci (v .0 .0)) 4 0 t in
     let w = l .inv .0 in
     rw w (omega arith, r)
-
-add-i-2 : tie.Need-add-i-2 Inv-loop μ-loop
-add-i-2 c = omega arith
 
 loop-less-2 : tie.Need-loop-less-2 Inv-loop μ-loop
 loop-less-2 c =
@@ -209,12 +191,6 @@ loop-again-2 c =
       rw add-zero at (front-done (a .script .now) (a .payload .now) (length (a .codewords .now)) (l .codewords) (l .i) (l .j) (l .at) h (g .command-at .result) (g .command-at .ensures) d (eci (v .0 .0)) 4 0 t (q .last .0) (q .result) (omega arith) u (q .ensures)),
     )
 
-enum-told : tie.Need-enum-told Inv-loop μ-loop
-enum-told c = c .match .keys3
-
-same-length : tie.Need-same-length Inv-loop μ-loop
-same-length c = c .before .before .before .before .loop .inv .0
-
 returns : tie.Need-returns Inv-loop μ-loop
 returns c =
     let g = c .before .before in
@@ -241,30 +217,7 @@ returns-2 c =
 
 pub encode-spec : {M : Type 1} → statement M
 encode-spec =
-    tie.close
-    (tie.spec
-    Inv-loop
-    μ-loop
-    loop-holds
-    command-at-requires
-    enum-known-next
-    add-end
-    sub-write-run
-    part-write-run-start
-    part-write-run-end
-    write-run-requires
-    command-size-requires
-    add-i
-    loop-less
-    loop-again
-    enum-known-next-2
-    write-eci-requires
-    add-i-2
-    loop-less-2
-    loop-again-2
-    enum-told
-    same-length
-    returns
-    pad-requires
-    same-length-2
-    returns-2)
+    tie.close (tie.spec Inv-loop μ-loop loop-holds (λ c κs. omega arith) (λ c. c .match .keys1) add-end sub-write-run
+    part-write-run-start part-write-run-end write-run-requires (λ c κs. search needs) (λ c. omega arith) loop-less loop-again
+    (λ c. c .match .keys2) write-eci-requires (λ c. omega arith) loop-less-2 loop-again-2 (λ c. c .match .keys3)
+    (λ c. c .before .before .before .before .loop .inv .0) returns pad-requires same-length-2 returns-2)

@@ -20,12 +20,6 @@ loop-holds c =
     let a = c .before .before .args in
     (refl, omega arith, begun 8 (a .buf .now) (a .from) (a .run .now))
 
-shared-slice-read-wide : tie.Need-shared-slice-read-wide Inv-loop μ-loop
-shared-slice-read-wide c = omega arith
-
-wide-requires : tie.Need-wide-requires Inv-loop μ-loop
-wide-requires c κs = search needs
-
 -- the byte that is next
 next : (c : tie.In-loop Inv-loop μ-loop) → Doing 8 (c .before .before .before .before .args .buf .now) (c .before .before .before .before .args .from) (c .before .before .before .before .args .run .now) (c .before .loop .buf) (c .before .loop .at) (getD (c .before .before .before .before .args .run .now) (c .before .loop .j) 0 ∷ drop (c .before .loop .j + 1) (c .before .before .before .before .args .run .now))
 next c =
@@ -39,12 +33,6 @@ put-requires c κs =
     let r = word-room (8 * length (a .buf .now)) (next (c .before .before .before)) (omega arith) in
     (omega arith, omega arith, omega arith)
 
-add-j : tie.Need-add-j Inv-loop μ-loop
-add-j c = omega arith
-
-loop-less : tie.Need-loop-less Inv-loop μ-loop
-loop-less c = omega arith
-
 loop-again : tie.Need-loop-again Inv-loop μ-loop
 loop-again c =
     let w = c .before .before .before in
@@ -52,9 +40,6 @@ loop-again c =
     let l = n .before .loop in
     let p = c .before .before .put in
     (p .kept .0 ∙ l .inv .0, omega arith, word-done (next n) (rw (w .wide .ensures .0) at (p .ensures)))
-
-same-length : tie.Need-same-length Inv-loop μ-loop
-same-length c = c .before .loop .inv .0
 
 returns : tie.Need-returns Inv-loop μ-loop
 returns c =
@@ -64,16 +49,5 @@ returns c =
 
 pub write-bytes-spec : {M : Type 1} → statement M
 write-bytes-spec =
-    tie.close
-    (tie.spec
-    Inv-loop
-    μ-loop
-    loop-holds
-    shared-slice-read-wide
-    wide-requires
-    put-requires
-    add-j
-    loop-less
-    loop-again
-    same-length
-    returns)
+    tie.close (tie.spec Inv-loop μ-loop loop-holds (λ c. omega arith) (λ c κs. search needs) put-requires (λ c. omega arith)
+    (λ c. omega arith) loop-again (λ c. c .before .loop .inv .0) returns)

@@ -18,24 +18,12 @@ Inv-loop buf₀ from mode run by w first₀ at₀ j₀ buf first at j =
 abbrev μ-loop : tie.MeasureT-loop
 μ-loop buf₀ from mode run by w first₀ at₀ j₀ buf first at j = length run - j
 
-step-requires : tie.Need-step-requires Inv-loop μ-loop
-step-requires c κs = search needs
-
-width-requires : tie.Need-width-requires Inv-loop μ-loop
-width-requires c κs = search needs
-
 loop-holds : tie.Need-loop-holds Inv-loop μ-loop
 unfolding beginsIn
 loop-holds c =
     let s = c .before .before .before .before in
     let a = s .args in
     (refl, omega arith, s .pre .1, rw (c .width .ensures .0) (s .pre .2), begun (c .width .result) (a .buf .now) (a .from) (wordsOf (a .mode) (beginsIn (a .mode)) (a .run .now)))
-
-glyph-at-requires : tie.Need-glyph-at-requires Inv-loop μ-loop
-glyph-at-requires c κs = omega arith
-
-enum-known-g : tie.Need-enum-known-g Inv-loop μ-loop
-enum-known-g c = c .match .keys1
 
 put-requires : tie.Need-put-requires Inv-loop μ-loop
 put-requires c κs =
@@ -52,9 +40,6 @@ put-requires c κs =
     let d = doing-as (t .0) (l .inv .4) in
     let r = word-room (8 * length (a .buf .now)) d (l .inv .3) in
     (omega arith, omega arith, omega arith)
-
-add-j : tie.Need-add-j Inv-loop μ-loop
-add-j c = omega arith
 
 loop-less : tie.Need-loop-less Inv-loop μ-loop
 loop-less c =
@@ -86,12 +71,6 @@ loop-again c =
     let d = doing-as (t .0) (l .inv .4) in
     let p = c .before .before .put in
     (p .kept .0 ∙ l .inv .0, omega arith, sym (t .1) ∙ l .inv .2, l .inv .3, word-done d (p .ensures))
-
-enum-known-g-2 : tie.Need-enum-known-g-2 Inv-loop μ-loop
-enum-known-g-2 c = c .match .keys2
-
-switch-word-requires : tie.Need-switch-word-requires Inv-loop μ-loop
-switch-word-requires c κs = search needs
 
 put-requires-2 : tie.Need-put-requires-2 Inv-loop μ-loop
 put-requires-2 c κs =
@@ -127,9 +106,6 @@ put-requires-3 c κs =
     let r = word-room (8 * length (a .buf .now)) q (l .inv .3) in
     let y = p .kept .0 in
     (omega arith, omega arith, omega arith)
-
-add-j-2 : tie.Need-add-j-2 Inv-loop μ-loop
-add-j-2 c = omega arith
 
 loop-less-2 : tie.Need-loop-less-2 Inv-loop μ-loop
 loop-less-2 c =
@@ -168,12 +144,6 @@ loop-again-2 c =
     let z = c .before .before .put3 in
     (z .kept .0 ∙ p .kept .0 ∙ l .inv .0, omega arith, sym (t .1) ∙ l .inv .2, l .inv .3, word-done q (z .ensures))
 
-enum-told : tie.Need-enum-told Inv-loop μ-loop
-enum-told c = c .match .keys3
-
-same-length : tie.Need-same-length Inv-loop μ-loop
-same-length c = c .before .before .before .before .loop .inv .0
-
 returns : tie.Need-returns Inv-loop μ-loop
 returns c =
     let gl = c .before .before in
@@ -181,9 +151,6 @@ returns c =
     let st = gl .before .before .before .before .step in
     let a = gl .before .before .before .before .before .before .before .args in
     never-lacking (a .run .now) (a .mode) (l .first) (l .j) 0 (st .result) (gl .glyph-at .result) (gl .glyph-at .ensures) (st .ensures .0) (l .inv .2) (c .enum-told .given .1)
-
-end-word-requires : tie.Need-end-word-requires Inv-loop μ-loop
-end-word-requires c κs = search needs
 
 put-requires-4 : tie.Need-put-requires-4 Inv-loop μ-loop
 put-requires-4 c κs =
@@ -209,30 +176,7 @@ returns-2 c =
 
 pub write-chars-spec : {M : Type 1} → statement M
 write-chars-spec =
-    tie.close
-    (tie.spec
-    Inv-loop
-    μ-loop
-    step-requires
-    width-requires
-    loop-holds
-    glyph-at-requires
-    enum-known-g
-    put-requires
-    add-j
-    loop-less
-    loop-again
-    enum-known-g-2
-    switch-word-requires
-    put-requires-2
-    put-requires-3
-    add-j-2
-    loop-less-2
-    loop-again-2
-    enum-told
-    same-length
-    returns
-    end-word-requires
-    put-requires-4
-    same-length-2
-    returns-2)
+    tie.close (tie.spec Inv-loop μ-loop (λ c κs. search needs) (λ c κs. search needs) loop-holds (λ c κs. omega arith)
+    (λ c. c .match .keys1) put-requires (λ c. omega arith) loop-less loop-again (λ c. c .match .keys2) (λ c κs. search needs)
+    put-requires-2 put-requires-3 (λ c. omega arith) loop-less-2 loop-again-2 (λ c. c .match .keys3)
+    (λ c. c .before .before .before .before .loop .inv .0) returns (λ c κs. search needs) put-requires-4 same-length-2 returns-2)

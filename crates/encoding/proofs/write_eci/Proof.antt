@@ -40,9 +40,6 @@ put-requires-3 c κs =
     let l = length-low 7 (a .v) in
     (omega arith, omega arith, omega arith)
 
-same-length : tie.Need-same-length
-same-length c = search needs
-
 returns : tie.Need-returns
 returns c =
     let q = c .before .before .before .before .before .before in
@@ -74,9 +71,6 @@ put-requires-5 c κs =
     let m = q .put4 .kept .0 in
     let l = length-low 14 (a .v) in
     (omega arith, omega arith, omega arith)
-
-same-length-2 : tie.Need-same-length-2
-same-length-2 c = search needs
 
 returns-2 : tie.Need-returns-2
 returns-2 c =
@@ -111,9 +105,6 @@ put-requires-7 c κs =
     let l = length-low 21 (a .v) in
     (omega arith, omega arith, omega arith)
 
-same-length-3 : tie.Need-same-length-3
-same-length-3 c = search needs
-
 returns-3 : tie.Need-returns-3
 returns-3 c =
     let before = c .before .before .before .before .before .before in
@@ -125,18 +116,5 @@ returns-3 c =
 
 pub write-eci-spec : {M : Type 1} → statement M
 write-eci-spec =
-    tie.close
-    (tie.spec
-    put-requires
-    put-requires-2
-    put-requires-3
-    same-length
-    returns
-    put-requires-4
-    put-requires-5
-    same-length-2
-    returns-2
-    put-requires-6
-    put-requires-7
-    same-length-3
-    returns-3)
+    tie.close (tie.spec put-requires put-requires-2 put-requires-3 (λ c. search needs) returns put-requires-4 put-requires-5
+    (λ c. search needs) returns-2 put-requires-6 put-requires-7 (λ c. search needs) returns-3)

@@ -1,5 +1,5 @@
 use mathlib.Core.Path.{_≡_, refl, _∙_}
-use mathlib.Core.List.{[], _∷_}
+use mathlib.Core.List.{_∷_}
 use Prim.Native.Nat.{_+_, _-_, _*_, _≤_}
 use native.Mathlib.Omega.{arith}
 use lib.ListN.{length, getD, drop}
@@ -20,12 +20,6 @@ loop-holds c =
     let a = c .before .before .args in
     (refl, omega arith, begun 10 (a .buf .now) (a .from) (numericWords (a .run .now)))
 
-sub-loop : tie.Need-sub-loop Inv-loop μ-loop
-sub-loop c = omega arith
-
-group-requires : tie.Need-group-requires Inv-loop μ-loop
-group-requires c κs = omega arith
-
 put-requires : tie.Need-put-requires Inv-loop μ-loop
 put-requires c κs =
     let l = c .before .before .before .loop in
@@ -33,24 +27,12 @@ put-requires c κs =
     let r = word-room (8 * length (a .buf .now)) (doing-as (three-digits (a .run .now) (l .j) (omega arith)) (l .inv .2)) (omega arith) in
     (omega arith, omega arith, omega arith)
 
-add-j : tie.Need-add-j Inv-loop μ-loop
-add-j c = omega arith
-
-loop-less : tie.Need-loop-less Inv-loop μ-loop
-loop-less c = omega arith
-
 loop-again : tie.Need-loop-again Inv-loop μ-loop
 loop-again c =
     let l = c .before .before .before .before .before .before .loop in
     let a = c .before .before .before .before .before .before .before .before .before .args in
     let p = c .before .before .put in
     (p .kept .0 ∙ l .inv .0, omega arith, word-done (doing-as (three-digits (a .run .now) (l .j) (omega arith)) (l .inv .2)) (rw (c .before .before .before .group .ensures .0) at (p .ensures)))
-
-sub-left : tie.Need-sub-left Inv-loop μ-loop
-sub-left c = omega arith
-
-digit-requires : tie.Need-digit-requires Inv-loop μ-loop
-digit-requires c κs = omega arith
 
 -- one digit is left, or two, or none
 one : (c : tie.Then1 Inv-loop μ-loop) → Doing 10 (c .before .before .before .before .before .args .buf .now) (c .before .before .before .before .before .args .from) (numericWords (c .before .before .before .before .before .args .run .now)) (c .before .before .loop .buf) (c .before .before .loop .at) ((getD (c .before .before .before .before .before .args .run .now) (c .before .before .loop .j) 0 - 48) ∷ 1021 ∷ [])
@@ -101,21 +83,6 @@ returns c =
     let p = c .before .before .before .before .before .before .put2 in
     all-done (word-done (word-done (one i) (rw (d .digit .ensures .0) at (p .ensures))) (c .before .before .put3 .ensures))
 
-digit-requires-2 : tie.Need-digit-requires-2 Inv-loop μ-loop
-digit-requires-2 c κs = omega arith
-
-mul-put : tie.Need-mul-put Inv-loop μ-loop
-mul-put c = omega arith
-
-add-digit : tie.Need-add-digit Inv-loop μ-loop
-add-digit c = omega arith
-
-digit-requires-3 : tie.Need-digit-requires-3 Inv-loop μ-loop
-digit-requires-3 c κs = omega arith
-
-add-put : tie.Need-add-put Inv-loop μ-loop
-add-put c = omega arith
-
 put-requires-4 : tie.Need-put-requires-4 Inv-loop μ-loop
 put-requires-4 c κs =
     let i = c .before .before .before in
@@ -161,32 +128,7 @@ returns-3 c = all-done (word-done (none (c .before .before .before .before)) (c 
 
 pub write-groups-spec : {M : Type 1} → statement M
 write-groups-spec =
-    tie.close
-    (tie.spec
-    Inv-loop
-    μ-loop
-    loop-holds
-    sub-loop
-    group-requires
-    put-requires
-    add-j
-    loop-less
-    loop-again
-    sub-left
-    digit-requires
-    put-requires-2
-    put-requires-3
-    same-length
-    returns
-    digit-requires-2
-    mul-put
-    add-digit
-    digit-requires-3
-    add-put
-    put-requires-4
-    put-requires-5
-    same-length-2
-    returns-2
-    put-requires-6
-    same-length-3
-    returns-3)
+    tie.close (tie.spec Inv-loop μ-loop loop-holds (λ c. omega arith) (λ c κs. omega arith) put-requires (λ c. omega arith)
+    (λ c. omega arith) loop-again (λ c. omega arith) (λ c κs. omega arith) put-requires-2 put-requires-3 same-length returns
+    (λ c κs. omega arith) (λ c. omega arith) (λ c. omega arith) (λ c κs. omega arith) (λ c. omega arith) put-requires-4 put-requires-5
+    same-length-2 returns-2 put-requires-6 same-length-3 returns-3)

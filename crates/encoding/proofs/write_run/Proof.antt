@@ -28,9 +28,6 @@ write-numeric-requires c κs =
     let k = p .put .kept .0 in
     (omega arith, rw k (word-length 10 (numericWords (a .chars .now)) (p .put .result) (8 * length (a .buf .now)) r))
 
-same-length : tie.Need-same-length
-same-length c = search needs
-
 returns : tie.Need-returns
 returns c =
     let before = c .before .before .before .before .before .before .before in
@@ -62,9 +59,6 @@ write-bytes-requires c κs =
     let m = q .put2 .kept .0 in
     (omega arith, rw (m, k) (word-length 8 (a .chars .now) (q .put2 .result) (8 * length (a .buf .now)) t))
 
-same-length-2 : tie.Need-same-length-2
-same-length-2 c = search needs
-
 returns-2 : tie.Need-returns-2
 returns-2 c =
     let before = c .before .before .before .before .before .before in
@@ -72,9 +66,6 @@ returns-2 c =
     let p = q .before .before .before .before .before .before in
     let a = p .before .before .before .before .args in
     rw (bytes-bits (a .mode) (a .chars .now) (q .before .before .if2 .taken)) (written-both (p .put .ensures) (written-both (q .put2 .ensures) (c .before .before .write-bytes .ensures)))
-
-four-code-requires : tie.Need-four-code-requires
-four-code-requires c κs = search needs
 
 put-requires-3 : tie.Need-put-requires-3
 put-requires-3 c κs =
@@ -86,9 +77,6 @@ put-requires-3 c κs =
     let k = p .put .kept .0 in
     let l = length-low 21 (fourCode (a .chars .now)) in
     (omega arith, omega arith, omega arith)
-
-same-length-3 : tie.Need-same-length-3
-same-length-3 c = search needs
 
 returns-3 : tie.Need-returns-3
 returns-3 c =
@@ -108,9 +96,6 @@ write-chars-requires c κs =
     let k = p .put .kept .0 in
     (omega arith, sym (e .1) ∙ s .pre .3, rw k (word-length (widthOf (a .mode)) (wordsOf (a .mode) (beginsIn (a .mode)) (a .chars .now)) (p .put .result) (8 * length (a .buf .now)) r))
 
-same-length-4 : tie.Need-same-length-4
-same-length-4 c = search needs
-
 returns-4 : tie.Need-returns-4
 returns-4 c =
     let i = c .before .before .before .before in
@@ -122,20 +107,6 @@ returns-4 c =
 
 pub write-run-spec : {M : Type 1} → statement M
 write-run-spec =
-    tie.close
-    (tie.spec
-    put-requires
-    write-numeric-requires
-    same-length
-    returns
-    put-requires-2
-    write-bytes-requires
-    same-length-2
-    returns-2
-    four-code-requires
-    put-requires-3
-    same-length-3
-    returns-3
-    write-chars-requires
-    same-length-4
-    returns-4)
+    tie.close (tie.spec put-requires write-numeric-requires (λ c. search needs) returns put-requires-2 write-bytes-requires
+    (λ c. search needs) returns-2 (λ c κs. search needs) put-requires-3 (λ c. search needs) returns-3 write-chars-requires
+    (λ c. search needs) returns-4)

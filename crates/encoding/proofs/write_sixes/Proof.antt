@@ -1,6 +1,5 @@
 use mathlib.Core.Path.{_≡_, refl, ap, _∙_}
-use mathlib.Core.List.{List}
-use Prim.Native.Nat.{ℕ, _+_, _-_, _*_, _/_, _%_, _≤_}
+use Prim.Native.Nat.{ℕ, _-_, _*_, _/_, _%_, _≤_}
 use native.Mathlib.Omega.{arith}
 use lib.ListN.{length, drop}
 use Rattle.script.specs.Writer.{numericWords}
@@ -20,36 +19,12 @@ loop-holds c =
     let a = c .before .before .args in
     (refl, omega arith, refl, begun 10 (a .buf .now) (a .from) (numericWords (a .run .now)))
 
-sub-loop : tie.Need-sub-loop Inv-loop μ-loop
-sub-loop c = omega arith
-
-group-requires : tie.Need-group-requires Inv-loop μ-loop
-group-requires c κs = omega arith
-
-add-group : tie.Need-add-group Inv-loop μ-loop
-add-group c = omega arith
-
-group-requires-2 : tie.Need-group-requires-2 Inv-loop μ-loop
-group-requires-2 c κs = omega arith
-
-mul-put : tie.Need-mul-put Inv-loop μ-loop
-mul-put c = omega arith
-
-add-put : tie.Need-add-put Inv-loop μ-loop
-add-put c = omega arith
-
 put-requires : tie.Need-put-requires Inv-loop μ-loop
 put-requires c κs =
     let l = c .before .before .before .before .loop in
     let a = c .before .before .before .before .before .before .before .args in
     let r = two-room (8 * length (a .buf .now)) (doing-as (six-digits (a .run .now) (l .j) (omega arith)) (l .inv .3)) (omega arith) in
     (omega arith, omega arith, omega arith)
-
-add-j : tie.Need-add-j Inv-loop μ-loop
-add-j c = omega arith
-
-loop-less : tie.Need-loop-less Inv-loop μ-loop
-loop-less c = omega arith
 
 loop-again : tie.Need-loop-again Inv-loop μ-loop
 loop-again c =
@@ -61,9 +36,6 @@ loop-again c =
     let d = doing-as (six-digits (a .run .now) (l .j) (omega arith)) (l .inv .3) in
     (p .kept .0 ∙ l .inv .0, omega arith, omega arith, two-done d (rw (x .ensures .0, y .ensures .0) at (rw (two-words (x .result) (y .result)) at (p .ensures))))
 
-same-length : tie.Need-same-length Inv-loop μ-loop
-same-length c = c .before .loop .inv .0
-
 returns : tie.Need-returns Inv-loop μ-loop
 returns c =
     let l = c .before .loop in
@@ -73,20 +45,6 @@ returns c =
 
 pub write-sixes-spec : {M : Type 1} → statement M
 write-sixes-spec =
-    tie.close
-    (tie.spec
-    Inv-loop
-    μ-loop
-    loop-holds
-    sub-loop
-    group-requires
-    add-group
-    group-requires-2
-    mul-put
-    add-put
-    put-requires
-    add-j
-    loop-less
-    loop-again
-    same-length
+    tie.close (tie.spec Inv-loop μ-loop loop-holds (λ c. omega arith) (λ c κs. omega arith) (λ c. omega arith) (λ c κs. omega arith)
+    (λ c. omega arith) (λ c. omega arith) put-requires (λ c. omega arith) (λ c. omega arith) loop-again (λ c. c .before .loop .inv .0)
     returns)

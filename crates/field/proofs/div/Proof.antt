@@ -9,20 +9,8 @@ use borrow.Author.Needs.{needs}
 use Rattle.field.proofs.div.Statement.{statement}
 use Rattle.field.proofs.div.Tie as tie
 
-log-entry-requires : tie.Need-log-entry-requires
-log-entry-requires c κs = search needs
-
-log-entry-requires-2 : tie.Need-log-entry-requires-2
-log-entry-requires-2 c κs = search needs
-
 sub-power-entry : tie.Need-sub-power-entry
 sub-power-entry c = omega (arith, c .log-entry2 .ensures .2 (c .before .before .pre .1))
-
-add-power-entry : tie.Need-add-power-entry
-add-power-entry c = search needs
-
-power-entry-requires : tie.Need-power-entry-requires
-power-entry-requires c κs = search needs
 
 returns : tie.Need-returns
 returns c =
@@ -35,11 +23,5 @@ returns c =
 
 pub div-spec : {M : Type 1} → statement M
 div-spec =
-    tie.close
-    (tie.spec
-    log-entry-requires
-    log-entry-requires-2
-    sub-power-entry
-    add-power-entry
-    power-entry-requires
+    tie.close (tie.spec (λ c κs. search needs) (λ c κs. search needs) sub-power-entry (λ c. search needs) (λ c κs. search needs)
     returns)

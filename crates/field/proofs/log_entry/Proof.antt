@@ -4,12 +4,6 @@ use borrow.Author.Needs.{needs}
 use Rattle.field.proofs.log_entry.Statement.{statement}
 use Rattle.field.proofs.log_entry.Tie as tie
 
-mul-result : tie.Need-mul-result
-mul-result c = search needs
-
-element-copy-out-result : tie.Need-element-copy-out-result
-element-copy-out-result c = search needs
-
 cast-result : tie.Need-cast-result
 cast-result c = omega (arith, log-le (c .before .args .field .now) (c .before .pre) (c .before .args .a) (search needs))
 
@@ -19,4 +13,4 @@ returns c =
     (search needs, omega (arith, log-le (start .args .field .now) (start .pre) (start .args .a) (search needs)), λ p. log-pos (start .args .field .now) (start .pre) (start .args .a) p (search needs) .1)
 
 pub log-entry-spec : {M : Type 1} → statement M
-log-entry-spec = tie.close (tie.spec mul-result element-copy-out-result cast-result returns)
+log-entry-spec = tie.close (tie.spec (λ c. search needs) (λ c. search needs) cast-result returns)

@@ -6,18 +6,6 @@ use borrow.Author.Needs.{needs}
 use Rattle.field.proofs.mul.Statement.{statement}
 use Rattle.field.proofs.mul.Tie as tie
 
-log-entry-requires : tie.Need-log-entry-requires
-log-entry-requires c κs = search needs
-
-log-entry-requires-2 : tie.Need-log-entry-requires-2
-log-entry-requires-2 c κs = search needs
-
-add-power-entry : tie.Need-add-power-entry
-add-power-entry c = search needs
-
-power-entry-requires : tie.Need-power-entry-requires
-power-entry-requires c κs = search needs
-
 returns : tie.Need-returns
 returns c =
     c .power-entry .ensures
@@ -27,6 +15,4 @@ returns c =
     (c .before .before .before .args .b) (search needs) (search needs)
 
 pub mul-spec : {M : Type 1} → statement M
-mul-spec =
-    tie.close
-    (tie.spec log-entry-requires log-entry-requires-2 add-power-entry power-entry-requires returns)
+mul-spec = tie.close (tie.spec (λ c κs. search needs) (λ c κs. search needs) (λ c. search needs) (λ c κs. search needs) returns)

@@ -4,11 +4,8 @@ use borrow.Author.Needs.{needs}
 use Rattle.field.proofs.power.Statement.{statement}
 use Rattle.field.proofs.power.Tie as tie
 
-power-entry-requires : tie.Need-power-entry-requires
-power-entry-requires c κs = search needs
-
 returns : tie.Need-returns
 returns c = c .power-entry .ensures ∙ power-at (c .before .args .field .now) (c .before .pre .0) (c .before .args .n) (c .before .pre .1)
 
 pub power-spec : {M : Type 1} → statement M
-power-spec = tie.close (tie.spec power-entry-requires returns)
+power-spec = tie.close (tie.spec (λ c κs. search needs) returns)

@@ -6,15 +6,6 @@ use borrow.Author.Needs.{needs}
 use Rattle.field.proofs.raised.Statement.{statement}
 use Rattle.field.proofs.raised.Tie as tie
 
-log-entry-requires : tie.Need-log-entry-requires
-log-entry-requires c κs = search needs
-
-add-power-entry : tie.Need-add-power-entry
-add-power-entry c = search needs
-
-power-entry-requires : tie.Need-power-entry-requires
-power-entry-requires c κs = search needs
-
 returns : tie.Need-returns
 returns c =
     c .power-entry .ensures
@@ -23,4 +14,4 @@ returns c =
     (search needs) (c .before .before .pre .1)
 
 pub raised-spec : {M : Type 1} → statement M
-raised-spec = tie.close (tie.spec log-entry-requires add-power-entry power-entry-requires returns)
+raised-spec = tie.close (tie.spec (λ c κs. search needs) (λ c. search needs) (λ c κs. search needs) returns)

@@ -29,27 +29,6 @@ returns-4 c =
     let if3 = c .before .if3 in
     (simp (le-leb _ _ (if1 .left), le-leb _ _ (if2 .left), le-leb _ _ (if3 .left), lt-leb _ _ (c .if4 .taken)), simp (le-leb _ _ (if1 .left), le-leb _ _ (if2 .left), le-leb _ _ (if3 .left), lt-leb _ _ (c .if4 .taken)))
 
-add-wide : tie.Need-add-wide
-add-wide c = search needs
-
-mul-wide : tie.Need-mul-wide
-mul-wide c = search needs
-
-mul-wide-2 : tie.Need-mul-wide-2
-mul-wide-2 c = search needs
-
-add-wide-2 : tie.Need-add-wide-2
-add-wide-2 c = search needs
-
-add-wide-3 : tie.Need-add-wide-3
-add-wide-3 c = search needs
-
-wide-requires : tie.Need-wide-requires
-wide-requires c κs = search needs
-
-word-of-requires : tie.Need-word-of-requires
-word-of-requires c κs = search needs
-
 returns-5 : tie.Need-returns-5
 unfolding infoRefusal infoWord isInfo isVersion infoBits dataOf
 returns-5 c =
@@ -61,17 +40,5 @@ returns-5 c =
 
 pub info-bits-spec : {M : Type 1} → statement M
 info-bits-spec =
-    tie.close
-    (tie.spec
-    returns
-    returns-2
-    returns-3
-    returns-4
-    add-wide
-    mul-wide
-    mul-wide-2
-    add-wide-2
-    add-wide-3
-    wide-requires
-    word-of-requires
-    returns-5)
+    tie.close (tie.spec returns returns-2 returns-3 returns-4 (λ c. search needs) (λ c. search needs) (λ c. search needs)
+    (λ c. search needs) (λ c. search needs) (λ c κs. search needs) (λ c κs. search needs) returns-5)

@@ -7,16 +7,10 @@ use borrow.Author.Needs.{needs}
 use Rattle.information.proofs.info_position.Statement.{statement}
 use Rattle.information.proofs.info_position.Tie as tie
 
-position-row-requires : tie.Need-position-row-requires
-position-row-requires c κs = search needs
-
 mul-i : tie.Need-mul-i
 mul-i c =
     let start = c .before in
     omega (arith, row-fits (start .args .side) (start .args .n) (start .pre .0) (start .pre .1) (start .pre .2) (c .position-row .ensures))
-
-position-column-requires : tie.Need-position-column-requires
-position-column-requires c κs = search needs
 
 add-i : tie.Need-add-i
 add-i c =
@@ -52,14 +46,4 @@ returns-2 c =
 
 pub info-position-spec : {M : Type 1} → statement M
 info-position-spec =
-    tie.close
-    (tie.spec
-    position-row-requires
-    mul-i
-    position-column-requires
-    add-i
-    mul-result
-    sub-result
-    sub-result-2
-    returns
-    returns-2)
+    tie.close (tie.spec (λ c κs. search needs) mul-i (λ c κs. search needs) add-i mul-result sub-result sub-result-2 returns returns-2)

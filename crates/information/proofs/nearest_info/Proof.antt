@@ -17,9 +17,6 @@ returns-2 c =
     let if1 = c .before .if1 in
     (simp (le-leb _ _ (if1 .left), lt-leb _ _ (c .if2 .taken)), simp (le-leb _ _ (if1 .left), lt-leb _ _ (c .if2 .taken)), simp (le-leb _ _ (if1 .left), lt-leb _ _ (c .if2 .taken)), simp (le-leb _ _ (if1 .left), lt-leb _ _ (c .if2 .taken)))
 
-nearest-word-requires : tie.Need-nearest-word-requires
-nearest-word-requires c κs = search needs
-
 returns-3 : tie.Need-returns-3
 unfolding nearestRefusal nearestLevel nearestMask nearestDistance isVersion
 returns-3 c =
@@ -29,4 +26,4 @@ returns-3 c =
     (simp (le-leb _ _ (if1 .left), le-leb _ _ (if2 .left)), simp (le-leb _ _ (if1 .left), le-leb _ _ (if2 .left)) (ap (λ (n : ℕ). n / 4) (nearest-word .ensures .word-is)), simp (le-leb _ _ (if1 .left), le-leb _ _ (if2 .left)) (ap (λ (n : ℕ). n % 4) (nearest-word .ensures .word-is)), simp (le-leb _ _ (if1 .left), le-leb _ _ (if2 .left)) (nearest-word .ensures .at))
 
 pub nearest-info-spec : {M : Type 1} → statement M
-nearest-info-spec = tie.close (tie.spec returns returns-2 nearest-word-requires returns-3)
+nearest-info-spec = tie.close (tie.spec returns returns-2 (λ c κs. search needs) returns-3)

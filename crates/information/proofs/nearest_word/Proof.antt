@@ -17,44 +17,11 @@ Inv-loop version first second differences word best₀ k₀ best k = (k ≤ 15) 
 abbrev μ-loop : tie.MeasureT-loop
 μ-loop version first second differences word best₀ k₀ best k = 15 - k
 
-add-wide : tie.Need-add-wide Inv-loop μ-loop
-add-wide c = omega arith
-
-mul-wide : tie.Need-mul-wide Inv-loop μ-loop
-mul-wide c = omega arith
-
-wide-requires : tie.Need-wide-requires Inv-loop μ-loop
-wide-requires c κs = search needs
-
-word-of-requires : tie.Need-word-of-requires Inv-loop μ-loop
-word-of-requires c κs = omega (arith, c .wide .ensures)
-
-distance-requires : tie.Need-distance-requires Inv-loop μ-loop
-distance-requires c κs = search needs
-
 loop-holds : tie.Need-loop-holds Inv-loop μ-loop
 unfolding leastOf distance
 loop-holds c =
     let start = c .before .before .before in
     (omega arith, record { word-is = refl; at = c .distance .ensures .0 ∙ ap (λ (n : ℕ). ones (bitXor n (start .args .first)) + ones (bitXor n (start .args .second))) (first-word (start .args .version) (start .pre) (c .before .word-of .ensures) (c .before .before .wide .ensures)); small = omega arith })
-
-add-k : tie.Need-add-k Inv-loop μ-loop
-add-k c = omega arith
-
-mul-distance : tie.Need-mul-distance Inv-loop μ-loop
-mul-distance c = omega arith
-
-array-read-distance : tie.Need-array-read-distance Inv-loop μ-loop
-array-read-distance c = omega arith
-
-distance-requires-2 : tie.Need-distance-requires-2 Inv-loop μ-loop
-distance-requires-2 c κs = search needs
-
-nearer-requires : tie.Need-nearer-requires Inv-loop μ-loop
-nearer-requires c κs = search needs
-
-loop-less : tie.Need-loop-less Inv-loop μ-loop
-loop-less c = omega arith
 
 loop-again : tie.Need-loop-again Inv-loop μ-loop
 unfolding differences
@@ -75,21 +42,6 @@ returns c =
 
 pub nearest-word-spec : {M : Type 1} → statement M
 nearest-word-spec =
-    tie.close
-    (tie.spec
-    Inv-loop
-    μ-loop
-    add-wide
-    mul-wide
-    wide-requires
-    word-of-requires
-    distance-requires
-    loop-holds
-    add-k
-    mul-distance
-    array-read-distance
-    distance-requires-2
-    nearer-requires
-    loop-less
-    loop-again
-    returns)
+    tie.close (tie.spec Inv-loop μ-loop (λ c. omega arith) (λ c. omega arith) (λ c κs. search needs)
+    (λ c κs. omega (arith, c .wide .ensures)) (λ c κs. search needs) loop-holds (λ c. omega arith) (λ c. omega arith) (λ c. omega arith)
+    (λ c κs. search needs) (λ c κs. search needs) (λ c. omega arith) loop-again returns)

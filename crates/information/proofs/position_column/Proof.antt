@@ -13,21 +13,9 @@ returns-2 : tie.Need-returns-2
 unfolding positionColumn
 returns-2 c = simp (le-ltb _ _ (c .before .if1 .left), lt-ltb _ _ (c .if2 .taken))
 
-sub-result : tie.Need-sub-result
-sub-result c = search needs
-
 returns-3 : tie.Need-returns-3
 unfolding positionColumn
 returns-3 c = simp (le-ltb _ _ (c .before .before .if1 .left), le-ltb _ _ (c .before .if2 .left), lt-ltb _ _ (c .if3 .taken))
-
-sub-result-2 : tie.Need-sub-result-2
-sub-result-2 c = search needs
-
-sub-result-3 : tie.Need-sub-result-3
-sub-result-3 c = search needs
-
-add-result : tie.Need-add-result
-add-result c = search needs
 
 returns-4 : tie.Need-returns-4
 unfolding positionColumn
@@ -35,13 +23,5 @@ returns-4 c = simp (le-ltb _ _ (c .before .before .if1 .left), le-ltb _ _ (c .be
 
 pub position-column-spec : {M : Type 1} → statement M
 position-column-spec =
-    tie.close
-    (tie.spec
-    returns
-    returns-2
-    sub-result
-    returns-3
-    sub-result-2
-    sub-result-3
-    add-result
+    tie.close (tie.spec returns returns-2 (λ c. search needs) returns-3 (λ c. search needs) (λ c. search needs) (λ c. search needs)
     returns-4)

@@ -9,9 +9,6 @@ returns : tie.Need-returns
 unfolding positionRow
 returns c = simp (lt-ltb _ _ (c .if1 .taken))
 
-sub-result : tie.Need-sub-result
-sub-result c = search needs
-
 returns-2 : tie.Need-returns-2
 unfolding positionRow
 returns-2 c = simp (le-ltb _ _ (c .before .if1 .left), lt-ltb _ _ (c .if2 .taken))
@@ -25,4 +22,4 @@ unfolding positionRow
 returns-4 c = simp (le-ltb _ _ (c .before .before .if1 .left), le-ltb _ _ (c .before .if2 .left), le-ltb _ _ (c .if3 .left))
 
 pub position-row-spec : {M : Type 1} → statement M
-position-row-spec = tie.close (tie.spec returns sub-result returns-2 returns-3 returns-4)
+position-row-spec = tie.close (tie.spec returns (λ c. search needs) returns-2 returns-3 returns-4)

@@ -2,7 +2,7 @@ use lib.ListN.{getD}
 use Rattle.information.proofs.Copies.{number-small, number-more}
 use Rattle.information.specs.Information.{infoPosition, numberOf}
 use Prim.Native.Nat.{ℕ, _-_, _≤_}
-use mathlib.Core.Path.{_≡_, refl, ap, _∙_}
+use mathlib.Core.Path.{_≡_, ap, _∙_}
 use borrow.Author.Needs.{needs}
 use native.Mathlib.Omega.{arith}
 use Rattle.information.proofs.read_arm.Statement.{statement}
@@ -29,20 +29,11 @@ mul-w c =
 shared-slice-read-wide8 : tie.Need-shared-slice-read-wide8 Inv-loop μ-loop
 shared-slice-read-wide8 c = omega (arith, c .before .info-position .ensures .1, c .before .before .before .before .before .pre .2)
 
-wide8-requires : tie.Need-wide8-requires Inv-loop μ-loop
-wide8-requires c κs = search needs
-
 add-w : tie.Need-add-w Inv-loop μ-loop
 add-w c =
     let start = c .before .before .before .before .before .before in
     let loop = c .before .before .before .before .loop in
     omega (arith, number-small (λ k. getD (start .args .square .now) (infoPosition (start .args .side) (start .args .second) k) 0) (λ k. start .pre .3 (infoPosition (start .args .side) (start .args .second) k)) (loop .n) (omega (arith, loop .inv .0, start .pre .5)), loop .inv .1, c .wide8 .ensures, start .pre .3 (c .before .before .info-position .result))
-
-add-n : tie.Need-add-n Inv-loop μ-loop
-add-n c = omega arith
-
-loop-less : tie.Need-loop-less Inv-loop μ-loop
-loop-less c = omega arith
 
 loop-again : tie.Need-loop-again Inv-loop μ-loop
 loop-again c =
@@ -58,17 +49,5 @@ returns c =
 
 pub read-arm-spec : {M : Type 1} → statement M
 read-arm-spec =
-    tie.close
-    (tie.spec
-    Inv-loop
-    μ-loop
-    loop-holds
-    info-position-requires
-    mul-w
-    shared-slice-read-wide8
-    wide8-requires
-    add-w
-    add-n
-    loop-less
-    loop-again
-    returns)
+    tie.close (tie.spec Inv-loop μ-loop loop-holds info-position-requires mul-w shared-slice-read-wide8 (λ c κs. search needs) add-w
+    (λ c. omega arith) (λ c. omega arith) loop-again returns)

@@ -7,25 +7,9 @@ read-arm-requires : tie.Need-read-arm-requires
 unfolding numberOf
 read-arm-requires c κs = search needs
 
-read-arm-requires-2 : tie.Need-read-arm-requires-2
-read-arm-requires-2 c κs = search needs
-
-read-arm-requires-3 : tie.Need-read-arm-requires-3
-read-arm-requires-3 c κs = search needs
-
-read-arm-requires-4 : tie.Need-read-arm-requires-4
-read-arm-requires-4 c κs = search needs
-
 returns : tie.Need-returns
 unfolding copyOf
 returns c = search needs
 
 pub read-copy-spec : {M : Type 1} → statement M
-read-copy-spec =
-    tie.close
-    (tie.spec
-    read-arm-requires
-    read-arm-requires-2
-    read-arm-requires-3
-    read-arm-requires-4
-    returns)
+read-copy-spec = tie.close (tie.spec read-arm-requires (λ c κs. search needs) (λ c κs. search needs) (λ c κs. search needs) returns)

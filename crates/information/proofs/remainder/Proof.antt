@@ -9,9 +9,6 @@ use borrow.Author.Needs.{needs}
 use Rattle.information.proofs.remainder.Statement.{statement}
 use Rattle.information.proofs.remainder.Tie as tie
 
-mul-result : tie.Need-mul-result
-mul-result c = search needs
-
 generator-times-requires : tie.Need-generator-times-requires
 generator-times-requires c κs = xor-lt 4 (c .args .nibble) (c .args .r / 4096) (c .pre .1) (omega arith)
 
@@ -21,4 +18,4 @@ returns c =
     let e : bitXor (start .args .r % 4096 * 16) (c .generator-times .result) ≡ remainder (start .args .r) (start .args .nibble) = shown (start .args .r) (start .args .nibble) (c .generator-times .ensures) in (e, subst (λ (n : ℕ). n < 65536) (sym e) (remainder-lt (start .args .r) (start .args .nibble) (start .pre .0) (start .pre .1)))
 
 pub remainder-spec : {M : Type 1} → statement M
-remainder-spec = tie.close (tie.spec mul-result generator-times-requires returns)
+remainder-spec = tie.close (tie.spec (λ c. search needs) generator-times-requires returns)

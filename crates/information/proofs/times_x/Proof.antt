@@ -6,9 +6,6 @@ use borrow.Author.Needs.{needs}
 use Rattle.information.proofs.times_x.Statement.{statement}
 use Rattle.information.proofs.times_x.Tie as tie
 
-mul-d : tie.Need-mul-d
-mul-d c = search needs
-
 returns : tie.Need-returns
 unfolding timesX
 returns c = (simp (lt-ltb _ _ (c .if1 .taken)), c .if1 .taken)
@@ -18,4 +15,4 @@ unfolding timesX
 returns-2 c = (simp (le-ltb _ _ (c .if1 .left)), eight (c .before .args .a) (c .if1 .left) (c .before .pre))
 
 pub times-x-spec : {M : Type 1} → statement M
-times-x-spec = tie.close (tie.spec mul-d returns returns-2)
+times-x-spec = tie.close (tie.spec (λ c. search needs) returns returns-2)

@@ -27,21 +27,12 @@ slice-write-square c =
     let start = c .before .before .before .before .before in
     omega (arith, c .before .info-position .ensures .1, start .pre .2, c .before .before .before .loop .inv .2)
 
-add-n : tie.Need-add-n Inv-loop μ-loop
-add-n c = omega arith
-
-loop-less : tie.Need-loop-less Inv-loop μ-loop
-loop-less c = omega arith
-
 loop-again : tie.Need-loop-again Inv-loop μ-loop
 loop-again c =
     let start = c .before .before .before .before .before in
     let loop = c .before .before .before .loop in
     let info-position = c .before .info-position in
     (omega arith, record { is = λ g e. write-more (start .args .side) (start .args .second) (start .args .word) (loop .n) g (loop .inv .1 .is g e) (info-position .ensures .0) (c .bit .ensures) }, length-set (loop .square) (info-position .result) (c .bit .result) ∙ loop .inv .2)
-
-same-length : tie.Need-same-length Inv-loop μ-loop
-same-length c = c .before .loop .inv .2
 
 returns : tie.Need-returns Inv-loop μ-loop
 returns c =
@@ -52,16 +43,5 @@ returns c =
 
 pub write-arm-spec : {M : Type 1} → statement M
 write-arm-spec =
-    tie.close
-    (tie.spec
-    Inv-loop
-    μ-loop
-    loop-holds
-    info-position-requires
-    bit-requires
-    slice-write-square
-    add-n
-    loop-less
-    loop-again
-    same-length
-    returns)
+    tie.close (tie.spec Inv-loop μ-loop loop-holds info-position-requires bit-requires slice-write-square (λ c. omega arith)
+    (λ c. omega arith) loop-again (λ c. c .before .loop .inv .2) returns)

@@ -7,15 +7,6 @@ use borrow.Author.Needs.{needs}
 use Rattle.information.proofs.write_info.Statement.{statement}
 use Rattle.information.proofs.write_info.Tie as tie
 
-write-copy-requires : tie.Need-write-copy-requires
-write-copy-requires c κs = search needs
-
-write-copy-requires-2 : tie.Need-write-copy-requires-2
-write-copy-requires-2 c κs = search needs
-
-same-length : tie.Need-same-length
-same-length c = search needs
-
 returns : tie.Need-returns
 unfolding infoWritten
 returns c =
@@ -24,5 +15,4 @@ returns c =
     c .before .before .write-copy2 .ensures ∙ ap (λ (g : List ℕ). copyWritten (start .args .side) true (start .args .word) g) (write-copy .ensures)
 
 pub write-info-spec : {M : Type 1} → statement M
-write-info-spec =
-    tie.close (tie.spec write-copy-requires write-copy-requires-2 same-length returns)
+write-info-spec = tie.close (tie.spec (λ c κs. search needs) (λ c κs. search needs) (λ c. search needs) returns)

@@ -21,9 +21,6 @@ fill-rows-requires : tie.Need-fill-rows-requires Inv-loop μ-loop
 fill-rows-requires c κs =
     let start = c .before .before .before .before in (start .pre .0, start .pre .1, omega (arith, c .before .before .if1 .left), c .before .if2 .taken)
 
-returns-2 : tie.Need-returns-2 Inv-loop μ-loop
-returns-2 c = c .before .before .fill-rows .ensures
-
 loop-holds : tie.Need-loop-holds Inv-loop μ-loop
 loop-holds c = (columns-start (c .before .before .before .pre .1), omega arith)
 
@@ -32,9 +29,6 @@ factor-requires c κs = (omega arith, omega (arith, c .before .before .before .b
 
 slice-write-table : tie.Need-slice-write-table Inv-loop μ-loop
 slice-write-table c = omega (arith, c .before .before .loop .inv .0 .size, c .before .before .before .before .before .before .pre .0)
-
-rest-of-requires : tie.Need-rest-of-requires Inv-loop μ-loop
-rest-of-requires c κs = omega arith
 
 slice-write-table-2 : tie.Need-slice-write-table-2 Inv-loop μ-loop
 slice-write-table-2 c = let loop = c .before .before .before .loop in omega (arith, loop .inv .0 .size, c .before .before .before .before .before .before .before .pre .0, length-set (loop .table) (192 + loop .c) (c .before .factor .result))
@@ -61,31 +55,7 @@ returns-3 c =
 
 pub columns-spec : {M : Type 1} → statement M
 columns-spec =
-    tie.close
-    (tie.spec
-    Inv-loop
-    μ-loop
-    returns
-    fill-rows-requires
-    (λ c. search needs)
-    returns-2
-    loop-holds
-    (λ c. omega arith)
-    factor-requires
-    (λ c. omega arith)
-    (λ c. omega arith)
-    slice-write-table
-    (λ c. omega arith)
-    rest-of-requires
-    (λ c. omega arith)
-    (λ c. omega arith)
-    slice-write-table-2
-    (λ c. omega arith)
-    (λ c. omega arith)
-    (λ c. omega arith)
-    slice-write-table-3
-    (λ c. omega arith)
-    (λ c. omega arith)
-    loop-again
-    same-length-2
-    returns-3)
+    tie.close (tie.spec Inv-loop μ-loop returns fill-rows-requires (λ c. search needs) (λ c. c .before .before .fill-rows .ensures)
+    loop-holds (λ c. omega arith) factor-requires (λ c. omega arith) (λ c. omega arith) slice-write-table (λ c. omega arith)
+    (λ c κs. omega arith) (λ c. omega arith) (λ c. omega arith) slice-write-table-2 (λ c. omega arith) (λ c. omega arith)
+    (λ c. omega arith) slice-write-table-3 (λ c. omega arith) (λ c. omega arith) loop-again same-length-2 returns-3)

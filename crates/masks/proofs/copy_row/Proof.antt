@@ -14,9 +14,6 @@ abbrev μ-loop : tie.MeasureT-loop
 section-requires : tie.Need-section-requires Inv-loop μ-loop
 section-requires c κs = let start = c .before .before in (start .pre .0, start .pre .1)
 
-mul-at : tie.Need-mul-at Inv-loop μ-loop
-mul-at c = omega (arith, c .section .ensures .0)
-
 loop-holds : tie.Need-loop-holds Inv-loop μ-loop
 loop-holds c = filling-start (c .before .before .before .pre .4)
 
@@ -54,20 +51,5 @@ returns c = let loop = c .before .loop in (loop .inv .row-is, λ k hi. loop .inv
 
 pub copy-row-spec : {M : Type 1} → statement M
 copy-row-spec =
-    tie.close
-    (tie.spec
-    Inv-loop
-    μ-loop
-    section-requires
-    mul-at
-    loop-holds
-    add-row
-    mul-row
-    shared-slice-read-row
-    cast-row
-    slice-write-row
-    (λ c. omega arith)
-    (λ c. omega arith)
-    loop-again
-    same-length
-    returns)
+    tie.close (tie.spec Inv-loop μ-loop section-requires (λ c. omega (arith, c .section .ensures .0)) loop-holds add-row mul-row
+    shared-slice-read-row cast-row slice-write-row (λ c. omega arith) (λ c. omega arith) loop-again same-length returns)

@@ -18,12 +18,4 @@ returns : tie.Need-returns
 returns c = factor-eq (c .args .j)
 
 pub factor-spec : {M : Type 1} → statement M
-factor-spec =
-    tie.close
-    (tie.spec
-    (λ c. search needs)
-    add-result
-    (λ c. search needs)
-    sub-result
-    cast-result
-    returns)
+factor-spec = tie.close (tie.spec (λ c. search needs) add-result (λ c. search needs) sub-result cast-result returns)

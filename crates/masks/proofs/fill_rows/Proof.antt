@@ -54,25 +54,7 @@ returns c =
 
 pub fill-rows-spec : {M : Type 1} → statement M
 fill-rows-spec =
-    tie.close
-    (tie.spec
-    Inv-loop
-    μ-loop
-    loop-holds
-    (λ c. omega (arith, c .before .before .before .pre .0))
-    inverts-low-requires
-    (λ c. omega arith)
-    (λ c. omega arith)
-    slice-write-table
-    inverts-low-requires-2
-    (λ c. omega arith)
-    (λ c. omega arith)
-    slice-write-table-2
-    inverts-low-requires-3
-    (λ c. omega arith)
-    slice-write-table-3
-    (λ c. omega arith)
-    (λ c. omega arith)
-    loop-again
-    same-length
-    returns)
+    tie.close (tie.spec Inv-loop μ-loop loop-holds (λ c. omega (arith, c .before .before .before .pre .0)) inverts-low-requires
+    (λ c. omega arith) (λ c. omega arith) slice-write-table inverts-low-requires-2 (λ c. omega arith) (λ c. omega arith)
+    slice-write-table-2 inverts-low-requires-3 (λ c. omega arith) slice-write-table-3 (λ c. omega arith) (λ c. omega arith) loop-again
+    same-length returns)

@@ -19,9 +19,6 @@ copy-row-requires : tie.Need-copy-row-requires Inv-loop μ-loop
 copy-row-requires c κs =
     let start = c .before .before .before .before .before in (omega (arith, c .before .before .if1 .left), c .before .if2 .taken, start .pre .1, start .pre .3, start .pre .4)
 
-returns-2 : tie.Need-returns-2 Inv-loop μ-loop
-returns-2 c = c .before .before .copy-row .ensures
-
 loop-holds : tie.Need-loop-holds Inv-loop μ-loop
 loop-holds c = filling-start (c .before .before .before .before .pre .4)
 
@@ -48,19 +45,5 @@ returns-3 c = let loop = c .before .loop in (loop .inv .row-is, λ k hi. loop .i
 
 pub mask-row-spec : {M : Type 1} → statement M
 mask-row-spec =
-    tie.close
-    (tie.spec
-    Inv-loop
-    μ-loop
-    returns
-    copy-row-requires
-    (λ c. search needs)
-    returns-2
-    loop-holds
-    inverts-three-requires
-    slice-write-row
-    (λ c. omega arith)
-    (λ c. omega arith)
-    loop-again
-    same-length-2
-    returns-3)
+    tie.close (tie.spec Inv-loop μ-loop returns copy-row-requires (λ c. search needs) (λ c. c .before .before .copy-row .ensures)
+    loop-holds inverts-three-requires slice-write-row (λ c. omega arith) (λ c. omega arith) loop-again same-length-2 returns-3)

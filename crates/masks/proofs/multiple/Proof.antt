@@ -17,11 +17,4 @@ returns : tie.Need-returns
 returns c = ap₂ (λ (a b : ℕ). bitAnd (a * b / 65536) (c .before .before .args .j)) (c .before .long .ensures .0) (c .long2 .ensures .0)
 
 pub multiple-spec : {M : Type 1} → statement M
-multiple-spec =
-    tie.close
-    (tie.spec
-    (λ c κs. search needs)
-    (λ c κs. search needs)
-    mul-result
-    cast-result
-    returns)
+multiple-spec = tie.close (tie.spec (λ c κs. search needs) (λ c κs. search needs) mul-result cast-result returns)

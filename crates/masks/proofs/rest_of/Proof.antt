@@ -14,10 +14,4 @@ returns : tie.Need-returns
 returns c = rest-eq (c .args .j)
 
 pub rest-of-spec : {M : Type 1} → statement M
-rest-of-spec =
-    tie.close
-    (tie.spec
-    (λ c. search needs)
-    add-result
-    cast-result
-    returns)
+rest-of-spec = tie.close (tie.spec (λ c. search needs) add-result cast-result returns)

@@ -7,14 +7,8 @@ use borrow.Author.Needs.{needs}
 use Rattle.parity.proofs.encode.Statement.{statement}
 use Rattle.parity.proofs.encode.Tie as tie
 
-han-xin-requires : tie.Need-han-xin-requires
-han-xin-requires c κs = search needs
-
 encode-over-requires : tie.Need-encode-over-requires
 encode-over-requires c κs = (c .before .before .han-xin .ensures .0, omega arith)
-
-same-length : tie.Need-same-length
-same-length c = search needs
 
 returns : tie.Need-returns
 returns c =
@@ -24,4 +18,4 @@ returns c =
     ∙ ap (λ (p : ℕ). encodeOf p 1 (start .args .parity) (start .args .block .now)) (han-xin .ensures .1)
 
 pub encode-spec : {M : Type 1} → statement M
-encode-spec = tie.close (tie.spec han-xin-requires encode-over-requires same-length returns)
+encode-spec = tie.close (tie.spec (λ c κs. search needs) encode-over-requires (λ c. search needs) returns)

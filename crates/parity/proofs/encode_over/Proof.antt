@@ -20,15 +20,6 @@ returns-3 : tie.Need-returns-3
 unfolding encoding
 returns-3 c = unfit-refused _ _ _ _ (unfit-long _ _ (c .if3 .taken))
 
-generator-requires : tie.Need-generator-requires
-generator-requires c κs = search needs
-
-slice-aggregate-write-parity : tie.Need-slice-aggregate-write-parity
-slice-aggregate-write-parity c = search needs
-
-sub-write-parity : tie.Need-sub-write-parity
-sub-write-parity c = search needs
-
 write-parity-requires : tie.Need-write-parity-requires
 write-parity-requires c κs =
     let start = c .before .before .before .before .before .before .before in
@@ -38,9 +29,6 @@ write-parity-requires c κs =
       start .pre .0,
       ((omega arith, omega (arith, if3 .left), omega (arith, generator .ensures .0, if2 .left, if3 .left)), generator-monic _ _ _ _ _ (generator .ensures .1) (omega (arith, if2 .left)) (omega (arith, if2 .left))),
     )
-
-same-length : tie.Need-same-length
-same-length c = search needs
 
 returns-4 : tie.Need-returns-4
 unfolding encoding
@@ -56,14 +44,5 @@ returns-4 c =
 
 pub encode-over-spec : {M : Type 1} → statement M
 encode-over-spec =
-    tie.close
-    (tie.spec
-    returns
-    returns-2
-    returns-3
-    generator-requires
-    slice-aggregate-write-parity
-    sub-write-parity
-    write-parity-requires
-    same-length
-    returns-4)
+    tie.close (tie.spec returns returns-2 returns-3 (λ c κs. search needs) (λ c. search needs) (λ c. search needs) write-parity-requires
+    (λ c. search needs) returns-4)

@@ -19,35 +19,8 @@ Inv-loop field first parity g₀ n₀ g n = (length g ≡ 256) × Generator (pol
 abbrev μ-loop : tie.MeasureT-loop
 μ-loop field first parity g₀ n₀ g n = parity - n
 
-array-write-g : tie.Need-array-write-g Inv-loop μ-loop
-array-write-g c = search needs
-
 loop-holds : tie.Need-loop-holds Inv-loop μ-loop
 loop-holds c = (refl, generator-start _ _ _ refl (one-first (replicate 256 0) refl (zeros 256)), omega arith)
-
-add-power : tie.Need-add-power Inv-loop μ-loop
-add-power c = search needs
-
-power-requires : tie.Need-power-requires Inv-loop μ-loop
-power-requires c κs = search needs
-
-slice-aggregate-add-moved : tie.Need-slice-aggregate-add-moved Inv-loop μ-loop
-slice-aggregate-add-moved c = sym (c .before .before .before .loop .inv .0)
-
-slice-aggregate-add-moved-2 : tie.Need-slice-aggregate-add-moved-2 Inv-loop μ-loop
-slice-aggregate-add-moved-2 c = sym (c .before .before .before .before .loop .inv .0)
-
-add-add-moved : tie.Need-add-add-moved Inv-loop μ-loop
-add-add-moved c = search needs
-
-add-moved-requires : tie.Need-add-moved-requires Inv-loop μ-loop
-add-moved-requires c κs = search needs
-
-add-n : tie.Need-add-n Inv-loop μ-loop
-add-n c = search needs
-
-loop-less : tie.Need-loop-less Inv-loop μ-loop
-loop-less c = search needs
 
 loop-again : tie.Need-loop-again Inv-loop μ-loop
 loop-again c =
@@ -65,19 +38,6 @@ returns c = (c .before .loop .inv .0, generator-end _ _ _ _ _ (c .before .loop .
 
 pub generator-spec : {M : Type 1} → statement M
 generator-spec =
-    tie.close
-    (tie.spec
-    Inv-loop
-    μ-loop
-    array-write-g
-    loop-holds
-    add-power
-    power-requires
-    slice-aggregate-add-moved
-    slice-aggregate-add-moved-2
-    add-add-moved
-    add-moved-requires
-    add-n
-    loop-less
-    loop-again
-    returns)
+    tie.close (tie.spec Inv-loop μ-loop (λ c. search needs) loop-holds (λ c. search needs) (λ c κs. search needs)
+    (λ c. sym (c .before .before .before .loop .inv .0)) (λ c. sym (c .before .before .before .before .loop .inv .0))
+    (λ c. search needs) (λ c κs. search needs) (λ c. search needs) (λ c. search needs) loop-again returns)

@@ -15,20 +15,8 @@ Inv-loop b parity i₀ i = (parity ≤ i) × (i ≤ 32) × ((k : ℕ) → parity
 abbrev μ-loop : tie.MeasureT-loop
 μ-loop b parity i₀ i = 32 - i
 
-returns : tie.Need-returns Inv-loop μ-loop
-returns c = λ e. absurd (false≢true e)
-
-returns-2 : tie.Need-returns-2 Inv-loop μ-loop
-returns-2 c = λ e. absurd (false≢true e)
-
-returns-3 : tie.Need-returns-3 Inv-loop μ-loop
-returns-3 c = λ e. absurd (false≢true e)
-
 loop-holds : tie.Need-loop-holds Inv-loop μ-loop
 loop-holds c = (omega arith, omega arith, λ k h l. absurd (omega arith))
-
-returns-4 : tie.Need-returns-4 Inv-loop μ-loop
-returns-4 c = λ e. absurd (false≢true e)
 
 loop-again : tie.Need-loop-again Inv-loop μ-loop
 loop-again c =
@@ -48,5 +36,6 @@ returns-5 c =
 
 pub is-parity-spec : {M : Type 1} → statement M
 is-parity-spec =
-    tie.close
-    (tie.spec Inv-loop μ-loop returns returns-2 returns-3 loop-holds (λ c. search needs) returns-4 (λ c. search needs) (λ c. search needs) loop-again returns-5)
+    tie.close (tie.spec Inv-loop μ-loop (λ c. λ e. absurd (false≢true e)) (λ c. λ e. absurd (false≢true e))
+    (λ c. λ e. absurd (false≢true e)) loop-holds (λ c. search needs) (λ c. λ e. absurd (false≢true e)) (λ c. search needs)
+    (λ c. search needs) loop-again returns-5)

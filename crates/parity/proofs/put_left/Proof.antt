@@ -29,4 +29,5 @@ returns-2 c = (λ e. absurd (false≢true e), λ _. refl)
 
 pub put-left-spec : {M : Type 1} → statement M
 put-left-spec =
-    tie.close (tie.spec (λ c κs. search needs) (λ c. search needs) (λ c κs. search needs) put-behind-requires (λ c. search needs) returns returns-2)
+    tie.close (tie.spec (λ c κs. search needs) (λ c. search needs) (λ c κs. search needs) put-behind-requires (λ c. search needs)
+    returns returns-2)

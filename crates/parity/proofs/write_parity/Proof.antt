@@ -6,32 +6,11 @@ use borrow.Author.Needs.{needs}
 use Rattle.parity.proofs.write_parity.Statement.{statement}
 use Rattle.parity.proofs.write_parity.Tie as tie
 
-slice-aggregate-copy : tie.Need-slice-aggregate-copy
-slice-aggregate-copy c = search needs
-
-copy-requires : tie.Need-copy-requires
-copy-requires c κs = search needs
-
-sub-divide : tie.Need-sub-divide
-sub-divide c = search needs
-
-slice-aggregate-divide : tie.Need-slice-aggregate-divide
-slice-aggregate-divide c = search needs
-
 divide-requires : tie.Need-divide-requires
 divide-requires c κs =
     let start = c .before .before .before .before .before .before .before in
     let copy = c .before .before .copy in
     (start .pre .0, ((omega (arith, copy .ensures .size), omega arith, omega (arith, copy .ensures .size)), start .pre .1 .1))
-
-slice-aggregate-copy-2 : tie.Need-slice-aggregate-copy-2
-slice-aggregate-copy-2 c = search needs
-
-copy-requires-2 : tie.Need-copy-requires-2
-copy-requires-2 c κs = search needs
-
-same-length : tie.Need-same-length
-same-length c = search needs
 
 returns : tie.Need-returns
 returns c =
@@ -44,14 +23,5 @@ returns c =
 
 pub write-parity-spec : {M : Type 1} → statement M
 write-parity-spec =
-    tie.close
-    (tie.spec
-    slice-aggregate-copy
-    copy-requires
-    sub-divide
-    slice-aggregate-divide
-    divide-requires
-    slice-aggregate-copy-2
-    copy-requires-2
-    same-length
-    returns)
+    tie.close (tie.spec (λ c. search needs) (λ c κs. search needs) (λ c. search needs) (λ c. search needs) divide-requires
+    (λ c. search needs) (λ c κs. search needs) (λ c. search needs) returns)

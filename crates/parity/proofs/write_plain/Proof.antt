@@ -22,5 +22,5 @@ returns c =
 
 pub write-plain-spec : {M : Type 1} → statement M
 write-plain-spec =
-    tie.close
-    (tie.spec (λ c κs. search needs) (λ c. search needs) (λ c κs. search needs) (λ c. search needs) write-parity-requires (λ c. search needs) returns)
+    tie.close (tie.spec (λ c κs. search needs) (λ c. search needs) (λ c κs. search needs) (λ c. search needs) write-parity-requires
+    (λ c. search needs) returns)

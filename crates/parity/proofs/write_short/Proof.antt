@@ -18,4 +18,6 @@ returns-2 c =
     ∙ ap (λ (x : List ℕ). writtenOf 0x163 1 (length x - start .args .k) x) (c .before .before .before .before .before .before .before .put-left .ensures .1 (c .before .before .before .before .if1 .left))
 
 pub write-short-spec : {M : Type 1} → statement M
-write-short-spec = tie.close (tie.spec (λ c. search needs) (λ c κs. search needs) (λ c κs. search needs) (λ c. search needs) returns (λ c κs. search needs) (λ c. search needs) returns-2)
+write-short-spec =
+    tie.close (tie.spec (λ c. search needs) (λ c κs. search needs) (λ c κs. search needs) (λ c. search needs) returns
+    (λ c κs. search needs) (λ c. search needs) returns-2)

@@ -21,4 +21,6 @@ returns-2 c =
     ∙ ap (λ (x : List ℕ). writtenOf 0x163 1 (length x - start .args .k) x) (c .before .before .before .before .before .before .before .put-left .ensures .1 (c .before .before .before .before .if1 .left))
 
 pub write-with-spec : {M : Type 1} → statement M
-write-with-spec = tie.close (tie.spec (λ c κs. search needs) put-left-requires (λ c. search needs) returns (λ c κs. search needs) (λ c. search needs) returns-2)
+write-with-spec =
+    tie.close (tie.spec (λ c κs. search needs) put-left-requires (λ c. search needs) returns (λ c κs. search needs) (λ c. search needs)
+    returns-2)

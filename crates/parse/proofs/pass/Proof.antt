@@ -25,21 +25,6 @@ abbrev μ-loop : tie.MeasureT-loop
 loop-holds : tie.Need-loop-holds Inv-loop μ-loop
 loop-holds c = (refl, refl, omega arith, omega arith, omega arith, (8 * length (c .before .before .before .args .s .now) + 1, omega arith, λ r x y h. h))
 
-mode-requires : tie.Need-mode-requires Inv-loop μ-loop
-mode-requires c κs = search needs
-
-enum-known-got : tie.Need-enum-known-got Inv-loop μ-loop
-enum-known-got c = c .match .keys1
-
-enum-told : tie.Need-enum-told Inv-loop μ-loop
-enum-told c = c .match .keys2
-
-same-length : tie.Need-same-length Inv-loop μ-loop
-same-length c = c .before .before .before .loop .inv .0
-
-same-length-2 : tie.Need-same-length-2 Inv-loop μ-loop
-same-length-2 c = c .before .before .before .loop .inv .1
-
 returns : tie.Need-returns Inv-loop μ-loop
 returns c =
     let b = c .before .before in
@@ -57,12 +42,6 @@ word c =
     let a = b .before .before .before .before .before .args in
     word-read 4 (l .at) (a .s .now) (b .mode .result) (b .mode .ensures ∙ read-inside (a .s .now) (l .at) 4 (omega arith) (omega arith) (omega arith)) (got .given .0 .0) (omega arith) (omega arith) (got .given .1)
 
-same-length-3 : tie.Need-same-length-3 Inv-loop μ-loop
-same-length-3 c = c .before .before .before .before .before .loop .inv .0
-
-same-length-4 : tie.Need-same-length-4 Inv-loop μ-loop
-same-length-4 c = c .before .before .before .before .before .loop .inv .1
-
 returns-2 : tie.Need-returns-2 Inv-loop μ-loop
 returns-2 c =
     let k = c .before in
@@ -70,18 +49,12 @@ returns-2 c =
     let a = k .before .before .before .before .before .before .before .before .args in
     l .inv .5 .2 _ _ _ (pass-end (a .s .now) (l .at) (l .n) (l .m) (l .out) (l .script) (k .before .got .given .0 .0) (word k) (l .inv .5 .0) (omega arith) (c .if1 .taken))
 
-add-t15 : tie.Need-add-t15 Inv-loop μ-loop
-add-t15 c = omega arith
-
 segment-requires : tie.Need-segment-requires Inv-loop μ-loop
 segment-requires c κs =
     let w = word (c .before .before .before) in
     let m = w .room in
     let v = w .small in
     (omega arith, omega arith, omega arith, omega arith, omega arith)
-
-enum-known-next : tie.Need-enum-known-next Inv-loop μ-loop
-enum-known-next c = c .match2 .keys1
 
 -- where the segment ended
 room : (c : tie.After-known-told2 Inv-loop μ-loop)
@@ -129,9 +102,6 @@ loop-again c =
       ),
     )
 
-enum-told-2 : tie.Need-enum-told-2 Inv-loop μ-loop
-enum-told-2 c = c .match2 .keys2
-
 same-length-5 : tie.Need-same-length-5 Inv-loop μ-loop
 same-length-5 c =
     let loop = c .before .before .before .before .before .before .before .before .before .before .before .before .before .before .loop in
@@ -154,9 +124,6 @@ returns-3 c =
     let a = k .before .before .before .before .before .before .before .before .args in
     let q = g .segment in
     l .inv .5 .2 _ _ _ (pass-cut (a .s .now) (l .at) (l .n) (l .m) (l .out) (l .script) (k .before .got .given .0 .0) (word k) (l .inv .5 .0) (omega arith) (e .if1 .left) (q .result) (q .last .1 .1 .1 .0) (q .last .1 .1 .1 .1 .0) (q .ensures) (c .enum-told2 .given .1))
-
-enum-told-3 : tie.Need-enum-told-3 Inv-loop μ-loop
-enum-told-3 c = c .match2 .keys3
 
 same-length-7 : tie.Need-same-length-7 Inv-loop μ-loop
 same-length-7 c =
@@ -183,30 +150,8 @@ returns-4 c =
 
 pub pass-spec : {M : Type 1} → statement M
 pass-spec =
-    tie.close
-    (tie.spec
-    Inv-loop
-    μ-loop
-    loop-holds
-    mode-requires
-    enum-known-got
-    enum-told
-    same-length
-    same-length-2
-    returns
-    same-length-3
-    same-length-4
-    returns-2
-    add-t15
-    segment-requires
-    enum-known-next
-    loop-less
-    loop-again
-    enum-told-2
-    same-length-5
-    same-length-6
-    returns-3
-    enum-told-3
-    same-length-7
-    same-length-8
-    returns-4)
+    tie.close (tie.spec Inv-loop μ-loop loop-holds (λ c κs. search needs) (λ c. c .match .keys1) (λ c. c .match .keys2)
+    (λ c. c .before .before .before .loop .inv .0) (λ c. c .before .before .before .loop .inv .1) returns
+    (λ c. c .before .before .before .before .before .loop .inv .0) (λ c. c .before .before .before .before .before .loop .inv .1)
+    returns-2 (λ c. omega arith) segment-requires (λ c. c .match2 .keys1) loop-less loop-again (λ c. c .match2 .keys2) same-length-5
+    same-length-6 returns-3 (λ c. c .match2 .keys3) same-length-7 same-length-8 returns-4)

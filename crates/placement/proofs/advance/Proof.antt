@@ -21,9 +21,6 @@ returns c =
 sub-push : tie.Need-sub-push
 sub-push c = omega (arith, c .before .before .before .least .ensures .1, c .before .before .before .before .before .before .pre .2)
 
-shr-push : tie.Need-shr-push
-shr-push c = omega arith
-
 push-requires : tie.Need-push-requires
 push-requires c κs =
     let start = c .before .before .before .before .before .before in
@@ -41,16 +38,5 @@ returns-2 c =
 
 pub advance-spec : {M : Type 1} → statement M
 advance-spec =
-    tie.close
-    (tie.spec
-    (λ c κs. search needs)
-    (λ c κs. search needs)
-    (λ c κs. search needs)
-    add-t10
-    returns
-    (λ c κs. search needs)
-    sub-push
-    shr-push
-    push-requires
-    (λ c. search needs)
-    returns-2)
+    tie.close (tie.spec (λ c κs. search needs) (λ c κs. search needs) (λ c κs. search needs) add-t10 returns (λ c κs. search needs)
+    sub-push (λ c. omega arith) push-requires (λ c. search needs) returns-2)

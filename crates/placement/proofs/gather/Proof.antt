@@ -8,11 +8,4 @@ returns : tie.Need-returns
 returns c = record { small = omega arith; is = λ b h e. gather-is b h (c .args .x) e }
 
 pub gather-spec : {M : Type 1} → statement M
-gather-spec =
-    tie.close
-    (tie.spec
-    (λ c. search needs)
-    (λ c. search needs)
-    (λ c. search needs)
-    (λ c. search needs)
-    returns)
+gather-spec = tie.close (tie.spec (λ c. search needs) (λ c. search needs) (λ c. search needs) (λ c. search needs) returns)

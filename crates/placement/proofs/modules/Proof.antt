@@ -7,9 +7,4 @@ returns : tie.Need-returns
 returns c = let start = c .before .before .before .before in modules-are (start .pre .0) (start .args .at) (c .before .eight .ensures) (c .eight2 .ensures)
 
 pub modules-spec : {M : Type 1} → statement M
-modules-spec =
-    tie.close
-    (tie.spec
-    (λ c κs. search needs)
-    (λ c κs. search needs)
-    returns)
+modules-spec = tie.close (tie.spec (λ c κs. search needs) (λ c κs. search needs) returns)

@@ -23,11 +23,4 @@ returns c =
     first-codewords (start .args .out .now) all (start .args .total) (start .pre .1 .0) (c .before .before .read-rows .ensures)
 
 pub read-codewords-spec : {M : Type 1} → statement M
-read-codewords-spec =
-    tie.close
-    (tie.spec
-    (λ c. search needs)
-    slice-aggregate-read-rows
-    read-rows-requires
-    (λ c. search needs)
-    returns)
+read-codewords-spec = tie.close (tie.spec (λ c. search needs) slice-aggregate-read-rows read-rows-requires (λ c. search needs) returns)

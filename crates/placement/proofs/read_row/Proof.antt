@@ -39,15 +39,5 @@ returns c = let last = c .before .before .read-last in (last .ensures .0, last .
 
 pub read-row-spec : {M : Type 1} → statement M
 read-row-spec =
-    tie.close
-    (tie.spec
-    Inv-loop
-    μ-loop
-    (λ c κs. search needs)
-    loop-holds
-    step-requires
-    loop-less
-    loop-again
-    read-last-requires
-    same-length
-    returns)
+    tie.close (tie.spec Inv-loop μ-loop (λ c κs. search needs) loop-holds step-requires loop-less loop-again read-last-requires
+    same-length returns)

@@ -17,9 +17,6 @@ Inv-loop out₀ kinds square side mask table row₀ columns r₀ i₀ out row r 
 abbrev μ-loop : tie.MeasureT-loop
 μ-loop out₀ kinds square side mask table row₀ columns r₀ i₀ out row r i = side - i
 
-columns-requires : tie.Need-columns-requires Inv-loop μ-loop
-columns-requires c κs = (omega arith, refl)
-
 loop-holds : tie.Need-loop-holds Inv-loop μ-loop
 loop-holds c =
     let start = c .before .before .before .before .before .before in
@@ -32,12 +29,6 @@ loop-holds c =
       subst (λ (k : ℕ). Walk (length (start .args .out .now)) all (start .args .out .now) (bitsFrom m (start .args .kinds .now) (start .args .square .now) k) (record { column = 0; n = 0; value = 0; bits = 0 })) z
           (rows-begun all (start .args .out .now) refl refl refl (start .pre .4)),
     )
-
-slice-aggregate-mask-row : tie.Need-slice-aggregate-mask-row Inv-loop μ-loop
-slice-aggregate-mask-row c = sym (c .before .before .loop .inv .0 .size)
-
-slice-aggregate-mask-row-2 : tie.Need-slice-aggregate-mask-row-2 Inv-loop μ-loop
-slice-aggregate-mask-row-2 c = sym (c .before .before .before .before .before .columns .ensures .size)
 
 mask-row-requires : tie.Need-mask-row-requires Inv-loop μ-loop
 mask-row-requires c κs =
@@ -86,9 +77,6 @@ loop-again c =
     let turn = rows-turn m ks sq (loop .i) (start .args .side) (start .pre .0 .kinds) h (λ k l. mask-row .1 k (omega arith) ∙ row-mask (start .args .mask) (loop .i) (start .args .side) k l) refl (read-row .1) (read-row .2) (walk-again refl refl refl (loop .inv .3)) in
     (mask-row .0, read-row .0, omega (arith, c .before .before .before .before .before .before .before .before .before .before .before .loop-test .taken), turn)
 
-same-length : tie.Need-same-length Inv-loop μ-loop
-same-length c = c .before .loop .inv .3 .words .size
-
 returns : tie.Need-returns Inv-loop μ-loop
 returns c =
     let start = c .before .before .before .before .before .before .before .before in
@@ -98,30 +86,8 @@ returns c =
 
 pub read-rows-spec : {M : Type 1} → statement M
 read-rows-spec =
-    tie.close
-    (tie.spec
-    Inv-loop
-    μ-loop
-    (λ c. omega arith)
-    (λ c. omega arith)
-    (λ c. refl)
-    columns-requires
-    loop-holds
-    slice-aggregate-mask-row
-    slice-aggregate-mask-row-2
-    mask-row-requires
-    mul-at
-    add-end
-    (λ c. omega arith)
-    (λ c. omega arith)
-    part-read-row-end
-    (λ c. omega arith)
-    (λ c. omega arith)
-    part-read-row-end-2
-    slice-aggregate-read-row
-    read-row-requires
-    add-i
-    loop-less
-    loop-again
-    same-length
-    returns)
+    tie.close (tie.spec Inv-loop μ-loop (λ c. omega arith) (λ c. omega arith) (λ c. refl) (λ c κs. (omega arith, refl)) loop-holds
+    (λ c. sym (c .before .before .loop .inv .0 .size)) (λ c. sym (c .before .before .before .before .before .columns .ensures .size))
+    mask-row-requires mul-at add-end (λ c. omega arith) (λ c. omega arith) part-read-row-end (λ c. omega arith) (λ c. omega arith)
+    part-read-row-end-2 slice-aggregate-read-row read-row-requires add-i loop-less loop-again
+    (λ c. c .before .loop .inv .3 .words .size) returns)

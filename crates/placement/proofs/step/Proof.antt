@@ -42,14 +42,5 @@ returns-2 c =
 
 pub step-spec : {M : Type 1} → statement M
 step-spec =
-    tie.close
-    (tie.spec
-    (λ c κs. search needs)
-    (λ c κs. search needs)
-    (λ c κs. search needs)
-    push-requires
-    (λ c. search needs)
-    returns
-    advance-requires
-    (λ c. search needs)
-    returns-2)
+    tie.close (tie.spec (λ c κs. search needs) (λ c κs. search needs) (λ c κs. search needs) push-requires (λ c. search needs) returns
+    advance-requires (λ c. search needs) returns-2)

@@ -11,12 +11,4 @@ returns-2 : tie.Need-returns-2
 returns-2 c = record { room = λ h. (refl, refl); full = λ h. absurd (omega arith) }
 
 pub store-spec : {M : Type 1} → statement M
-store-spec =
-    tie.close
-    (tie.spec
-    returns
-    (λ c. search needs)
-    (λ c. search needs)
-    (λ c. search needs)
-    (λ c. search needs)
-    returns-2)
+store-spec = tie.close (tie.spec returns (λ c. search needs) (λ c. search needs) (λ c. search needs) (λ c. search needs) returns-2)

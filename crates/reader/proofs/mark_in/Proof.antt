@@ -1,14 +1,8 @@
 -- `mark_in` meets its contract. Assumes nothing.
-use native.Mathlib.Omega.{arith}
-use mathlib.Core.Path.{ap}
-use Prim.Native.Nat.{ℕ, _*_}
 use Rattle.reader.proofs.Opens.{nearest-mark, no-version, in-square}
 use borrow.Author.Needs.{needs}
 use Rattle.reader.proofs.mark_in.Statement.{statement}
 use Rattle.reader.proofs.mark_in.Tie as tie
-
-side-requires : tie.Need-side-requires
-side-requires c κs = search needs
 
 read-copy-requires : tie.Need-read-copy-requires
 read-copy-requires c κs =
@@ -19,18 +13,6 @@ read-copy-requires-2 : tie.Need-read-copy-requires-2
 read-copy-requires-2 c κs =
     let a = c .before .before .before .pre in
     in-square _ _ (c .before .before .before .args .square .now) (a .0) (a .1) (c .before .side .ensures) (a .2) (a .3)
-
-nearest-info-requires : tie.Need-nearest-info-requires
-nearest-info-requires c κs = search needs
-
-enum-known-level : tie.Need-enum-known-level
-enum-known-level c = search needs
-
-cast-t12 : tie.Need-cast-t12
-cast-t12 c = search needs
-
-enum-told : tie.Need-enum-told
-enum-told c = search needs
 
 returns : tie.Need-returns
 returns c =
@@ -51,14 +33,5 @@ returns-2 c =
 
 pub mark-in-spec : {M : Type 1} → statement M
 mark-in-spec =
-    tie.close
-    (tie.spec
-    side-requires
-    read-copy-requires
-    read-copy-requires-2
-    nearest-info-requires
-    enum-known-level
-    cast-t12
-    enum-told
-    returns
-    returns-2)
+    tie.close (tie.spec (λ c κs. search needs) read-copy-requires read-copy-requires-2 (λ c κs. search needs) (λ c. search needs)
+    (λ c. search needs) (λ c. search needs) returns returns-2)

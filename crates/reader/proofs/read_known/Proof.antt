@@ -11,4 +11,8 @@ read-known-in-requires-3 : tie.Need-read-known-in-requires-3
 read-known-in-requires-3 c κs = (record { room = λ v h e. square-le (sideOf v) (omega arith) }, refl)
 
 pub read-known-spec : {M : Type 1} → statement M
-read-known-spec = tie.close (tie.spec (λ c. search needs) (λ c κs. search needs) (λ c. search needs) (λ c. search needs) (λ c. search needs) (λ c. search needs) (λ c. search needs) (λ c κs. search needs) (λ c. search needs) (λ c. search needs) (λ c. search needs) (λ c. search needs) (λ c. search needs) read-known-in-requires-3 (λ c. search needs) (λ c. search needs) (λ c. search needs) (λ c. search needs))
+read-known-spec =
+    tie.close (tie.spec (λ c. search needs) (λ c κs. search needs) (λ c. search needs) (λ c. search needs) (λ c. search needs)
+    (λ c. search needs) (λ c. search needs) (λ c κs. search needs) (λ c. search needs) (λ c. search needs) (λ c. search needs)
+    (λ c. search needs) (λ c. search needs) read-known-in-requires-3 (λ c. search needs) (λ c. search needs) (λ c. search needs)
+    (λ c. search needs))

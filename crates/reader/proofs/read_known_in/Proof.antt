@@ -86,23 +86,6 @@ returns-4 c =
 
 pub read-known-in-spec : {M : Type 1} → statement M
 read-known-in-spec =
-    tie.close
-    (tie.spec
-    returns
-    (λ c κs. search needs)
-    enum-told
-    (λ c. search needs)
-    (λ c κs. search needs)
-    (λ c. search needs)
-    returns-2
-    side-requires
-    square-refusal-requires
-    refuse-requires-2
-    (λ c. search needs)
-    returns-3
-    finish-in-requires
-    (λ c. search needs)
-    (λ c. search needs)
-    (λ c. search needs)
-    (λ c. search needs)
-    returns-4)
+    tie.close (tie.spec returns (λ c κs. search needs) enum-told (λ c. search needs) (λ c κs. search needs) (λ c. search needs)
+    returns-2 side-requires square-refusal-requires refuse-requires-2 (λ c. search needs) returns-3 finish-in-requires
+    (λ c. search needs) (λ c. search needs) (λ c. search needs) (λ c. search needs) returns-4)

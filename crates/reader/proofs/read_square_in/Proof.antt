@@ -99,26 +99,7 @@ returns-5 c =
 
 pub read-square-in-spec : {M : Type 1} → statement M
 read-square-in-spec =
-    tie.close
-    (tie.spec
-    returns
-    (λ c κs. search needs)
-    (λ c. search needs)
-    enum-told
-    (λ c κs. search needs)
-    (λ c. search needs)
-    returns-2
-    square-refusal-requires
-    refuse-requires-2
-    (λ c. search needs)
-    returns-3
-    mark-in-requires
-    (λ c κs. search needs)
-    (λ c. search needs)
-    returns-4
-    finish-in-requires
-    (λ c. search needs)
-    (λ c. search needs)
-    (λ c. search needs)
-    (λ c. search needs)
+    tie.close (tie.spec returns (λ c κs. search needs) (λ c. search needs) enum-told (λ c κs. search needs) (λ c. search needs)
+    returns-2 square-refusal-requires refuse-requires-2 (λ c. search needs) returns-3 mark-in-requires (λ c κs. search needs)
+    (λ c. search needs) returns-4 finish-in-requires (λ c. search needs) (λ c. search needs) (λ c. search needs) (λ c. search needs)
     returns-5)

@@ -12,9 +12,6 @@ mul-if1 c = omega (arith, small-product (c .before .args .side) (c .before .args
 returns : tie.Need-returns
 returns c = wrong-size (c .before .before .args .square .now) (c .before .before .args .side) (c .if1 .taken)
 
-greatest-requires : tie.Need-greatest-requires
-greatest-requires c κs = search needs
-
 returns-2 : tie.Need-returns-2
 returns-2 c =
     let start = c .before .before .before .before in
@@ -26,4 +23,4 @@ returns-3 c =
     right-square (start .args .square .now) (start .args .side) (c .before .before .if1 .left) (all-modules _ _ (c .before .greatest .ensures) (omega (arith, c .if2 .left)))
 
 pub square-refusal-spec : {M : Type 1} → statement M
-square-refusal-spec = tie.close (tie.spec mul-if1 returns greatest-requires returns-2 returns-3)
+square-refusal-spec = tie.close (tie.spec mul-if1 returns (λ c κs. search needs) returns-2 returns-3)

@@ -4,36 +4,6 @@ use borrow.Author.Needs.{needs}
 use Rattle.receipts.proofs.accepted.Statement.{statement}
 use Rattle.receipts.proofs.accepted.Tie as tie
 
-low-requires : tie.Need-low-requires
-low-requires c κs = search needs
-
-low-requires-2 : tie.Need-low-requires-2
-low-requires-2 c κs = search needs
-
-low-requires-3 : tie.Need-low-requires-3
-low-requires-3 c κs = search needs
-
-low-requires-4 : tie.Need-low-requires-4
-low-requires-4 c κs = search needs
-
-low-requires-5 : tie.Need-low-requires-5
-low-requires-5 c κs = search needs
-
-low-requires-6 : tie.Need-low-requires-6
-low-requires-6 c κs = search needs
-
-low-requires-7 : tie.Need-low-requires-7
-low-requires-7 c κs = search needs
-
-low-requires-8 : tie.Need-low-requires-8
-low-requires-8 c κs = search needs
-
-low-requires-9 : tie.Need-low-requires-9
-low-requires-9 c κs = search needs
-
-low-requires-10 : tie.Need-low-requires-10
-low-requires-10 c κs = search needs
-
 returns : tie.Need-returns
 returns c =
     let start = c .before .before .before .before .before .before .before .before .before .before .before .before .before in
@@ -50,16 +20,6 @@ returns c =
 
 pub accepted-spec : {M : Type 1} → statement M
 accepted-spec =
-    tie.close
-    (tie.spec
-    low-requires
-    low-requires-2
-    low-requires-3
-    low-requires-4
-    low-requires-5
-    low-requires-6
-    low-requires-7
-    low-requires-8
-    low-requires-9
-    low-requires-10
-    returns)
+    tie.close (tie.spec (λ c κs. search needs) (λ c κs. search needs) (λ c κs. search needs) (λ c κs. search needs)
+    (λ c κs. search needs) (λ c κs. search needs) (λ c κs. search needs) (λ c κs. search needs) (λ c κs. search needs)
+    (λ c κs. search needs) returns)

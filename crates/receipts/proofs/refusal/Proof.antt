@@ -4,11 +4,8 @@ use borrow.Author.Needs.{needs}
 use Rattle.receipts.proofs.refusal.Statement.{statement}
 use Rattle.receipts.proofs.refusal.Tie as tie
 
-low-requires : tie.Need-low-requires
-low-requires c κs = search needs
-
 returns : tie.Need-returns
 returns c = refusal-is _ _ (c .before .pre) (c .low .ensures)
 
 pub refusal-spec : {M : Type 1} → statement M
-refusal-spec = tie.close (tie.spec low-requires returns)
+refusal-spec = tie.close (tie.spec (λ c κs. search needs) returns)

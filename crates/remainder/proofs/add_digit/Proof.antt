@@ -12,4 +12,6 @@ returns c =
     c .sum .ensures ∙ ap (sumOf (start .args .r)) (c .before .row-at .ensures ∙ ap (λ (f : ℕ). rowAt (start .args .t .now) (16 * start .args .i + f)) (c .before .before .digit .ensures .0))
 
 pub add-digit-spec : {M : Type 1} → statement M
-add-digit-spec = tie.close (tie.spec (λ c. search needs) (λ c κs. search needs) (λ c. search needs) (λ c κs. search needs) (λ c κs. search needs) returns)
+add-digit-spec =
+    tie.close (tie.spec (λ c. search needs) (λ c κs. search needs) (λ c. search needs) (λ c κs. search needs) (λ c κs. search needs)
+    returns)

@@ -38,4 +38,5 @@ returns c =
     }
 
 pub add-digits-spec : {M : Type 1} → statement M
-add-digits-spec = tie.close (tie.spec Inv-loop μ-loop loop-holds (λ c κs. search needs) (λ c. search needs) (λ c. search needs) loop-again returns)
+add-digits-spec =
+    tie.close (tie.spec Inv-loop μ-loop loop-holds (λ c κs. search needs) (λ c. search needs) (λ c. search needs) loop-again returns)

@@ -9,4 +9,5 @@ returns : tie.Need-returns
 returns c = ap (λ (w : ℕ). w / 2 ^ (56 - 8 * (c .before .args .i % 8)) % 256) (c .word-at .ensures)
 
 pub byte-at-spec : {M : Type 1} → statement M
-byte-at-spec = tie.close (tie.spec (λ c κs. search needs) (λ c. search needs) (λ c. search needs) (λ c. search needs) (λ c. search needs) returns)
+byte-at-spec =
+    tie.close (tie.spec (λ c κs. search needs) (λ c. search needs) (λ c. search needs) (λ c. search needs) (λ c. search needs) returns)

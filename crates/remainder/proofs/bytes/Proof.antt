@@ -39,4 +39,6 @@ returns c =
     )
 
 pub bytes-spec : {M : Type 1} → statement M
-bytes-spec = tie.close (tie.spec Inv-loop μ-loop (λ c κs. search needs) loop-holds (λ c κs. search needs) array-write-s (λ c. search needs) (λ c. search needs) loop-again returns)
+bytes-spec =
+    tie.close (tie.spec Inv-loop μ-loop (λ c κs. search needs) loop-holds (λ c κs. search needs) array-write-s (λ c. search needs)
+    (λ c. search needs) loop-again returns)

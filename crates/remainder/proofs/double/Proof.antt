@@ -1,7 +1,7 @@
 -- `double` meets its contract. Assumes nothing.
-use Prim.Native.Nat.{ℕ, _*_, _/_, _≤_, _<_}
+use Prim.Native.Nat.{_/_}
 use native.Mathlib.Omega.{arith}
-use lib.Bits.{bitAnd, and-le-r}
+use lib.Bits.{and-le-r}
 use Rattle.remainder.proofs.Alpha.{sevens, ones, in-one-go}
 use Rattle.remainder.proofs.double.Statement.{statement}
 use Rattle.remainder.proofs.double.Tie as tie

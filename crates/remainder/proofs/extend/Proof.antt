@@ -1,5 +1,5 @@
 -- `extend` meets its contract. Assumes nothing.
-use mathlib.Core.Path.{_≡_, _∙_}
+use mathlib.Core.Path.{_≡_}
 use Prim.Native.Nat.{_-_, _≤_}
 use native.Mathlib.Omega.{arith}
 use borrow.Author.Needs.{needs}
@@ -31,9 +31,6 @@ loop-again c =
     let loop = c .before .before .before .before .before .before .before .before .loop in
     (extended-next _ _ _ _ _ _ _ _ _ (loop .inv .0) (omega arith) (row .ensures) (sum .ensures) (put .ensures), omega arith)
 
-same-length : tie.Need-same-length Inv-loop μ-loop
-same-length c = c .before .loop .inv .0 .size
-
 returns : tie.Need-returns Inv-loop μ-loop
 returns c =
     let loop = c .before .loop in
@@ -42,6 +39,6 @@ returns c =
 
 pub extend-spec : {M : Type 1} → statement M
 extend-spec =
-    tie.close
-    (tie.spec Inv-loop μ-loop loop-holds (λ c. search needs) row-at-requires (λ c. search needs) (λ c. search needs) (λ c κs. search needs) put-row-requires
-    (λ c. search needs) (λ c. search needs) loop-again same-length returns)
+    tie.close (tie.spec Inv-loop μ-loop loop-holds (λ c. search needs) row-at-requires (λ c. search needs) (λ c. search needs)
+    (λ c κs. search needs) put-row-requires (λ c. search needs) (λ c. search needs) loop-again (λ c. c .before .loop .inv .0 .size)
+    returns)

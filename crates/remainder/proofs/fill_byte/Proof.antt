@@ -27,4 +27,5 @@ returns c =
 
 pub fill-byte-spec : {M : Type 1} → statement M
 fill-byte-spec =
-    tie.close (tie.spec (λ c. search needs) fill-digit-requires (λ c. search needs) (λ c. search needs) fill-digit-requires-2 (λ c. search needs) returns)
+    tie.close (tie.spec (λ c. search needs) fill-digit-requires (λ c. search needs) (λ c. search needs) fill-digit-requires-2
+    (λ c. search needs) returns)

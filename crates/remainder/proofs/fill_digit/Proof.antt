@@ -1,6 +1,6 @@
 -- `fill_digit` meets its contract. Assumes nothing.
-use mathlib.Core.Path.{_≡_, _∙_}
-use Prim.Native.Nat.{ℕ, _+_, _-_, _*_, _^_, _≤_, _<_}
+use mathlib.Core.Path.{_≡_}
+use Prim.Native.Nat.{_-_, _≤_}
 use native.Mathlib.Omega.{arith}
 use borrow.Author.Needs.{needs}
 use Rattle.remainder.specs.Words.{Filling}
@@ -30,9 +30,6 @@ loop-again c =
     let extend = c .before .before .before .extend in
     (filling-next _ _ _ (start .pre .1) _ _ _ _ _ (loop .inv .0) (omega arith) (rw (bit-of (loop .b) (omega arith) .0) at (extend .ensures)) (c .doubled .ensures), omega arith)
 
-same-length : tie.Need-same-length Inv-loop μ-loop
-same-length c = c .before .loop .inv .0 .size
-
 returns : tie.Need-returns Inv-loop μ-loop
 returns c =
     let loop = c .before .loop in
@@ -41,6 +38,5 @@ returns c =
 
 pub fill-digit-spec : {M : Type 1} → statement M
 fill-digit-spec =
-    tie.close
-    (tie.spec Inv-loop μ-loop loop-holds (λ c. search needs) (λ c. search needs) extend-requires (λ c κs. search needs) (λ c. search needs) (λ c. search needs) loop-again
-    same-length returns)
+    tie.close (tie.spec Inv-loop μ-loop loop-holds (λ c. search needs) (λ c. search needs) extend-requires (λ c κs. search needs)
+    (λ c. search needs) (λ c. search needs) loop-again (λ c. c .before .loop .inv .0 .size) returns)

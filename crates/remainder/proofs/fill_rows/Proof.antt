@@ -37,4 +37,6 @@ returns : tie.Need-returns Inv-loop μ-loop
 returns c = let loop = c .before .loop in filled-end _ _ _ _ (loop .inv .0) (loop .inv .1) (omega arith)
 
 pub fill-rows-spec : {M : Type 1} → statement M
-fill-rows-spec = tie.close (tie.spec Inv-loop μ-loop loop-holds fill-byte-requires shifted-requires (λ c. search needs) (λ c. search needs) loop-again same-length returns)
+fill-rows-spec =
+    tie.close (tie.spec Inv-loop μ-loop loop-holds fill-byte-requires shifted-requires (λ c. search needs) (λ c. search needs)
+    loop-again same-length returns)

@@ -1,9 +1,8 @@
 -- `front` meets its contract. Assumes nothing.
-use mathlib.Core.Path.{_≡_, refl, sym, ap, _∙_}
-use Prim.Native.Nat.{ℕ, _-_, _+_, _*_, _^_, _≤_, _<_}
+use mathlib.Core.Path.{_≡_}
+use Prim.Native.Nat.{_-_, _≤_}
 use native.Mathlib.Omega.{arith}
 use borrow.Author.Needs.{needs}
-use Rattle.reed_solomon.specs.Block.{evalFrom}
 use Rattle.remainder.specs.Words.{Front}
 use Rattle.remainder.proofs.Steps.{front-none, front-next, front-small}
 use Rattle.remainder.proofs.front.Statement.{statement}
@@ -36,4 +35,6 @@ returns c =
     rw e at (loop .inv .1)
 
 pub front-spec : {M : Type 1} → statement M
-front-spec = tie.close (tie.spec Inv-loop μ-loop loop-holds mul-v (λ c. search needs) (λ c κs. search needs) add-v (λ c. search needs) (λ c. search needs) loop-again returns)
+front-spec =
+    tie.close (tie.spec Inv-loop μ-loop loop-holds mul-v (λ c. search needs) (λ c κs. search needs) add-v (λ c. search needs)
+    (λ c. search needs) loop-again returns)

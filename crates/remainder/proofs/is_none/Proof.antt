@@ -6,17 +6,9 @@ use Rattle.remainder.proofs.Places.{register-eq}
 use Rattle.remainder.proofs.is_none.Statement.{statement}
 use Rattle.remainder.proofs.is_none.Tie as tie
 
-returns : tie.Need-returns
-returns c = λ e. absurd (false≢true e)
-
-returns-2 : tie.Need-returns-2
-returns-2 c = λ e. absurd (false≢true e)
-
-returns-3 : tie.Need-returns-3
-returns-3 c = λ e. absurd (false≢true e)
-
 returns-4 : tie.Need-returns-4
 returns-4 c = λ e. register-eq (omega arith) (omega arith) (omega arith) (eqb-true _ _ e)
 
 pub is-none-spec : {M : Type 1} → statement M
-is-none-spec = tie.close (tie.spec returns returns-2 returns-3 returns-4)
+is-none-spec =
+    tie.close (tie.spec (λ c. λ e. absurd (false≢true e)) (λ c. λ e. absurd (false≢true e)) (λ c. λ e. absurd (false≢true e)) returns-4)

@@ -1,6 +1,6 @@
 -- `lower` meets its contract. Assumes nothing.
-use mathlib.Core.Path.{_≡_, ap, _∙_}
-use Prim.Native.Nat.{ℕ, _+_, _-_, _*_, _≤_}
+use mathlib.Core.Path.{ap, _∙_}
+use Prim.Native.Nat.{_+_, _-_, _*_, _≤_}
 use native.Mathlib.Omega.{arith}
 use native.Mathlib.Nat.{mul-le-mul}
 use borrow.Author.Needs.{needs}
@@ -22,9 +22,6 @@ abbrev μ-loop : tie.MeasureT-loop
 loop-holds : tie.Need-loop-holds Inv-loop μ-loop
 loop-holds c = (each-start _ _, omega arith)
 
-slice-read-raised : tie.Need-slice-read-raised Inv-loop μ-loop
-slice-read-raised c = omega (arith, c .before .before .loop .inv .0 .size)
-
 mul-raised : tie.Need-mul-raised Inv-loop μ-loop
 mul-raised c =
     let start = c .before .before .before .before in
@@ -32,9 +29,6 @@ mul-raised c =
     let few : start .args .n ≤ 255 = start .pre .1 .2 in
     let low : start .args .first + j ≤ 511 = omega arith in
     record { fits = omega (arith, mul-le-mul few low) }
-
-slice-write-s : tie.Need-slice-write-s Inv-loop μ-loop
-slice-write-s c = omega (arith, c .before .before .before .loop .inv .0 .size)
 
 loop-again : tie.Need-loop-again Inv-loop μ-loop
 loop-again c =
@@ -45,14 +39,11 @@ loop-again c =
       omega arith,
     )
 
-same-length : tie.Need-same-length Inv-loop μ-loop
-same-length c = c .before .loop .inv .0 .size
-
 returns : tie.Need-returns Inv-loop μ-loop
 returns c = each-end _ _ _ _ _ (c .before .loop .inv .0) (c .before .loop .inv .1) (omega arith)
 
 pub lower-spec : {M : Type 1} → statement M
 lower-spec =
-    tie.close
-    (tie.spec Inv-loop μ-loop loop-holds slice-read-raised (λ c. search needs) mul-raised (λ c κs. search needs) slice-write-s (λ c. search needs) (λ c. search needs)
-    loop-again same-length returns)
+    tie.close (tie.spec Inv-loop μ-loop loop-holds (λ c. omega (arith, c .before .before .loop .inv .0 .size)) (λ c. search needs)
+    mul-raised (λ c κs. search needs) (λ c. omega (arith, c .before .before .before .loop .inv .0 .size)) (λ c. search needs)
+    (λ c. search needs) loop-again (λ c. c .before .loop .inv .0 .size) returns)

@@ -8,4 +8,5 @@ returns : tie.Need-returns
 returns c = register-eq (c .before .before .before .half-up .ensures) (c .before .before .half-up2 .ensures) (c .before .half-up3 .ensures) (c .half-up4 .ensures)
 
 pub moved-half-spec : {M : Type 1} → statement M
-moved-half-spec = tie.close (tie.spec (λ c κs. search needs) (λ c κs. search needs) (λ c κs. search needs) (λ c κs. search needs) returns)
+moved-half-spec =
+    tie.close (tie.spec (λ c κs. search needs) (λ c κs. search needs) (λ c κs. search needs) (λ c κs. search needs) returns)

@@ -39,4 +39,6 @@ returns c =
     λ parity Q. leaves _ _ _ _ _ (Q .rows) (start .pre .1) (λ j. omega (arith, known .given j)) (rw e at (loop .inv .2))
 
 pub remainder-spec : {M : Type 1} → statement M
-remainder-spec = tie.close (tie.spec Inv-loop μ-loop (λ c κs. search needs) step-requires loop-holds (λ c κs. search needs) step-requires-2 (λ c. search needs) (λ c. search needs) loop-again returns)
+remainder-spec =
+    tie.close (tie.spec Inv-loop μ-loop (λ c κs. search needs) step-requires loop-holds (λ c κs. search needs) step-requires-2
+    (λ c. search needs) (λ c. search needs) loop-again returns)

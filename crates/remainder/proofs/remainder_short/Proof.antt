@@ -16,14 +16,8 @@ Inv-loop block k parity t r₀ i₀ r i = (i ≤ k) × Left (λ x. ByteRows 0x16
 abbrev μ-loop : tie.MeasureT-loop
 μ-loop block k parity t r₀ i₀ r i = k - i
 
-fill-byte-requires : tie.Need-fill-byte-requires Inv-loop μ-loop
-fill-byte-requires c κs = (omega arith, omega arith, refl, refl)
-
 loop-holds : tie.Need-loop-holds Inv-loop μ-loop
 loop-holds c = (omega arith, left-none _ _)
-
-slice-aggregate-shifted : tie.Need-slice-aggregate-shifted Inv-loop μ-loop
-slice-aggregate-shifted c = sym (c .before .before .before .before .fill-byte .ensures .size)
 
 shifted-requires : tie.Need-shifted-requires Inv-loop μ-loop
 shifted-requires c κs = (omega (arith, c .before .before .before .before .before .before .fill-byte .ensures .size), c .wide .ensures .1)
@@ -44,6 +38,6 @@ returns c =
 
 pub remainder-short-spec : {M : Type 1} → statement M
 remainder-short-spec =
-    tie.close
-    (tie.spec Inv-loop μ-loop (λ c. search needs) (λ c κs. search needs) fill-byte-requires loop-holds slice-aggregate-shifted (λ c. search needs) (λ c κs. search needs) shifted-requires
-    (λ c. search needs) (λ c. search needs) loop-again returns)
+    tie.close (tie.spec Inv-loop μ-loop (λ c. search needs) (λ c κs. search needs) (λ c κs. (omega arith, omega arith, refl, refl))
+    loop-holds (λ c. sym (c .before .before .before .before .fill-byte .ensures .size)) (λ c. search needs) (λ c κs. search needs)
+    shifted-requires (λ c. search needs) (λ c. search needs) loop-again returns)

@@ -20,4 +20,6 @@ returns c =
     λ block R. syndromes-left _ (the-field _ (start .pre .0)) _ _ _ block _ _ _ _ R (kept .ensures) (bytes .ensures .0) (bytes .ensures .1) (syndromes .ensures) (c .before .before .lower .ensures)
 
 pub syndromes-spec : {M : Type 1} → statement M
-syndromes-spec = tie.close (tie.spec (λ c κs. search needs) (λ c κs. search needs) (λ c. search needs) slice-aggregate-syndromes (λ c κs. search needs) (λ c. search needs) (λ c κs. search needs) (λ c. search needs) returns)
+syndromes-spec =
+    tie.close (tie.spec (λ c κs. search needs) (λ c κs. search needs) (λ c. search needs) slice-aggregate-syndromes
+    (λ c κs. search needs) (λ c. search needs) (λ c κs. search needs) (λ c. search needs) returns)

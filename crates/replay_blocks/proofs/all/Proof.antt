@@ -13,25 +13,7 @@ Inv-loop list₀ at₀ list at = (at ≤ length list₀) × (length list ≡ len
 abbrev μ-loop : tie.MeasureT-loop
 μ-loop list₀ at₀ list at = length list₀ - at
 
-loop-holds : tie.Need-loop-holds Inv-loop μ-loop
-loop-holds c = (omega arith, refl)
-
-next-requires : tie.Need-next-requires Inv-loop μ-loop
-next-requires c κs = search needs
-
-loop-less : tie.Need-loop-less Inv-loop μ-loop
-loop-less c = search needs
-
-loop-again : tie.Need-loop-again Inv-loop μ-loop
-loop-again c = search needs
-
-same-length : tie.Need-same-length Inv-loop μ-loop
-same-length c = search needs
-
-returns : tie.Need-returns Inv-loop μ-loop
-returns c = search needs
-
 pub all-spec : {M : Type 1} → statement M
 all-spec =
-    tie.close
-    (tie.spec Inv-loop μ-loop loop-holds next-requires loop-less loop-again same-length returns)
+    tie.close (tie.spec Inv-loop μ-loop (λ c. (omega arith, refl)) (λ c κs. search needs) (λ c. search needs) (λ c. search needs)
+    (λ c. search needs) (λ c. search needs))

@@ -14,24 +14,6 @@ Inv-loop mode run by first₀ words₀ j₀ first words j = (j ≤ length run) �
 abbrev μ-loop : tie.MeasureT-loop
 μ-loop mode run by first₀ words₀ j₀ first words j = length run - j
 
-step-requires : tie.Need-step-requires Inv-loop μ-loop
-step-requires c κs = search needs
-
-loop-holds : tie.Need-loop-holds Inv-loop μ-loop
-loop-holds c = (omega arith, omega arith, refl, omega arith)
-
-glyph-at-requires : tie.Need-glyph-at-requires Inv-loop μ-loop
-glyph-at-requires c κs = omega arith
-
-enum-told : tie.Need-enum-told Inv-loop μ-loop
-enum-told c = c .match .keys1
-
-add-words : tie.Need-add-words Inv-loop μ-loop
-add-words c = omega arith
-
-add-j : tie.Need-add-j Inv-loop μ-loop
-add-j c = omega arith
-
 loop-less : tie.Need-loop-less Inv-loop μ-loop
 loop-less c =
     let g = c .before .before in
@@ -49,15 +31,6 @@ loop-again c =
     let a = g .before .before .before .before .before .args in
     let t = run-same (a .run .now) (a .mode) (l .first) (l .j) (c .enum-told .given .0 .0) (s .result) (g .glyph-at .result) (g .glyph-at .ensures) (s .ensures .0) (s .ensures .1) (c .enum-told .given .1) in
     (t .0, omega arith, l .inv .2 ∙ t .1, omega (arith, t .2, l .inv .3))
-
-enum-told-2 : tie.Need-enum-told-2 Inv-loop μ-loop
-enum-told-2 c = c .match .keys2
-
-add-words-2 : tie.Need-add-words-2 Inv-loop μ-loop
-add-words-2 c = omega arith
-
-add-j-2 : tie.Need-add-j-2 Inv-loop μ-loop
-add-j-2 c = omega arith
 
 loop-less-2 : tie.Need-loop-less-2 Inv-loop μ-loop
 loop-less-2 c =
@@ -77,9 +50,6 @@ loop-again-2 c =
     let t = run-other (a .run .now) (a .mode) (l .first) (l .j) (c .enum-told2 .given .0 .0) (s .result) (g .glyph-at .result) (g .glyph-at .ensures) (s .ensures .0) (s .ensures .1) (c .enum-told2 .given .1) in
     (t .0, omega arith, l .inv .2 ∙ t .1, omega (arith, t .2, l .inv .3))
 
-enum-told-3 : tie.Need-enum-told-3 Inv-loop μ-loop
-enum-told-3 c = c .match .keys3
-
 returns : tie.Need-returns Inv-loop μ-loop
 returns c =
     let g = c .before .before in
@@ -87,12 +57,6 @@ returns c =
     let s = g .before .before .before .step in
     let a = g .before .before .before .before .before .args in
     (cost-lacks (a .run .now) (a .mode) (l .inv .2 ∙ run-lacks (a .run .now) (a .mode) (l .first) (l .j) 0 (s .result) (g .glyph-at .result) (g .glyph-at .ensures) (s .ensures .0) (s .ensures .1) (c .enum-told3 .given .1)), tt)
-
-width-requires : tie.Need-width-requires Inv-loop μ-loop
-width-requires c κs = search needs
-
-add-t11 : tie.Need-add-t11 Inv-loop μ-loop
-add-t11 c = omega arith
 
 mul-t12 : tie.Need-mul-t12 Inv-loop μ-loop
 mul-t12 c =
@@ -117,27 +81,7 @@ returns-2 c =
 
 pub char-bits-spec : {M : Type 1} → statement M
 char-bits-spec =
-    tie.close
-    (tie.spec
-    Inv-loop
-    μ-loop
-    step-requires
-    loop-holds
-    glyph-at-requires
-    enum-told
-    add-words
-    add-j
-    loop-less
-    loop-again
-    enum-told-2
-    add-words-2
-    add-j-2
-    loop-less-2
-    loop-again-2
-    enum-told-3
-    returns
-    width-requires
-    add-t11
-    mul-t12
-    add-t13
-    returns-2)
+    tie.close (tie.spec Inv-loop μ-loop (λ c κs. search needs) (λ c. (omega arith, omega arith, refl, omega arith))
+    (λ c κs. omega arith) (λ c. c .match .keys1) (λ c. omega arith) (λ c. omega arith) loop-less loop-again (λ c. c .match .keys2)
+    (λ c. omega arith) (λ c. omega arith) loop-less-2 loop-again-2 (λ c. c .match .keys3) returns (λ c κs. search needs)
+    (λ c. omega arith) mul-t12 add-t13 returns-2)

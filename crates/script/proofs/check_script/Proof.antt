@@ -25,15 +25,6 @@ loop-holds c =
     let a = c .before .before .args in
     (omega arith, omega arith, omega arith, (length (a .script .now) + 1, omega arith, settle-start (commandsOf (a .script .now) (a .payload .now)) (a .payload .now)))
 
-command-at-requires : tie.Need-command-at-requires Inv-loop μ-loop
-command-at-requires c κs = omega arith
-
-enum-known-next : tie.Need-enum-known-next Inv-loop μ-loop
-enum-known-next c = c .match .keys1
-
-sub-if1 : tie.Need-sub-if1 Inv-loop μ-loop
-sub-if1 c = omega arith
-
 returns : tie.Need-returns Inv-loop μ-loop
 returns c =
     let k = c .before in
@@ -42,18 +33,6 @@ returns c =
     let a = g .before .before .before .before .before .args in
     let v = k .before .next .given in
     sym (l .inv .3 .2 ∙ settle-short (a .script .now) (a .payload .now) (l .i) (l .j) (omega arith) (l .lacks) (l .total) (g .command-at .result) (g .command-at .ensures) (v .0 .0) (v .0 .1 .0) (v .1) (l .inv .3 .0) (omega arith) (c .if1 .taken))
-
-add-end : tie.Need-add-end Inv-loop μ-loop
-add-end c = omega arith
-
-sub-run-bits : tie.Need-sub-run-bits Inv-loop μ-loop
-sub-run-bits c = omega arith
-
-part-run-bits-start : tie.Need-part-run-bits-start Inv-loop μ-loop
-part-run-bits-start c = omega arith
-
-part-run-bits-end : tie.Need-part-run-bits-end Inv-loop μ-loop
-part-run-bits-end c = omega arith
 
 -- what the command has
 bounds : (c : tie.After-known-told Inv-loop μ-loop)
@@ -77,23 +56,11 @@ run-bits-requires c κs =
     let k : n ≤ length (drop (l .j) (a .payload .now)) = rw length-drop (omega arith) in
     rw (z, length-take-le n (drop (l .j) (a .payload .now)) k) (b .0, b .1, b .2)
 
-enum-known-cost : tie.Need-enum-known-cost Inv-loop μ-loop
-enum-known-cost c = c .match2 .keys1
-
 plus-requires : tie.Need-plus-requires Inv-loop μ-loop
 plus-requires c κs =
     let q = c .before .before .before in
     let t = limited (q .run-bits .result) (c .before .cost .given .0 .0) (q .run-bits .ensures .1) (c .before .cost .given .1) in
     (omega arith, omega arith)
-
-command-size-requires : tie.Need-command-size-requires Inv-loop μ-loop
-command-size-requires c κs = search needs
-
-add-i : tie.Need-add-i Inv-loop μ-loop
-add-i c = omega arith
-
-loop-less : tie.Need-loop-less Inv-loop μ-loop
-loop-less c = omega arith
 
 loop-again : tie.Need-loop-again Inv-loop μ-loop
 loop-again c =
@@ -122,18 +89,6 @@ loop-again c =
       ),
     )
 
-enum-told : tie.Need-enum-told Inv-loop μ-loop
-enum-told c = c .match2 .keys2
-
-command-size-requires-2 : tie.Need-command-size-requires-2 Inv-loop μ-loop
-command-size-requires-2 c κs = search needs
-
-add-i-2 : tie.Need-add-i-2 Inv-loop μ-loop
-add-i-2 c = omega arith
-
-loop-less-2 : tie.Need-loop-less-2 Inv-loop μ-loop
-loop-less-2 c = omega arith
-
 loop-again-2 : tie.Need-loop-again-2 Inv-loop μ-loop
 loop-again-2 c =
     let q = c .before .before .before in
@@ -158,18 +113,6 @@ loop-again-2 c =
       ),
     )
 
-enum-known-next-2 : tie.Need-enum-known-next-2 Inv-loop μ-loop
-enum-known-next-2 c = c .match .keys2
-
-eci-bits-requires : tie.Need-eci-bits-requires Inv-loop μ-loop
-eci-bits-requires c κs = search needs
-
-plus-requires-2 : tie.Need-plus-requires-2 Inv-loop μ-loop
-plus-requires-2 c κs = omega arith
-
-add-i-3 : tie.Need-add-i-3 Inv-loop μ-loop
-add-i-3 c = omega arith
-
 eci-room : (c : tie.After-known-told3 Inv-loop μ-loop) → c .before .before .before .before .before .loop .i + 4 ≤ length (c .before .before .before .before .before .before .before .before .args .script .now)
 eci-room c =
     let g = c .before .before .before in
@@ -178,9 +121,6 @@ eci-room c =
     let a = b .before .args in
     let v = c .before .next2 .given in
     eci-bounds (a .script .now) (l .i) (λ i. omega (arith, b .shared-slice-known .given i)) (omega arith) (g .command-at .result) (g .command-at .ensures) (v .0 .0) (v .1)
-
-loop-less-3 : tie.Need-loop-less-3 Inv-loop μ-loop
-loop-less-3 c = omega arith
 
 loop-again-3 : tie.Need-loop-again-3 Inv-loop μ-loop
 loop-again-3 c =
@@ -200,9 +140,6 @@ loop-again-3 c =
         l .inv .3 .2 ∙ settle-eci (a .script .now) (a .payload .now) (l .i) (l .j) (omega arith) (l .lacks) (l .total) (g .command-at .result) (g .command-at .ensures) (l .inv .3 .0) (omega arith) (v .0 .0) (p .result) (v .1) (p .ensures .0 ∙ rw (c .before .eci-bits .ensures .0)),
       ),
     )
-
-enum-told-2 : tie.Need-enum-told-2 Inv-loop μ-loop
-enum-told-2 c = c .match .keys3
 
 returns-2 : tie.Need-returns-2 Inv-loop μ-loop
 returns-2 c =
@@ -243,40 +180,8 @@ returns-6 c =
 
 pub check-script-spec : {M : Type 1} → statement M
 check-script-spec =
-    tie.close
-    (tie.spec
-    Inv-loop
-    μ-loop
-    loop-holds
-    command-at-requires
-    enum-known-next
-    sub-if1
-    returns
-    add-end
-    sub-run-bits
-    part-run-bits-start
-    part-run-bits-end
-    run-bits-requires
-    enum-known-cost
-    plus-requires
-    command-size-requires
-    add-i
-    loop-less
-    loop-again
-    enum-told
-    command-size-requires-2
-    add-i-2
-    loop-less-2
-    loop-again-2
-    enum-known-next-2
-    eci-bits-requires
-    plus-requires-2
-    add-i-3
-    loop-less-3
-    loop-again-3
-    enum-told-2
-    returns-2
-    returns-3
-    returns-4
-    returns-5
-    returns-6)
+    tie.close (tie.spec Inv-loop μ-loop loop-holds (λ c κs. omega arith) (λ c. c .match .keys1) (λ c. omega arith) returns
+    (λ c. omega arith) (λ c. omega arith) (λ c. omega arith) (λ c. omega arith) run-bits-requires (λ c. c .match2 .keys1) plus-requires
+    (λ c κs. search needs) (λ c. omega arith) (λ c. omega arith) loop-again (λ c. c .match2 .keys2) (λ c κs. search needs)
+    (λ c. omega arith) (λ c. omega arith) loop-again-2 (λ c. c .match .keys2) (λ c κs. search needs) (λ c κs. omega arith)
+    (λ c. omega arith) (λ c. omega arith) loop-again-3 (λ c. c .match .keys3) returns-2 returns-3 returns-4 returns-5 returns-6)

@@ -18,15 +18,9 @@ returns-2 : tie.Need-returns-2
 unfolding codeOf
 returns-2 c = simp (lt-ltb _ _ (c .if3 .taken), c .before .before .if1 .taken)
 
-sub-result : tie.Need-sub-result
-sub-result c = search needs
-
 returns-3 : tie.Need-returns-3
 unfolding codeOf
 returns-3 c = simp (lt-ltb _ _ (c .if4 .taken), le-ltb _ _ (c .before .if3 .left), c .before .before .before .if1 .taken)
-
-sub-result-2 : tie.Need-sub-result-2
-sub-result-2 c = search needs
 
 returns-4 : tie.Need-returns-4
 unfolding codeOf
@@ -36,31 +30,19 @@ returns-5 : tie.Need-returns-5
 unfolding codeOf
 returns-5 c = simp (lt-ltb _ _ (c .if5 .taken), c .before .if1 .left)
 
-sub-result-3 : tie.Need-sub-result-3
-sub-result-3 c = search needs
-
 returns-6 : tie.Need-returns-6
 unfolding codeOf
 returns-6 c = simp (lt-ltb _ _ (c .if6 .taken), le-ltb _ _ (c .before .if5 .left), c .before .before .if1 .left)
 
-sub-result-4 : tie.Need-sub-result-4
-sub-result-4 c = search needs
-
 returns-7 : tie.Need-returns-7
 unfolding codeOf
 returns-7 c = simp (lt-ltb _ _ (c .if7 .taken), le-ltb _ _ (c .before .if6 .left), le-ltb _ _ (c .before .before .if5 .left), c .before .before .before .if1 .left)
-
-sub-result-5 : tie.Need-sub-result-5
-sub-result-5 c = search needs
 
 returns-8 : tie.Need-returns-8
 unfolding codeOf
 returns-8 c =
     let if1 = c .before .before .before .before .if1 in
     simp (lt-ltb _ _ (c .if8 .taken), le-ltb _ _ (c .before .if7 .left), le-ltb _ _ (c .before .before .if6 .left), le-ltb _ _ (c .before .before .before .if5 .left), if1 .left)
-
-sub-result-6 : tie.Need-sub-result-6
-sub-result-6 c = search needs
 
 returns-9 : tie.Need-returns-9
 unfolding codeOf
@@ -70,20 +52,5 @@ returns-9 c =
 
 pub code-spec : {M : Type 1} → statement M
 code-spec =
-    tie.close
-    (tie.spec
-    returns
-    returns-2
-    sub-result
-    returns-3
-    sub-result-2
-    returns-4
-    returns-5
-    sub-result-3
-    returns-6
-    sub-result-4
-    returns-7
-    sub-result-5
-    returns-8
-    sub-result-6
-    returns-9)
+    tie.close (tie.spec returns returns-2 (λ c. search needs) returns-3 (λ c. search needs) returns-4 returns-5 (λ c. search needs)
+    returns-6 (λ c. search needs) returns-7 (λ c. search needs) returns-8 (λ c. search needs) returns-9)

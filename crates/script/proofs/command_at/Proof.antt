@@ -4,20 +4,11 @@ use borrow.Author.Needs.{needs}
 use Rattle.script.proofs.command_at.Statement.{statement}
 use Rattle.script.proofs.command_at.Tie as tie
 
-shared-slice-read-wide : tie.Need-shared-slice-read-wide
-shared-slice-read-wide c = search needs
-
-wide-requires : tie.Need-wide-requires
-wide-requires c κs = search needs
-
 returns : tie.Need-returns
 returns c =
     let w = c .before in
     let a = w .before .before .before .args in
     command-four (a .script .now) (a .i) (w .wide .result) (w .wide .ensures .0) (c .if1 .taken)
-
-eci-at-requires : tie.Need-eci-at-requires
-eci-at-requires c κs = search needs
 
 returns-2 : tie.Need-returns-2
 returns-2 c =
@@ -37,9 +28,6 @@ returns-4 c =
     let a = w .before .before .before .args in
     command-large (a .script .now) (a .i) (w .wide .result) (w .wide .ensures .0) (c .before .before .before .if1 .left) (c .before .before .if2 .left) (c .before .if3 .left) (c .if4 .taken)
 
-run-at-requires : tie.Need-run-at-requires
-run-at-requires c κs = search needs
-
 returns-5 : tie.Need-returns-5
 returns-5 c =
     let before = c .before .before .before .before .before in
@@ -50,14 +38,5 @@ returns-5 c =
 
 pub command-at-spec : {M : Type 1} → statement M
 command-at-spec =
-    tie.close
-    (tie.spec
-    shared-slice-read-wide
-    wide-requires
-    returns
-    eci-at-requires
-    returns-2
-    returns-3
-    returns-4
-    run-at-requires
-    returns-5)
+    tie.close (tie.spec (λ c. search needs) (λ c κs. search needs) returns (λ c κs. search needs) returns-2 returns-3 returns-4
+    (λ c κs. search needs) returns-5)

@@ -4,12 +4,6 @@ use borrow.Author.Needs.{needs}
 use Rattle.script.proofs.double_glyph.Statement.{statement}
 use Rattle.script.proofs.double_glyph.Tie as tie
 
-in-double-requires : tie.Need-in-double-requires
-in-double-requires c κs = search needs
-
-double-code-requires : tie.Need-double-code-requires
-double-code-requires c κs = search needs
-
 returns : tie.Need-returns
 unfolding doubleGlyph
 returns c = rw (sym (c .before .before .in-double .ensures) ∙ c .before .if1 .taken, c .double-code .ensures)
@@ -19,4 +13,4 @@ unfolding doubleGlyph
 returns-2 c = rw (sym (c .before .in-double .ensures) ∙ c .if1 .left)
 
 pub double-glyph-spec : {M : Type 1} → statement M
-double-glyph-spec = tie.close (tie.spec in-double-requires double-code-requires returns returns-2)
+double-glyph-spec = tie.close (tie.spec (λ c κs. search needs) (λ c κs. search needs) returns returns-2)

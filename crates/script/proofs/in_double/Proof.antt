@@ -6,15 +6,6 @@ use borrow.Author.Needs.{needs}
 use Rattle.script.proofs.in_double.Statement.{statement}
 use Rattle.script.proofs.in_double.Tie as tie
 
-double-code-requires : tie.Need-double-code-requires
-double-code-requires c κs = search needs
-
-first-byte-requires : tie.Need-first-byte-requires
-first-byte-requires c κs = search needs
-
-second-byte-requires : tie.Need-second-byte-requires
-second-byte-requires c κs = search needs
-
 returns : tie.Need-returns
 unfolding inDouble
 returns c =
@@ -45,12 +36,4 @@ returns-3 c =
     rw (le-ltb (doubleCode (a .a) (a .b)) 23940 l)
 
 pub in-double-spec : {M : Type 1} → statement M
-in-double-spec =
-    tie.close
-    (tie.spec
-    double-code-requires
-    first-byte-requires
-    second-byte-requires
-    returns
-    returns-2
-    returns-3)
+in-double-spec = tie.close (tie.spec (λ c κs. search needs) (λ c κs. search needs) (λ c κs. search needs) returns returns-2 returns-3)

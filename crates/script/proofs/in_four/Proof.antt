@@ -6,9 +6,6 @@ use borrow.Author.Needs.{needs}
 use Rattle.script.proofs.in_four.Statement.{statement}
 use Rattle.script.proofs.in_four.Tie as tie
 
-four-code-requires : tie.Need-four-code-requires
-four-code-requires c κs = search needs
-
 returns : tie.Need-returns
 unfolding inFour
 returns c =
@@ -23,15 +20,6 @@ returns-2 c =
     let e = c .before .before .four-code .ensures in
     rw (lt-ltb (fourCode (a .run .now)) 1587600 (rw e at (c .before .if1 .left)), four-other (fourCode (a .run .now)) (a .run .now) (c .if2 .taken))
 
-add-if3 : tie.Need-add-if3
-add-if3 c = search needs
-
-shared-slice-read-wide : tie.Need-shared-slice-read-wide
-shared-slice-read-wide c = search needs
-
-wide-requires : tie.Need-wide-requires
-wide-requires c κs = search needs
-
 returns-3 : tie.Need-returns-3
 returns-3 c =
     let wide = c .before .wide in
@@ -39,15 +27,6 @@ returns-3 c =
     let k = i .before .before in
     let s = k .before .before .args .run .now in
     four-first s (k .four-code .result) (wide .result) 0 0 0 (k .four-code .ensures) (i .before .if1 .left) (i .if2 .left) (wide .ensures .0) (c .if3 .taken)
-
-add-if4 : tie.Need-add-if4
-add-if4 c = search needs
-
-shared-slice-read-wide-2 : tie.Need-shared-slice-read-wide-2
-shared-slice-read-wide-2 c = search needs
-
-wide-requires-2 : tie.Need-wide-requires-2
-wide-requires-2 c κs = search needs
 
 returns-4 : tie.Need-returns-4
 returns-4 c =
@@ -58,15 +37,6 @@ returns-4 c =
     let s = k .before .before .args .run .now in
     four-second s (k .four-code .result) (d .before .wide .result) (wide2 .result) 0 0 (k .four-code .ensures) (i .before .if1 .left) (i .if2 .left) (d .before .wide .ensures .0) (d .if3 .left) (wide2 .ensures .0) (c .if4 .taken)
 
-add-if5 : tie.Need-add-if5
-add-if5 c = search needs
-
-shared-slice-read-wide-3 : tie.Need-shared-slice-read-wide-3
-shared-slice-read-wide-3 c = search needs
-
-wide-requires-3 : tie.Need-wide-requires-3
-wide-requires-3 c κs = search needs
-
 returns-5 : tie.Need-returns-5
 returns-5 c =
     let wide3 = c .before .wide3 in
@@ -76,15 +46,6 @@ returns-5 c =
     let k = i .before .before in
     let s = k .before .before .args .run .now in
     four-third s (k .four-code .result) (d .before .wide .result) (f .before .wide2 .result) (wide3 .result) 0 (k .four-code .ensures) (i .before .if1 .left) (i .if2 .left) (d .before .wide .ensures .0) (d .if3 .left) (f .before .wide2 .ensures .0) (f .if4 .left) (wide3 .ensures .0) (c .if5 .taken)
-
-add-result : tie.Need-add-result
-add-result c = search needs
-
-shared-slice-read-wide-4 : tie.Need-shared-slice-read-wide-4
-shared-slice-read-wide-4 c = search needs
-
-wide-requires-4 : tie.Need-wide-requires-4
-wide-requires-4 c κs = search needs
 
 returns-6 : tie.Need-returns-6
 returns-6 c =
@@ -98,24 +59,6 @@ returns-6 c =
 
 pub in-four-spec : {M : Type 1} → statement M
 in-four-spec =
-    tie.close
-    (tie.spec
-    four-code-requires
-    returns
-    returns-2
-    add-if3
-    shared-slice-read-wide
-    wide-requires
-    returns-3
-    add-if4
-    shared-slice-read-wide-2
-    wide-requires-2
-    returns-4
-    add-if5
-    shared-slice-read-wide-3
-    wide-requires-3
-    returns-5
-    add-result
-    shared-slice-read-wide-4
-    wide-requires-4
-    returns-6)
+    tie.close (tie.spec (λ c κs. search needs) returns returns-2 (λ c. search needs) (λ c. search needs) (λ c κs. search needs)
+    returns-3 (λ c. search needs) (λ c. search needs) (λ c κs. search needs) returns-4 (λ c. search needs) (λ c. search needs)
+    (λ c κs. search needs) returns-5 (λ c. search needs) (λ c. search needs) (λ c κs. search needs) returns-6)

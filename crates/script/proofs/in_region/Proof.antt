@@ -6,18 +6,6 @@ use borrow.Author.Needs.{needs}
 use Rattle.script.proofs.in_region.Statement.{statement}
 use Rattle.script.proofs.in_region.Tie as tie
 
-pair-code-requires : tie.Need-pair-code-requires
-pair-code-requires c κs = search needs
-
-region-size-requires : tie.Need-region-size-requires
-region-size-requires c κs = search needs
-
-high-requires : tie.Need-high-requires
-high-requires c κs = search needs
-
-low-requires : tie.Need-low-requires
-low-requires c κs = search needs
-
 returns : tie.Need-returns
 unfolding inRegion
 returns c =
@@ -49,12 +37,5 @@ returns-3 c =
 
 pub in-region-spec : {M : Type 1} → statement M
 in-region-spec =
-    tie.close
-    (tie.spec
-    pair-code-requires
-    region-size-requires
-    high-requires
-    low-requires
-    returns
-    returns-2
+    tie.close (tie.spec (λ c κs. search needs) (λ c κs. search needs) (λ c κs. search needs) (λ c κs. search needs) returns returns-2
     returns-3)

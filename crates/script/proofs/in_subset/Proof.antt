@@ -4,12 +4,6 @@ use borrow.Author.Needs.{needs}
 use Rattle.script.proofs.in_subset.Statement.{statement}
 use Rattle.script.proofs.in_subset.Tie as tie
 
-code-requires : tie.Need-code-requires
-code-requires c κs = search needs
-
-text-char-requires : tie.Need-text-char-requires
-text-char-requires c κs = search needs
-
 returns : tie.Need-returns
 unfolding inSubset
 returns c =
@@ -27,4 +21,4 @@ returns-2 c =
     rw (le-ltb (codeOf (a .first) (a .b)) 62 (rw e at (c .if1 .left)))
 
 pub in-subset-spec : {M : Type 1} → statement M
-in-subset-spec = tie.close (tie.spec code-requires text-char-requires returns returns-2)
+in-subset-spec = tie.close (tie.spec (λ c κs. search needs) (λ c κs. search needs) returns returns-2)

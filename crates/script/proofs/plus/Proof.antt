@@ -5,12 +5,6 @@ use borrow.Author.Needs.{needs}
 use Rattle.script.proofs.plus.Statement.{statement}
 use Rattle.script.proofs.plus.Tie as tie
 
-add-if1 : tie.Need-add-if1
-add-if1 c = search needs
-
-add-result : tie.Need-add-result
-add-result c = search needs
-
 returns : tie.Need-returns
 returns c =
     let a = c .before .args in
@@ -22,4 +16,4 @@ returns-2 c =
     (rw (le-ltb (a .x + a .y) 31089 (c .if1 .left)), omega arith)
 
 pub plus-spec : {M : Type 1} → statement M
-plus-spec = tie.close (tie.spec add-if1 add-result returns returns-2)
+plus-spec = tie.close (tie.spec (λ c. search needs) (λ c. search needs) returns returns-2)

@@ -4,21 +4,9 @@ use borrow.Author.Needs.{needs}
 use Rattle.script.proofs.region_glyph.Statement.{statement}
 use Rattle.script.proofs.region_glyph.Tie as tie
 
-in-region-requires : tie.Need-in-region-requires
-in-region-requires c κs = search needs
-
-pair-code-requires : tie.Need-pair-code-requires
-pair-code-requires c κs = search needs
-
 returns : tie.Need-returns
 unfolding regionGlyph
 returns c = rw (sym (c .before .before .in-region .ensures) ∙ c .before .if1 .taken, c .pair-code .ensures)
-
-in-region-requires-2 : tie.Need-in-region-requires-2
-in-region-requires-2 c κs = search needs
-
-pair-code-requires-2 : tie.Need-pair-code-requires-2
-pair-code-requires-2 c κs = search needs
 
 returns-2 : tie.Need-returns-2
 unfolding regionGlyph
@@ -34,12 +22,5 @@ returns-3 c =
 
 pub region-glyph-spec : {M : Type 1} → statement M
 region-glyph-spec =
-    tie.close
-    (tie.spec
-    in-region-requires
-    pair-code-requires
-    returns
-    in-region-requires-2
-    pair-code-requires-2
-    returns-2
+    tie.close (tie.spec (λ c κs. search needs) (λ c κs. search needs) returns (λ c κs. search needs) (λ c κs. search needs) returns-2
     returns-3)

@@ -5,18 +5,6 @@ use borrow.Author.Needs.{needs}
 use Rattle.script.proofs.run_bits.Statement.{statement}
 use Rattle.script.proofs.run_bits.Tie as tie
 
-all-digits-requires : tie.Need-all-digits-requires
-all-digits-requires c κs = search needs
-
-add-t6 : tie.Need-add-t6
-add-t6 c = search needs
-
-mul-t8 : tie.Need-mul-t8
-mul-t8 c = search needs
-
-add-t9 : tie.Need-add-t9
-add-t9 c = search needs
-
 returns : tie.Need-returns
 returns c =
     let d = c .before in
@@ -29,19 +17,10 @@ returns-2 c =
     let a = d .before .before .before .args in
     (numeric-lacks (a .run .now) (a .mode) (d .before .if1 .taken) (sym (d .all-digits .ensures) ∙ c .if2 .left), tt)
 
-mul-t11 : tie.Need-mul-t11
-mul-t11 c = search needs
-
-add-t12 : tie.Need-add-t12
-add-t12 c = search needs
-
 returns-3 : tie.Need-returns-3
 returns-3 c =
     let a = c .before .before .before .args in
     (bytes-takes (a .run .now) (a .mode) (c .if3 .taken) (λ i. omega (arith, c .before .before .shared-slice-known .given i)), omega arith)
-
-in-four-requires : tie.Need-in-four-requires
-in-four-requires c κs = search needs
 
 returns-4 : tie.Need-returns-4
 returns-4 c =
@@ -55,9 +34,6 @@ returns-5 c =
     let a = d .before .before .before .before .before .args in
     (four-lacks (a .run .now) (a .mode) (d .before .if4 .taken) (sym (d .in-four .ensures) ∙ c .if5 .left), tt)
 
-char-bits-requires : tie.Need-char-bits-requires
-char-bits-requires c κs = search needs
-
 returns-6 : tie.Need-returns-6
 returns-6 c =
     let start = c .before .before .before .before .before in
@@ -66,19 +42,5 @@ returns-6 c =
 
 pub run-bits-spec : {M : Type 1} → statement M
 run-bits-spec =
-    tie.close
-    (tie.spec
-    all-digits-requires
-    add-t6
-    mul-t8
-    add-t9
-    returns
-    returns-2
-    mul-t11
-    add-t12
-    returns-3
-    in-four-requires
-    returns-4
-    returns-5
-    char-bits-requires
-    returns-6)
+    tie.close (tie.spec (λ c κs. search needs) (λ c. search needs) (λ c. search needs) (λ c. search needs) returns returns-2
+    (λ c. search needs) (λ c. search needs) returns-3 (λ c κs. search needs) returns-4 returns-5 (λ c κs. search needs) returns-6)

@@ -4,21 +4,9 @@ use borrow.Author.Needs.{needs}
 use Rattle.script.proofs.text_glyph.Statement.{statement}
 use Rattle.script.proofs.text_glyph.Tie as tie
 
-in-subset-requires : tie.Need-in-subset-requires
-in-subset-requires c κs = search needs
-
-code-requires : tie.Need-code-requires
-code-requires c κs = search needs
-
 returns : tie.Need-returns
 unfolding textGlyph
 returns c = rw (sym (c .before .before .in-subset .ensures) ∙ c .before .if1 .taken, c .code .ensures)
-
-in-subset-requires-2 : tie.Need-in-subset-requires-2
-in-subset-requires-2 c κs = search needs
-
-code-requires-2 : tie.Need-code-requires-2
-code-requires-2 c κs = search needs
 
 returns-2 : tie.Need-returns-2
 unfolding textGlyph
@@ -34,12 +22,5 @@ returns-3 c =
 
 pub text-glyph-spec : {M : Type 1} → statement M
 text-glyph-spec =
-    tie.close
-    (tie.spec
-    in-subset-requires
-    code-requires
-    returns
-    in-subset-requires-2
-    code-requires-2
-    returns-2
+    tie.close (tie.spec (λ c κs. search needs) (λ c κs. search needs) returns (λ c κs. search needs) (λ c κs. search needs) returns-2
     returns-3)

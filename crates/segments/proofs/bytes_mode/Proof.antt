@@ -6,15 +6,6 @@ use borrow.Author.Needs.{needs}
 use Rattle.segments.proofs.bytes_mode.Statement.{statement}
 use Rattle.segments.proofs.bytes_mode.Tie as tie
 
-read-bits-requires : tie.Need-read-bits-requires
-read-bits-requires c κs = search needs
-
-enum-known-got : tie.Need-enum-known-got
-enum-known-got c = search needs
-
-enum-told : tie.Need-enum-told
-enum-told c = search needs
-
 returns : tie.Need-returns
 returns c =
     let b = c .before .before in
@@ -29,14 +20,8 @@ word c =
     let a = b .before .before .before .args in
     word-read 13 (a .from) (a .s .now) (b .read-bits .result) (b .read-bits .ensures) (got .given .0 .0) (omega arith) (omega arith) (got .given .1)
 
-add-bytes-run : tie.Need-add-bytes-run
-add-bytes-run c = search needs
-
 bytes-run-requires : tie.Need-bytes-run-requires
 bytes-run-requires c κs = let m = word (c .before) .room in (omega arith, omega arith, omega arith)
-
-same-length : tie.Need-same-length
-same-length c = search needs
 
 returns-2 : tie.Need-returns-2
 returns-2 c =
@@ -47,13 +32,5 @@ returns-2 c =
 
 pub bytes-mode-spec : {M : Type 1} → statement M
 bytes-mode-spec =
-    tie.close
-    (tie.spec
-    read-bits-requires
-    enum-known-got
-    enum-told
-    returns
-    add-bytes-run
-    bytes-run-requires
-    same-length
-    returns-2)
+    tie.close (tie.spec (λ c κs. search needs) (λ c. search needs) (λ c. search needs) returns (λ c. search needs) bytes-run-requires
+    (λ c. search needs) returns-2)

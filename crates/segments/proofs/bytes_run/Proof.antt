@@ -19,18 +19,6 @@ abbrev μ-loop : tie.MeasureT-loop
 loop-holds : tie.Need-loop-holds Inv-loop μ-loop
 loop-holds c = (refl, omega arith, omega arith, omega arith, omega arith, omega arith, simp sub-zero)
 
-read-bits-requires : tie.Need-read-bits-requires Inv-loop μ-loop
-read-bits-requires c κs = search needs
-
-enum-known-got : tie.Need-enum-known-got Inv-loop μ-loop
-enum-known-got c = c .match .keys1
-
-enum-told : tie.Need-enum-told Inv-loop μ-loop
-enum-told c = c .match .keys2
-
-same-length : tie.Need-same-length Inv-loop μ-loop
-same-length c = c .before .before .before .before .loop .inv .0
-
 returns : tie.Need-returns Inv-loop μ-loop
 returns c =
     let b = c .before .before in
@@ -50,15 +38,6 @@ word c =
 
 put-requires : tie.Need-put-requires Inv-loop μ-loop
 put-requires c κs = word (c .before) .small
-
-add-at : tie.Need-add-at Inv-loop μ-loop
-add-at c = omega arith
-
-add-n : tie.Need-add-n Inv-loop μ-loop
-add-n c = omega arith
-
-add-i : tie.Need-add-i Inv-loop μ-loop
-add-i c = omega arith
 
 loop-less : tie.Need-loop-less Inv-loop μ-loop
 loop-less c = let m = word (c .before .before .before .before) .room in omega arith
@@ -81,9 +60,6 @@ loop-again c =
       l .inv .6 ∙ bytes-run-more (a .s .now) (l .at) (l .n) (l .out) (k .before .got .given .0 .0) (a .k - l .i) r (omega arith) ∙ rw (e, sym (p .ensures)),
     )
 
-same-length-2 : tie.Need-same-length-2 Inv-loop μ-loop
-same-length-2 c = c .before .loop .inv .0
-
 returns-2 : tie.Need-returns-2 Inv-loop μ-loop
 returns-2 c =
     let start = c .before .before .before .before in
@@ -93,21 +69,6 @@ returns-2 c =
 
 pub bytes-run-spec : {M : Type 1} → statement M
 bytes-run-spec =
-    tie.close
-    (tie.spec
-    Inv-loop
-    μ-loop
-    loop-holds
-    read-bits-requires
-    enum-known-got
-    enum-told
-    same-length
-    returns
-    put-requires
-    add-at
-    add-n
-    add-i
-    loop-less
-    loop-again
-    same-length-2
-    returns-2)
+    tie.close (tie.spec Inv-loop μ-loop loop-holds (λ c κs. search needs) (λ c. c .match .keys1) (λ c. c .match .keys2)
+    (λ c. c .before .before .before .before .loop .inv .0) returns put-requires (λ c. omega arith) (λ c. omega arith) (λ c. omega arith)
+    loop-less loop-again (λ c. c .before .loop .inv .0) returns-2)

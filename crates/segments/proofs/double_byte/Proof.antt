@@ -1,6 +1,6 @@
 use borrow.Author.Needs.{needs}
 use mathlib.Core.Path.{_≡_, _∙_, refl, sym, ap, ap₂}
-use mathlib.Core.List.{List, [], _∷_}
+use mathlib.Core.List.{List, _∷_}
 use native.Mathlib.Omega.{arith}
 use Prim.Native.Nat.{ℕ, _≤_, _*_, _-_, _+_}
 use lib.ListN.{length}
@@ -17,21 +17,6 @@ Inv-loop s from out₀ to at₀ n₀ out at n = (length out ≡ length out₀) �
 
 abbrev μ-loop : tie.MeasureT-loop
 μ-loop s from out₀ to at₀ n₀ out at n = 8 * length s - at
-
-loop-holds : tie.Need-loop-holds Inv-loop μ-loop
-loop-holds c = (refl, omega arith, omega arith, omega arith, omega arith, refl)
-
-read-bits-requires : tie.Need-read-bits-requires Inv-loop μ-loop
-read-bits-requires c κs = search needs
-
-enum-known-got : tie.Need-enum-known-got Inv-loop μ-loop
-enum-known-got c = c .match .keys1
-
-enum-told : tie.Need-enum-told Inv-loop μ-loop
-enum-told c = c .match .keys2
-
-same-length : tie.Need-same-length Inv-loop μ-loop
-same-length c = c .before .before .before .loop .inv .0
 
 returns : tie.Need-returns Inv-loop μ-loop
 returns c =
@@ -50,12 +35,6 @@ word c =
     let a = b .before .before .before .before .args in
     word-read 15 (l .at) (a .s .now) (b .read-bits .result) (b .read-bits .ensures) (got .given .0 .0) (omega arith) (omega arith) (got .given .1)
 
-add-at : tie.Need-add-at Inv-loop μ-loop
-add-at c = omega arith
-
-same-length-2 : tie.Need-same-length-2 Inv-loop μ-loop
-same-length-2 c = c .before .before .before .before .before .loop .inv .0
-
 returns-2 : tie.Need-returns-2 Inv-loop μ-loop
 returns-2 c =
     let k = c .before in
@@ -65,9 +44,6 @@ returns-2 c =
     let m = r .room in
     (rw (l .inv .5 ∙ double-end (a .s .now) (l .at) (l .n) (l .out) (k .before .got .given .0 .0) r (c .if1 .taken)) (refl, refl), (omega arith, omega arith, omega arith, omega arith))
 
-same-length-3 : tie.Need-same-length-3 Inv-loop μ-loop
-same-length-3 c = c .before .before .before .before .before .before .loop .inv .0
-
 returns-3 : tie.Need-returns-3 Inv-loop μ-loop
 returns-3 c =
     let k = c .before .before in
@@ -75,17 +51,8 @@ returns-3 c =
     let a = k .before .before .before .before .before .before .before .args in
     (rw (l .inv .5 ∙ double-lacks (a .s .now) (l .at) (l .n) (l .out) (k .before .got .given .0 .0) (word k) (c .before .if1 .left) (c .if2 .taken)) refl, tt)
 
-first-byte-requires : tie.Need-first-byte-requires Inv-loop μ-loop
-first-byte-requires c κs = search needs
-
-second-byte-requires : tie.Need-second-byte-requires Inv-loop μ-loop
-second-byte-requires c κs = search needs
-
 put-pair-requires : tie.Need-put-pair-requires Inv-loop μ-loop
 put-pair-requires c κs = (omega arith, c .before .first-byte .ensures .0, c .second-byte .ensures .0)
-
-add-n : tie.Need-add-n Inv-loop μ-loop
-add-n c = omega arith
 
 loop-less : tie.Need-loop-less Inv-loop μ-loop
 loop-less c = let m = word (c .before .before .before .before .before .before .before .before) .room in omega arith
@@ -116,24 +83,8 @@ loop-again c =
 
 pub double-byte-spec : {M : Type 1} → statement M
 double-byte-spec =
-    tie.close
-    (tie.spec
-    Inv-loop
-    μ-loop
-    loop-holds
-    read-bits-requires
-    enum-known-got
-    enum-told
-    same-length
-    returns
-    add-at
-    same-length-2
-    returns-2
-    same-length-3
-    returns-3
-    first-byte-requires
-    second-byte-requires
-    put-pair-requires
-    add-n
-    loop-less
-    loop-again)
+    tie.close (tie.spec Inv-loop μ-loop (λ c. (refl, omega arith, omega arith, omega arith, omega arith, refl)) (λ c κs. search needs)
+    (λ c. c .match .keys1) (λ c. c .match .keys2) (λ c. c .before .before .before .loop .inv .0) returns (λ c. omega arith)
+    (λ c. c .before .before .before .before .before .loop .inv .0) returns-2
+    (λ c. c .before .before .before .before .before .before .loop .inv .0) returns-3 (λ c κs. search needs) (λ c κs. search needs)
+    put-pair-requires (λ c. omega arith) loop-less loop-again)

@@ -6,29 +6,11 @@ use borrow.Author.Needs.{needs}
 use Rattle.segments.proofs.eci_field.Statement.{statement}
 use Rattle.segments.proofs.eci_field.Tie as tie
 
-add-read-bits : tie.Need-add-read-bits
-add-read-bits c = search needs
-
-read-bits-requires : tie.Need-read-bits-requires
-read-bits-requires c κs = search needs
-
-enum-known-got : tie.Need-enum-known-got
-enum-known-got c = search needs
-
-enum-told : tie.Need-enum-told
-enum-told c = search needs
-
 returns : tie.Need-returns
 returns c =
     let b = c .before .before in
     let a = b .before .before .args in
     field-cut (a .s .now) (a .from) (a .k) (a .w) (word-few (a .w) (a .from + a .k) (a .s .now) (b .read-bits .result) (b .read-bits .ensures) (c .enum-told .given .1))
-
-add-t7 : tie.Need-add-t7
-add-t7 c = search needs
-
-add-t8 : tie.Need-add-t8
-add-t8 c = search needs
 
 returns-2 : tie.Need-returns-2
 returns-2 c =
@@ -39,13 +21,5 @@ returns-2 c =
 
 pub eci-field-spec : {M : Type 1} → statement M
 eci-field-spec =
-    tie.close
-    (tie.spec
-    add-read-bits
-    read-bits-requires
-    enum-known-got
-    enum-told
-    returns
-    add-t7
-    add-t8
-    returns-2)
+    tie.close (tie.spec (λ c. search needs) (λ c κs. search needs) (λ c. search needs) (λ c. search needs) returns (λ c. search needs)
+    (λ c. search needs) returns-2)

@@ -5,19 +5,10 @@ use borrow.Author.Needs.{needs}
 use Rattle.segments.proofs.eci_value.Statement.{statement}
 use Rattle.segments.proofs.eci_value.Tie as tie
 
-mul-all : tie.Need-mul-all
-mul-all c = search needs
-
 returns : tie.Need-returns
 returns c =
     let a = c .before .before .args in
     rw (eci-cut (a .s .now) (a .from) (omega arith)) refl
-
-bit-requires : tie.Need-bit-requires
-bit-requires c κs = search needs
-
-eci-field-requires : tie.Need-eci-field-requires
-eci-field-requires c κs = search needs
 
 returns-2 : tie.Need-returns-2
 returns-2 c =
@@ -25,23 +16,11 @@ returns-2 c =
     let a = b .before .before .before .args in
     rw (eci-one (a .s .now) (a .from) (omega arith) (sym (b .bit .ensures) ∙ c .before .if2 .taken)) (c .eci-field .ensures)
 
-add-if3 : tie.Need-add-if3
-add-if3 c = search needs
-
 returns-3 : tie.Need-returns-3
 returns-3 c =
     let b = c .before .before in
     let a = b .before .before .before .args in
     rw (eci-one-cut (a .s .now) (a .from) (omega arith) (λ e. c .before .if2 .left (b .bit .ensures ∙ e)) (omega arith)) refl
-
-add-bit : tie.Need-add-bit
-add-bit c = search needs
-
-bit-requires-2 : tie.Need-bit-requires-2
-bit-requires-2 c κs = search needs
-
-eci-field-requires-2 : tie.Need-eci-field-requires-2
-eci-field-requires-2 c κs = search needs
 
 returns-4 : tie.Need-returns-4
 returns-4 c =
@@ -51,24 +30,12 @@ returns-4 c =
     let a = b .before .before .before .args in
     rw (eci-two (a .s .now) (a .from) (omega arith) (λ e. d .before .before .if2 .left (b .bit .ensures ∙ e)) (omega arith) (sym (d .bit2 .ensures) ∙ c .before .if4 .taken)) (c .eci-field2 .ensures)
 
-add-if5 : tie.Need-add-if5
-add-if5 c = search needs
-
 returns-5 : tie.Need-returns-5
 returns-5 c =
     let d = c .before .before in
     let b = d .before .before .before in
     let a = b .before .before .before .args in
     rw (eci-two-cut (a .s .now) (a .from) (omega arith) (λ e. d .before .before .if2 .left (b .bit .ensures ∙ e)) (omega arith) (λ e. c .before .if4 .left (d .bit2 .ensures ∙ e)) (omega arith)) refl
-
-add-bit-2 : tie.Need-add-bit-2
-add-bit-2 c = search needs
-
-bit-requires-3 : tie.Need-bit-requires-3
-bit-requires-3 c κs = search needs
-
-eci-field-requires-3 : tie.Need-eci-field-requires-3
-eci-field-requires-3 c κs = search needs
 
 returns-6 : tie.Need-returns-6
 returns-6 c =
@@ -88,23 +55,6 @@ returns-7 c =
 
 pub eci-value-spec : {M : Type 1} → statement M
 eci-value-spec =
-    tie.close
-    (tie.spec
-    mul-all
-    returns
-    bit-requires
-    eci-field-requires
-    returns-2
-    add-if3
-    returns-3
-    add-bit
-    bit-requires-2
-    eci-field-requires-2
-    returns-4
-    add-if5
-    returns-5
-    add-bit-2
-    bit-requires-3
-    eci-field-requires-3
-    returns-6
-    returns-7)
+    tie.close (tie.spec (λ c. search needs) returns (λ c κs. search needs) (λ c κs. search needs) returns-2 (λ c. search needs)
+    returns-3 (λ c. search needs) (λ c κs. search needs) (λ c κs. search needs) returns-4 (λ c. search needs) returns-5
+    (λ c. search needs) (λ c κs. search needs) (λ c κs. search needs) returns-6 returns-7)

@@ -5,12 +5,9 @@ use borrow.Author.Needs.{needs}
 use Rattle.segments.proofs.first_byte.Statement.{statement}
 use Rattle.segments.proofs.first_byte.Tie as tie
 
-add-result : tie.Need-add-result
-add-result c = search needs
-
 returns : tie.Need-returns
 unfolding firstOf
 returns c = (omega arith, refl)
 
 pub first-byte-spec : {M : Type 1} → statement M
-first-byte-spec = tie.close (tie.spec add-result returns)
+first-byte-spec = tie.close (tie.spec (λ c. search needs) returns)

@@ -6,15 +6,6 @@ use borrow.Author.Needs.{needs}
 use Rattle.segments.proofs.four_byte.Statement.{statement}
 use Rattle.segments.proofs.four_byte.Tie as tie
 
-read-bits-requires : tie.Need-read-bits-requires
-read-bits-requires c κs = search needs
-
-enum-known-got : tie.Need-enum-known-got
-enum-known-got c = search needs
-
-enum-told : tie.Need-enum-told
-enum-told c = search needs
-
 returns : tie.Need-returns
 returns c =
     let b = c .before .before in
@@ -35,18 +26,6 @@ returns-2 c =
     let a = k .before .before .before .before .before .before .args in
     (rw (four-lacks (a .s .now) (a .from) (a .to) (a .out .now) (k .before .got .given .0 .0) (word k) (c .if1 .taken)) refl, tt)
 
-put-four-requires : tie.Need-put-four-requires
-put-four-requires c κs = search needs
-
-add-t11 : tie.Need-add-t11
-add-t11 c = search needs
-
-add-t12 : tie.Need-add-t12
-add-t12 c = search needs
-
-same-length : tie.Need-same-length
-same-length c = search needs
-
 returns-3 : tie.Need-returns-3
 returns-3 c =
     let before = c .before .before .before .before .before in
@@ -58,15 +37,5 @@ returns-3 c =
 
 pub four-byte-spec : {M : Type 1} → statement M
 four-byte-spec =
-    tie.close
-    (tie.spec
-    read-bits-requires
-    enum-known-got
-    enum-told
-    returns
-    returns-2
-    put-four-requires
-    add-t11
-    add-t12
-    same-length
-    returns-3)
+    tie.close (tie.spec (λ c κs. search needs) (λ c. search needs) (λ c. search needs) returns returns-2 (λ c κs. search needs)
+    (λ c. search needs) (λ c. search needs) (λ c. search needs) returns-3)

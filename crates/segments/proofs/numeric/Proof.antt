@@ -17,15 +17,6 @@ Inv-loop s from out₀ to first at₀ n₀ p₀ out at n p =
 abbrev μ-loop : tie.MeasureT-loop
 μ-loop s from out₀ to first at₀ n₀ p₀ out at n p = 8 * length s - at
 
-read-bits-requires : tie.Need-read-bits-requires Inv-loop μ-loop
-read-bits-requires c κs = search needs
-
-enum-known-start : tie.Need-enum-known-start Inv-loop μ-loop
-enum-known-start c = c .match .keys1
-
-enum-told : tie.Need-enum-told Inv-loop μ-loop
-enum-told c = c .match .keys2
-
 returns : tie.Need-returns Inv-loop μ-loop
 returns c =
     let b = c .before .before in
@@ -45,27 +36,12 @@ returns-2 c =
     let a = k .before .before .before .before .before .before .args in
     (rw (numeric-lacks (a .s .now) (a .from) (a .to) (a .out .now) (k .before .start .given .0 .0) (word1 k) (c .if1 .taken)) refl, tt)
 
-add-at : tie.Need-add-at Inv-loop μ-loop
-add-at c = omega arith
-
 loop-holds : tie.Need-loop-holds Inv-loop μ-loop
 loop-holds c =
     let k = c .before in
     let a = k .before .before .before .before .before .before .args in
     let m = word1 k .room in
     (refl, omega arith, omega arith, omega arith, omega arith, omega arith, numeric-first (a .s .now) (a .from) (a .to) (a .out .now) (k .before .start .given .0 .0) (word1 k) (c .if1 .left))
-
-read-bits-requires-2 : tie.Need-read-bits-requires-2 Inv-loop μ-loop
-read-bits-requires-2 c κs = search needs
-
-enum-known-got : tie.Need-enum-known-got Inv-loop μ-loop
-enum-known-got c = c .match2 .keys1
-
-enum-told-2 : tie.Need-enum-told-2 Inv-loop μ-loop
-enum-told-2 c = c .match2 .keys2
-
-same-length : tie.Need-same-length Inv-loop μ-loop
-same-length c = omega arith
 
 returns-3 : tie.Need-returns-3 Inv-loop μ-loop
 returns-3 c =
@@ -82,12 +58,6 @@ word2 c =
     let l = b .before .loop in
     word-read 10 (l .at) (a .s .now) (b .read-bits2 .result) (b .read-bits2 .ensures) (got .given .0 .0) (omega arith) (omega arith) (got .given .1)
 
-add-at-2 : tie.Need-add-at-2 Inv-loop μ-loop
-add-at-2 c = omega arith
-
-same-length-2 : tie.Need-same-length-2 Inv-loop μ-loop
-same-length-2 c = omega arith
-
 returns-4 : tie.Need-returns-4 Inv-loop μ-loop
 returns-4 c =
     let k = c .before .before in
@@ -98,14 +68,8 @@ returns-4 c =
     let m = r .room in
     (rw (l .inv .6 ∙ groups-lack (a .s .now) (l .at) (l .n) (l .out) w r (l .p) (c .before .if2 .taken) (c .if3 .taken)) refl, tt)
 
-sub-k : tie.Need-sub-k Inv-loop μ-loop
-sub-k c = omega arith
-
 power-of-ten-requires : tie.Need-power-of-ten-requires Inv-loop μ-loop
 power-of-ten-requires c κs = let r = word2 (c .before .before) .small in omega arith
-
-same-length-3 : tie.Need-same-length-3 Inv-loop μ-loop
-same-length-3 c = omega arith
 
 returns-5 : tie.Need-returns-5 Inv-loop μ-loop
 returns-5 c =
@@ -145,12 +109,6 @@ returns-6 c =
     let sm = r .small in
     (rw (l .inv .6 ∙ e) (refl, q .ensures), (omega arith, omega arith, omega arith, omega arith))
 
-push-digits-requires-2 : tie.Need-push-digits-requires-2 Inv-loop μ-loop
-push-digits-requires-2 c κs = (omega arith, omega arith)
-
-add-n : tie.Need-add-n Inv-loop μ-loop
-add-n c = omega arith
-
 loop-less : tie.Need-loop-less Inv-loop μ-loop
 loop-less c = let m = word2 (c .before .before .before .before .before) .room in omega arith
 
@@ -176,34 +134,7 @@ loop-again c =
 
 pub numeric-spec : {M : Type 1} → statement M
 numeric-spec =
-    tie.close
-    (tie.spec
-    Inv-loop
-    μ-loop
-    read-bits-requires
-    enum-known-start
-    enum-told
-    returns
-    returns-2
-    add-at
-    loop-holds
-    read-bits-requires-2
-    enum-known-got
-    enum-told-2
-    same-length
-    returns-3
-    add-at-2
-    same-length-2
-    returns-4
-    sub-k
-    power-of-ten-requires
-    same-length-3
-    returns-5
-    push-digits-requires
-    add-t16
-    same-length-4
-    returns-6
-    push-digits-requires-2
-    add-n
-    loop-less
-    loop-again)
+    tie.close (tie.spec Inv-loop μ-loop (λ c κs. search needs) (λ c. c .match .keys1) (λ c. c .match .keys2) returns returns-2
+    (λ c. omega arith) loop-holds (λ c κs. search needs) (λ c. c .match2 .keys1) (λ c. c .match2 .keys2) (λ c. omega arith) returns-3
+    (λ c. omega arith) (λ c. omega arith) returns-4 (λ c. omega arith) power-of-ten-requires (λ c. omega arith) returns-5
+    push-digits-requires add-t16 same-length-4 returns-6 (λ c κs. (omega arith, omega arith)) (λ c. omega arith) loop-less loop-again)

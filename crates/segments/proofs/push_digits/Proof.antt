@@ -20,33 +20,6 @@ abbrev μ-loop : tie.MeasureT-loop
 loop-holds : tie.Need-loop-holds Inv-loop μ-loop
 loop-holds c = (refl, omega arith, simp (sub-zero, add-zero))
 
-sub-power-of-ten : tie.Need-sub-power-of-ten Inv-loop μ-loop
-sub-power-of-ten c = omega arith
-
-sub-power-of-ten-2 : tie.Need-sub-power-of-ten-2 Inv-loop μ-loop
-sub-power-of-ten-2 c = omega arith
-
-power-of-ten-requires : tie.Need-power-of-ten-requires Inv-loop μ-loop
-power-of-ten-requires c κs = omega arith
-
-div-d : tie.Need-div-d Inv-loop μ-loop
-div-d c = omega arith
-
-add-put : tie.Need-add-put Inv-loop μ-loop
-add-put c = omega arith
-
-add-put-2 : tie.Need-add-put-2 Inv-loop μ-loop
-add-put-2 c = omega arith
-
-put-requires : tie.Need-put-requires Inv-loop μ-loop
-put-requires c κs = omega arith
-
-add-i : tie.Need-add-i Inv-loop μ-loop
-add-i c = omega arith
-
-loop-less : tie.Need-loop-less Inv-loop μ-loop
-loop-less c = omega arith
-
 loop-again : tie.Need-loop-again Inv-loop μ-loop
 loop-again c =
     let start = c .before .before .before .before .before .before .before .before in
@@ -59,9 +32,6 @@ loop-again c =
     let e : q .last .0 ≡ set (l .out) (a .n + l .i) (48 + a .v / 10 ^ (a .k - 1 - l .i) % 10) = q .ensures ∙ ap (λ (z : ℕ). set (l .out) (a .n + l .i) (48 + a .v / z % 10)) t in
     (q .kept .0 ∙ l .inv .0, omega arith, l .inv .2 ∙ digits-more (l .out) (a .n) (a .k) (l .i) (a .v) (omega arith) ∙ ap (λ (z : List ℕ). sets z (a .n + (l .i + 1)) (digits (a .k - (l .i + 1)) (a .v))) (sym e))
 
-same-length : tie.Need-same-length Inv-loop μ-loop
-same-length c = omega arith
-
 returns : tie.Need-returns Inv-loop μ-loop
 returns c =
     let l = c .before .loop in
@@ -70,20 +40,6 @@ returns c =
 
 pub push-digits-spec : {M : Type 1} → statement M
 push-digits-spec =
-    tie.close
-    (tie.spec
-    Inv-loop
-    μ-loop
-    loop-holds
-    sub-power-of-ten
-    sub-power-of-ten-2
-    power-of-ten-requires
-    div-d
-    add-put
-    add-put-2
-    put-requires
-    add-i
-    loop-less
-    loop-again
-    same-length
+    tie.close (tie.spec Inv-loop μ-loop loop-holds (λ c. omega arith) (λ c. omega arith) (λ c κs. omega arith) (λ c. omega arith)
+    (λ c. omega arith) (λ c. omega arith) (λ c κs. omega arith) (λ c. omega arith) (λ c. omega arith) loop-again (λ c. omega arith)
     returns)

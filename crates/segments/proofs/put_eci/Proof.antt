@@ -1,22 +1,10 @@
 use mathlib.Core.Path.{refl}
-use mathlib.Core.List.{[], _∷_}
+use mathlib.Core.List.{_∷_}
 use Prim.Native.Nat.{_+_, _/_, _%_}
 use Rattle.segments.proofs.Stores.{two-more}
 use borrow.Author.Needs.{needs}
 use Rattle.segments.proofs.put_eci.Statement.{statement}
 use Rattle.segments.proofs.put_eci.Tie as tie
-
-put-pair-requires : tie.Need-put-pair-requires
-put-pair-requires c κs = search needs
-
-add-put-pair : tie.Need-add-put-pair
-add-put-pair c = search needs
-
-put-pair-requires-2 : tie.Need-put-pair-requires-2
-put-pair-requires-2 c κs = search needs
-
-same-length : tie.Need-same-length
-same-length c = search needs
 
 returns : tie.Need-returns
 returns c =
@@ -27,5 +15,4 @@ returns c =
     two-more (a .script .now) (p .put-pair .last .0) (put-pair2 .last .0) (a .v / 256 % 256 ∷ a .v % 256 ∷ []) (a .m) (a .m + 2) 8 (a .v / 65536) refl (p .put-pair .ensures) (put-pair2 .ensures)
 
 pub put-eci-spec : {M : Type 1} → statement M
-put-eci-spec =
-    tie.close (tie.spec put-pair-requires add-put-pair put-pair-requires-2 same-length returns)
+put-eci-spec = tie.close (tie.spec (λ c κs. search needs) (λ c. search needs) (λ c κs. search needs) (λ c. search needs) returns)

@@ -1,35 +1,11 @@
 use mathlib.Core.Path.{refl}
-use mathlib.Core.List.{[], _∷_}
+use mathlib.Core.List.{_∷_}
 use Prim.Native.Nat.{_+_, _/_, _%_}
 use Rattle.segments.specs.Segments.{fourBytes}
 use Rattle.segments.proofs.Stores.{two-more}
 use borrow.Author.Needs.{needs}
 use Rattle.segments.proofs.put_four.Statement.{statement}
 use Rattle.segments.proofs.put_four.Tie as tie
-
-add-put-pair : tie.Need-add-put-pair
-add-put-pair c = search needs
-
-add-put-pair-2 : tie.Need-add-put-pair-2
-add-put-pair-2 c = search needs
-
-put-pair-requires : tie.Need-put-pair-requires
-put-pair-requires c κs = search needs
-
-add-put-pair-3 : tie.Need-add-put-pair-3
-add-put-pair-3 c = search needs
-
-add-put-pair-4 : tie.Need-add-put-pair-4
-add-put-pair-4 c = search needs
-
-add-put-pair-5 : tie.Need-add-put-pair-5
-add-put-pair-5 c = search needs
-
-put-pair-requires-2 : tie.Need-put-pair-requires-2
-put-pair-requires-2 c κs = search needs
-
-same-length : tie.Need-same-length
-same-length c = search needs
 
 returns : tie.Need-returns
 unfolding fourBytes
@@ -42,14 +18,5 @@ returns c =
 
 pub put-four-spec : {M : Type 1} → statement M
 put-four-spec =
-    tie.close
-    (tie.spec
-    add-put-pair
-    add-put-pair-2
-    put-pair-requires
-    add-put-pair-3
-    add-put-pair-4
-    add-put-pair-5
-    put-pair-requires-2
-    same-length
-    returns)
+    tie.close (tie.spec (λ c. search needs) (λ c. search needs) (λ c κs. search needs) (λ c. search needs) (λ c. search needs)
+    (λ c. search needs) (λ c κs. search needs) (λ c. search needs) returns)

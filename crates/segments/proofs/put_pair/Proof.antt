@@ -1,22 +1,10 @@
 use mathlib.Core.Path.{refl}
-use mathlib.Core.List.{[], _∷_}
+use mathlib.Core.List.{_∷_}
 use Prim.Native.Nat.{_+_}
 use Rattle.segments.proofs.Stores.{one-more}
 use borrow.Author.Needs.{needs}
 use Rattle.segments.proofs.put_pair.Statement.{statement}
 use Rattle.segments.proofs.put_pair.Tie as tie
-
-put-requires : tie.Need-put-requires
-put-requires c κs = search needs
-
-add-put : tie.Need-add-put
-add-put c = search needs
-
-put-requires-2 : tie.Need-put-requires-2
-put-requires-2 c κs = search needs
-
-same-length : tie.Need-same-length
-same-length c = search needs
 
 returns : tie.Need-returns
 returns c =
@@ -27,4 +15,4 @@ returns c =
     one-more (a .out .now) (p .put .last .0) (put2 .last .0) (a .b ∷ []) (a .n) (a .n + 1) (a .a) refl (p .put .ensures) (put2 .ensures)
 
 pub put-pair-spec : {M : Type 1} → statement M
-put-pair-spec = tie.close (tie.spec put-requires add-put put-requires-2 same-length returns)
+put-pair-spec = tie.close (tie.spec (λ c κs. search needs) (λ c. search needs) (λ c κs. search needs) (λ c. search needs) returns)

@@ -16,18 +16,5 @@ returns-3 c =
     let r = c .before .before .args .r in
     rw (ne-eqb r 0 (c .before .if1 .left), ne-eqb r 1 (c .if2 .left))
 
-sub-t3 : tie.Need-sub-t3
-sub-t3 c = search needs
-
-sub-t5 : tie.Need-sub-t5
-sub-t5 c = search needs
-
 pub region-count-spec : {M : Type 1} → statement M
-region-count-spec =
-    tie.close
-    (tie.spec
-    returns
-    returns-2
-    sub-t3
-    sub-t5
-    returns-3)
+region-count-spec = tie.close (tie.spec returns returns-2 (λ c. search needs) (λ c. search needs) returns-3)

@@ -1,6 +1,6 @@
 use borrow.Author.Needs.{needs}
 use mathlib.Core.Path.{_≡_, _∙_, refl, sym, ap, ap₂}
-use mathlib.Core.List.{List, [], _∷_}
+use mathlib.Core.List.{List, _∷_}
 use native.Mathlib.Omega.{arith}
 use Prim.Native.Nat.{ℕ, _≤_, _*_, _-_, _+_}
 use lib.ListN.{length}
@@ -17,21 +17,6 @@ Inv-loop s from out₀ to one at₀ n₀ out at n = (length out ≡ length out�
 
 abbrev μ-loop : tie.MeasureT-loop
 μ-loop s from out₀ to one at₀ n₀ out at n = 8 * length s - at
-
-loop-holds : tie.Need-loop-holds Inv-loop μ-loop
-loop-holds c = (refl, omega arith, omega arith, omega arith, omega arith, refl)
-
-read-bits-requires : tie.Need-read-bits-requires Inv-loop μ-loop
-read-bits-requires c κs = search needs
-
-enum-known-got : tie.Need-enum-known-got Inv-loop μ-loop
-enum-known-got c = c .match .keys1
-
-enum-told : tie.Need-enum-told Inv-loop μ-loop
-enum-told c = c .match .keys2
-
-same-length : tie.Need-same-length Inv-loop μ-loop
-same-length c = c .before .before .before .loop .inv .0
 
 returns : tie.Need-returns Inv-loop μ-loop
 returns c =
@@ -50,12 +35,6 @@ word c =
     let a = b .before .before .before .before .args in
     word-read 12 (l .at) (a .s .now) (b .read-bits .result) (b .read-bits .ensures) (got .given .0 .0) (omega arith) (omega arith) (got .given .1)
 
-add-at : tie.Need-add-at Inv-loop μ-loop
-add-at c = omega arith
-
-same-length-2 : tie.Need-same-length-2 Inv-loop μ-loop
-same-length-2 c = c .before .before .before .before .before .loop .inv .0
-
 returns-2 : tie.Need-returns-2 Inv-loop μ-loop
 returns-2 c =
     let k = c .before in
@@ -65,9 +44,6 @@ returns-2 c =
     let m = r .room in
     (l .inv .5 ∙ region-end (a .s .now) (l .at) (l .n) (l .out) (k .before .got .given .0 .0) (a .one) r (c .if1 .taken), omega arith, omega arith, omega arith, omega arith)
 
-same-length-3 : tie.Need-same-length-3 Inv-loop μ-loop
-same-length-3 c = c .before .before .before .before .before .before .loop .inv .0
-
 returns-3 : tie.Need-returns-3 Inv-loop μ-loop
 returns-3 c =
     let k = c .before .before in
@@ -76,9 +52,6 @@ returns-3 c =
     let r = word k in
     let m = r .room in
     (omega arith, m, omega arith, l .inv .5 ∙ region-switch (a .s .now) (l .at) (l .n) (l .out) (k .before .got .given .0 .0) (a .one) r (c .before .if1 .left) (c .if2 .taken), omega arith)
-
-region-size-requires : tie.Need-region-size-requires Inv-loop μ-loop
-region-size-requires c κs = search needs
 
 same-length-4 : tie.Need-same-length-4 Inv-loop μ-loop
 same-length-4 c = c .before .before .before .before .before .before .before .before .loop .inv .0
@@ -90,17 +63,8 @@ returns-4 c =
     let a = k .before .before .before .before .before .before .before .args in
     l .inv .5 ∙ region-lacks (a .s .now) (l .at) (l .n) (l .out) (k .before .got .given .0 .0) (a .one) (word k) (c .before .before .before .if1 .left) (c .before .before .if2 .left) (omega (arith, c .before .region-size .ensures))
 
-high-requires : tie.Need-high-requires Inv-loop μ-loop
-high-requires c κs = omega (arith, c .before .before .region-size .ensures)
-
-low-requires : tie.Need-low-requires Inv-loop μ-loop
-low-requires c κs = omega (arith, c .before .before .before .region-size .ensures)
-
 put-pair-requires : tie.Need-put-pair-requires Inv-loop μ-loop
 put-pair-requires c κs = (omega arith, c .before .high .ensures .0, c .low .ensures .0)
-
-add-n : tie.Need-add-n Inv-loop μ-loop
-add-n c = omega arith
 
 loop-less : tie.Need-loop-less Inv-loop μ-loop
 loop-less c = let m = word (c .before .before .before .before .before .before .before .before .before .before) .room in omega arith
@@ -130,27 +94,9 @@ loop-again c =
 
 pub same-region-spec : {M : Type 1} → statement M
 same-region-spec =
-    tie.close
-    (tie.spec
-    Inv-loop
-    μ-loop
-    loop-holds
-    read-bits-requires
-    enum-known-got
-    enum-told
-    same-length
-    returns
-    add-at
-    same-length-2
-    returns-2
-    same-length-3
-    returns-3
-    region-size-requires
-    same-length-4
-    returns-4
-    high-requires
-    low-requires
-    put-pair-requires
-    add-n
-    loop-less
-    loop-again)
+    tie.close (tie.spec Inv-loop μ-loop (λ c. (refl, omega arith, omega arith, omega arith, omega arith, refl)) (λ c κs. search needs)
+    (λ c. c .match .keys1) (λ c. c .match .keys2) (λ c. c .before .before .before .loop .inv .0) returns (λ c. omega arith)
+    (λ c. c .before .before .before .before .before .loop .inv .0) returns-2
+    (λ c. c .before .before .before .before .before .before .loop .inv .0) returns-3 (λ c κs. search needs) same-length-4 returns-4
+    (λ c κs. omega (arith, c .before .before .region-size .ensures))
+    (λ c κs. omega (arith, c .before .before .before .region-size .ensures)) put-pair-requires (λ c. omega arith) loop-less loop-again)

@@ -5,12 +5,6 @@ use borrow.Author.Needs.{needs}
 use Rattle.segments.proofs.segment.Statement.{statement}
 use Rattle.segments.proofs.segment.Tie as tie
 
-eci-value-requires : tie.Need-eci-value-requires
-eci-value-requires c κs = search needs
-
-enum-known-designator : tie.Need-enum-known-designator
-enum-known-designator c = search needs
-
 put-eci-requires : tie.Need-put-eci-requires
 put-eci-requires c κs =
     let b = c .before .before .before .before in
@@ -18,18 +12,6 @@ put-eci-requires c κs =
     let v = c .before .before .designator .given in
     let l = eci-bound (a .s .now) (a .place .at) (a .place .payload) (a .place .script) (a .out .now) (a .script .now) (a .mode) (omega arith) (omega arith) (b .eci-value .result) (v .0 .0) (v .0 .1 .0) (b .eci-value .ensures) (v .1) in
     (omega arith, omega arith)
-
-add-t21 : tie.Need-add-t21
-add-t21 c = search needs
-
-enum-told : tie.Need-enum-told
-enum-told c = search needs
-
-enum-told-2 : tie.Need-enum-told-2
-enum-told-2 c = search needs
-
-same-length : tie.Need-same-length
-same-length c = search needs
 
 returns : tie.Need-returns
 returns c =
@@ -52,12 +34,6 @@ returns-3 c =
     let b = c .before .before in
     let a = b .before .before .before .before .before .args in
     eci-stop-lacks (a .s .now) (a .place .at) (a .place .payload) (a .place .script) (a .out .now) (a .script .now) (a .mode) (omega arith) (omega arith) (b .before .if1 .taken) (b .eci-value .result) (a .out .now) (a .script .now) (b .eci-value .ensures) (c .enum-told2 .given .1)
-
-run-of-mode-requires : tie.Need-run-of-mode-requires
-run-of-mode-requires c κs = search needs
-
-enum-known-read : tie.Need-enum-known-read
-enum-known-read c = search needs
 
 sub-put-command : tie.Need-sub-put-command
 sub-put-command c =
@@ -82,18 +58,6 @@ add-t27 c =
     let a = start .args in
     omega (arith, command-length (a .mode) (read .given .0 .1 .0 - a .place .payload), c .before .before .put-command .ensures .0)
 
-enum-told-3 : tie.Need-enum-told-3
-enum-told-3 c = search needs
-
-enum-told-4 : tie.Need-enum-told-4
-enum-told-4 c = search needs
-
-same-length-2 : tie.Need-same-length-2
-same-length-2 c = search needs
-
-same-length-3 : tie.Need-same-length-3
-same-length-3 c = search needs
-
 returns-4 : tie.Need-returns-4
 returns-4 c =
     let before = c .before .before .before .before .before .before .before .before .before in
@@ -106,18 +70,12 @@ returns-4 c =
     let i = inside (a .s .now) (a .place .at) (a .place .payload) (q .result) (v .0 .0) (v .0 .1 .0) (q .ensures .1) (v .1) in
     run-on (a .s .now) (a .place .at) (a .place .payload) (a .place .script) (a .out .now) (a .script .now) (a .mode) (omega arith) (omega arith) (b .before .before .if1 .left) (q .result) (q .last .1 .1 .0) (q .ensures .0) (v .0 .0) (v .0 .1 .0) (p .result) (p .last .0) (v .1) (i .1) (i .3) (p .ensures .0) (p .ensures .1)
 
-same-length-4 : tie.Need-same-length-4
-same-length-4 c = search needs
-
 returns-5 : tie.Need-returns-5
 returns-5 c =
     let b = c .before .before .before .before in
     let a = b .before .before .before .before .before .before .args in
     let q = b .run-of-mode in
     run-stop-cut (a .s .now) (a .place .at) (a .place .payload) (a .place .script) (a .out .now) (a .script .now) (a .mode) (omega arith) (omega arith) (b .before .before .if1 .left) (q .result) (q .last .1 .1 .0) (q .ensures .0) (q .last .1 .1 .0) (a .script .now) (c .enum-told3 .given .1)
-
-same-length-5 : tie.Need-same-length-5
-same-length-5 c = search needs
 
 returns-6 : tie.Need-returns-6
 returns-6 c =
@@ -128,29 +86,7 @@ returns-6 c =
 
 pub segment-spec : {M : Type 1} → statement M
 segment-spec =
-    tie.close
-    (tie.spec
-    eci-value-requires
-    enum-known-designator
-    put-eci-requires
-    add-t21
-    enum-told
-    enum-told-2
-    same-length
-    returns
-    returns-2
-    returns-3
-    run-of-mode-requires
-    enum-known-read
-    sub-put-command
-    put-command-requires
-    add-t27
-    enum-told-3
-    enum-told-4
-    same-length-2
-    same-length-3
-    returns-4
-    same-length-4
-    returns-5
-    same-length-5
-    returns-6)
+    tie.close (tie.spec (λ c κs. search needs) (λ c. search needs) put-eci-requires (λ c. search needs) (λ c. search needs)
+    (λ c. search needs) (λ c. search needs) returns returns-2 returns-3 (λ c κs. search needs) (λ c. search needs) sub-put-command
+    put-command-requires add-t27 (λ c. search needs) (λ c. search needs) (λ c. search needs) (λ c. search needs) returns-4
+    (λ c. search needs) returns-5 (λ c. search needs) returns-6)

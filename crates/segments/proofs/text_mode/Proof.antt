@@ -19,21 +19,6 @@ Inv-loop s from out₀ to first₀ at₀ n₀ out first at n =
 abbrev μ-loop : tie.MeasureT-loop
 μ-loop s from out₀ to first₀ at₀ n₀ out first at n = 8 * length s - at
 
-loop-holds : tie.Need-loop-holds Inv-loop μ-loop
-loop-holds c = (refl, omega arith, omega arith, refl, omega arith, omega arith)
-
-read-bits-requires : tie.Need-read-bits-requires Inv-loop μ-loop
-read-bits-requires c κs = search needs
-
-enum-known-got : tie.Need-enum-known-got Inv-loop μ-loop
-enum-known-got c = c .match .keys1
-
-enum-told : tie.Need-enum-told Inv-loop μ-loop
-enum-told c = c .match .keys2
-
-same-length : tie.Need-same-length Inv-loop μ-loop
-same-length c = c .before .before .before .loop .inv .0
-
 returns : tie.Need-returns Inv-loop μ-loop
 returns c =
     let b = c .before .before in
@@ -47,12 +32,6 @@ word c =
     let got = c .before .got in
     let b = c .before .before .before in
     word-read 6 (b .before .loop .at) (b .before .before .before .before .args .s .now) (b .read-bits .result) (b .read-bits .ensures) (got .given .0 .0) (omega arith) (omega arith) (got .given .1)
-
-add-at : tie.Need-add-at Inv-loop μ-loop
-add-at c = omega arith
-
-same-length-2 : tie.Need-same-length-2 Inv-loop μ-loop
-same-length-2 c = c .before .before .before .before .before .loop .inv .0
 
 returns-2 : tie.Need-returns-2 Inv-loop μ-loop
 returns-2 c =
@@ -79,12 +58,6 @@ loop-again c =
 text-char-requires : tie.Need-text-char-requires Inv-loop μ-loop
 text-char-requires c κs = let r = word (c .before .before .before) .small in omega arith
 
-put-requires : tie.Need-put-requires Inv-loop μ-loop
-put-requires c κs = c .text-char .ensures .0
-
-add-n : tie.Need-add-n Inv-loop μ-loop
-add-n c = omega arith
-
 loop-less-2 : tie.Need-loop-less-2 Inv-loop μ-loop
 loop-less-2 c = let r = word (c .before .before .before .before .before .before .before) .room in omega arith
 
@@ -109,23 +82,7 @@ loop-again-2 c =
 
 pub text-mode-spec : {M : Type 1} → statement M
 text-mode-spec =
-    tie.close
-    (tie.spec
-    Inv-loop
-    μ-loop
-    loop-holds
-    read-bits-requires
-    enum-known-got
-    enum-told
-    same-length
-    returns
-    add-at
-    same-length-2
-    returns-2
-    loop-less
-    loop-again
-    text-char-requires
-    put-requires
-    add-n
-    loop-less-2
-    loop-again-2)
+    tie.close (tie.spec Inv-loop μ-loop (λ c. (refl, omega arith, omega arith, refl, omega arith, omega arith)) (λ c κs. search needs)
+    (λ c. c .match .keys1) (λ c. c .match .keys2) (λ c. c .before .before .before .loop .inv .0) returns (λ c. omega arith)
+    (λ c. c .before .before .before .before .before .loop .inv .0) returns-2 loop-less loop-again text-char-requires
+    (λ c κs. c .text-char .ensures .0) (λ c. omega arith) loop-less-2 loop-again-2)

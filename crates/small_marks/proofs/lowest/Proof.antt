@@ -14,9 +14,4 @@ returns : tie.Need-returns
 returns c = ap (λ (m : ℕ). c .args .bits % m) (two-power (c .args .w) (c .pre))
 
 pub lowest-spec : {M : Type 1} → statement M
-lowest-spec =
-    tie.close
-    (tie.spec
-    (λ c. search needs)
-    rem-result
-    returns)
+lowest-spec = tie.close (tie.spec (λ c. search needs) rem-result returns)

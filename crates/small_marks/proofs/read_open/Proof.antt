@@ -26,10 +26,4 @@ returns c =
 
 pub read-open-spec : {M : Type 1} → statement M
 read-open-spec =
-    tie.close
-    (tie.spec
-    (λ c. search needs)
-    slice-aggregate-read-open-rows
-    read-open-rows-requires
-    (λ c. search needs)
-    returns)
+    tie.close (tie.spec (λ c. search needs) slice-aggregate-read-open-rows read-open-rows-requires (λ c. search needs) returns)

@@ -20,12 +20,6 @@ Inv-loop out₀ square version mask side rows r₀ i₀ out r i = Pending r × (
 abbrev μ-loop : tie.MeasureT-loop
 μ-loop out₀ square version mask side rows r₀ i₀ out r i = sideOf version - i
 
-mul-side : tie.Need-mul-side Inv-loop μ-loop
-mul-side c = omega arith
-
-add-side : tie.Need-add-side Inv-loop μ-loop
-add-side c = omega arith
-
 open-rows-requires : tie.Need-open-rows-requires Inv-loop μ-loop
 open-rows-requires c κs = tt
 
@@ -50,9 +44,6 @@ mul-at c = omega (arith, row-inside (c .before .before .loop .i) (sideOf (c .bef
 add-end : tie.Need-add-end Inv-loop μ-loop
 add-end c = omega (arith, row-inside (c .before .before .loop .i) (sideOf (c .before .before .before .before .before .before .args .version)) (c .before .loop-test .taken), c .before .before .before .before .before .before .pre .3, c .before .before .before .before .before .before .pre .1)
 
-mul-row : tie.Need-mul-row Inv-loop μ-loop
-mul-row c = omega (arith, c .before .before .before .before .before .before .pre .2)
-
 add-row : tie.Need-add-row Inv-loop μ-loop
 add-row c = omega (arith, c .before .before .before .before .before .before .pre .2, c .before .loop-test .taken, c .before .before .before .before .before .before .pre .1)
 
@@ -61,12 +52,6 @@ mul-row-2 c = omega (arith, c .before .before .before .before .before .before .p
 
 array-read-row : tie.Need-array-read-row Inv-loop μ-loop
 array-read-row c = omega (arith, c .before .before .before .open-rows .ensures .size, c .before .before .before .before .before .before .pre .2, c .before .loop-test .taken, c .before .before .before .before .before .before .pre .1)
-
-sub-read-span : tie.Need-sub-read-span Inv-loop μ-loop
-sub-read-span c = omega arith
-
-part-read-span-start : tie.Need-part-read-span-start Inv-loop μ-loop
-part-read-span-start c = omega arith
 
 part-read-span-end : tie.Need-part-read-span-end Inv-loop μ-loop
 part-read-span-end c = omega (arith, row-inside (c .before .before .before .loop .i) (sideOf (c .before .before .before .before .before .before .before .args .version)) (c .before .before .loop-test .taken), c .before .before .before .before .before .before .before .pre .3, c .before .before .before .before .before .before .before .pre .1)
@@ -101,9 +86,6 @@ loop-again c =
     let turn = open-turn (start .args .mask) (layoutOf v) (start .args .square .now) (loop .i) (sideOf v) (omega (arith, start .pre .0)) (open-layout v (start .pre .1)) (start .pre .3) taken (c .before .before .before .before .before .margin .ensures) (λ k lo hi. rows .is (start .args .mask) (loop .i) k (start .pre .2) (omega (arith, taken, start .pre .1)) (omega (arith, start .pre .1))) refl (span .1) (span .2) (walk-again refl refl refl (loop .inv .2)) in
     (span .0, omega (arith, taken), turn)
 
-same-length : tie.Need-same-length Inv-loop μ-loop
-same-length c = c .before .loop .inv .2 .words .size
-
 returns : tie.Need-returns Inv-loop μ-loop
 returns c =
     let start = c .before .before .before .before .before in
@@ -113,29 +95,7 @@ returns c =
 
 pub read-open-rows-spec : {M : Type 1} → statement M
 read-open-rows-spec =
-    tie.close
-    (tie.spec
-    Inv-loop
-    μ-loop
-    mul-side
-    add-side
-    open-rows-requires
-    loop-holds
-    margin-requires
-    mul-at
-    add-end
-    mul-row
-    add-row
-    mul-row-2
-    array-read-row
-    (λ c. search needs)
-    sub-read-span
-    part-read-span-start
-    part-read-span-end
-    sub-read-span-2
-    read-span-requires
-    add-i
-    loop-less
-    loop-again
-    same-length
-    returns)
+    tie.close (tie.spec Inv-loop μ-loop (λ c. omega arith) (λ c. omega arith) open-rows-requires loop-holds margin-requires mul-at
+    add-end (λ c. omega (arith, c .before .before .before .before .before .before .pre .2)) add-row mul-row-2 array-read-row
+    (λ c. search needs) (λ c. omega arith) (λ c. omega arith) part-read-span-end sub-read-span-2 read-span-requires add-i loop-less
+    loop-again (λ c. c .before .loop .inv .2 .words .size) returns)

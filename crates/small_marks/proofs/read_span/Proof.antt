@@ -44,17 +44,8 @@ loop-again c =
     let on = push .ensures .1 in
     (push .ensures .0, omega (arith, lo, on), omega (arith, on, taken), spans-on lo (omega (arith, on)) (loop .inv .3) (spans-push (start .pre .0) 8 _ (omega (arith, taken, start .pre .4)) (c .before .before .before .unmasked .ensures .0) on (push .ensures .2)), push .kept .0 ∙ loop .inv .4)
 
-sub-w : tie.Need-sub-w Inv-loop μ-loop
-sub-w c = c .before .before .before .loop .inv .2
-
-sub-unmasked : tie.Need-sub-unmasked Inv-loop μ-loop
-sub-unmasked c = c .before .before .before .before .before .before .before .pre .3
-
 unmasked-requires-2 : tie.Need-unmasked-requires-2 Inv-loop μ-loop
 unmasked-requires-2 c κs = let start = c .before .before .before .before .before .before .before in (start .pre .0, omega (arith, start .pre .3, start .pre .4), start .pre .5)
-
-lowest-requires : tie.Need-lowest-requires Inv-loop μ-loop
-lowest-requires c κs = omega (arith, c .before .before .before .if1 .left)
 
 push-requires-2 : tie.Need-push-requires-2 Inv-loop μ-loop
 push-requires-2 c κs =
@@ -81,20 +72,6 @@ returns c =
 
 pub read-span-spec : {M : Type 1} → statement M
 read-span-spec =
-    tie.close
-    (tie.spec
-    Inv-loop
-    μ-loop
-    loop-holds
-    add-if1
-    unmasked-requires
-    push-requires
-    loop-less
-    loop-again
-    sub-w
-    sub-unmasked
-    unmasked-requires-2
-    lowest-requires
-    push-requires-2
-    same-length
-    returns)
+    tie.close (tie.spec Inv-loop μ-loop loop-holds add-if1 unmasked-requires push-requires loop-less loop-again
+    (λ c. c .before .before .before .loop .inv .2) (λ c. c .before .before .before .before .before .before .before .pre .3)
+    unmasked-requires-2 (λ c κs. omega (arith, c .before .before .before .if1 .left)) push-requires-2 same-length returns)

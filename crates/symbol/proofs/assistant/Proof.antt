@@ -7,24 +7,6 @@ use borrow.Author.Needs.{needs}
 use Rattle.symbol.proofs.assistant.Statement.{statement}
 use Rattle.symbol.proofs.assistant.Tie as tie
 
-back-requires : tie.Need-back-requires
-back-requires c κs = search needs
-
-three-requires : tie.Need-three-requires
-three-requires c κs = search needs
-
-three-requires-2 : tie.Need-three-requires-2
-three-requires-2 c κs = search needs
-
-forth-requires : tie.Need-forth-requires
-forth-requires c κs = search needs
-
-three-requires-3 : tie.Need-three-requires-3
-three-requires-3 c κs = search needs
-
-same-length : tie.Need-same-length
-same-length c = search needs
-
 returns : tie.Need-returns
 unfolding assistant
 returns c =
@@ -41,12 +23,5 @@ returns c =
 
 pub assistant-spec : {M : Type 1} → statement M
 assistant-spec =
-    tie.close
-    (tie.spec
-    back-requires
-    three-requires
-    three-requires-2
-    forth-requires
-    three-requires-3
-    same-length
-    returns)
+    tie.close (tie.spec (λ c κs. search needs) (λ c κs. search needs) (λ c κs. search needs) (λ c κs. search needs)
+    (λ c κs. search needs) (λ c. search needs) returns)

@@ -7,12 +7,6 @@ use borrow.Author.Needs.{needs}
 use Rattle.symbol.proofs.assistant_if.Statement.{statement}
 use Rattle.symbol.proofs.assistant_if.Tie as tie
 
-assistant-requires : tie.Need-assistant-requires
-assistant-requires c κs = search needs
-
-same-length : tie.Need-same-length
-same-length c = search needs
-
 returns : tie.Need-returns
 returns c =
     let start = c .before .before .before .before .before .before in
@@ -27,4 +21,4 @@ returns-2 c =
     subst (λ (b : Bool). Plotted (start .args .side) (when b (assistant (start .args .x) (start .args .y))) (start .args .grid .now) (start .args .grid .now)) (sym (c .if1 .left)) none
 
 pub assistant-if-spec : {M : Type 1} → statement M
-assistant-if-spec = tie.close (tie.spec assistant-requires same-length returns returns-2)
+assistant-if-spec = tie.close (tie.spec (λ c κs. search needs) (λ c. search needs) returns returns-2)

@@ -17,9 +17,6 @@ Inv-loop grid₀ p x₀ n₀ grid x n = Walk p columnOf (columnEnds (p .version)
 abbrev μ-loop : tie.MeasureT-loop
 μ-loop grid₀ p x₀ n₀ grid x n = mOf (p .version) + 2 - n
 
-sub-signed : tie.Need-sub-signed Inv-loop μ-loop
-sub-signed c = omega (arith, c .before .before .pre .spaced .side-is)
-
 signed-requires : tie.Need-signed-requires Inv-loop μ-loop
 signed-requires c κs = omega (arith, c .before .before .pre .spaced .side-is, c .before .before .pre .spaced .high)
 
@@ -63,9 +60,6 @@ loop-again c =
     let column-ends = c .before .before .before .column-ends in
     further (start .pre) (loop .inv) (column-inside (start .pre .spaced) (loop .n) (loop .inv .few) (loop .inv .here) (loop-test .taken)) (column-ends .ensures) (column-ends .kept .0) (toZ-ofZ (ok (c .next-column .result) (c .next-column .ok)) ∙ c .next-column .ensures)
 
-same-length : tie.Need-same-length Inv-loop μ-loop
-same-length c = c .before .loop .inv .kept
-
 returns : tie.Need-returns Inv-loop μ-loop
 returns c =
     let start = c .before .before .before .before .before in
@@ -74,17 +68,5 @@ returns c =
 
 pub columns-ends-spec : {M : Type 1} → statement M
 columns-ends-spec =
-    tie.close
-    (tie.spec
-    Inv-loop
-    μ-loop
-    sub-signed
-    signed-requires
-    loop-holds
-    column-ends-requires
-    next-column-requires
-    add-n
-    loop-less
-    loop-again
-    same-length
-    returns)
+    tie.close (tie.spec Inv-loop μ-loop (λ c. omega (arith, c .before .before .pre .spaced .side-is)) signed-requires loop-holds
+    column-ends-requires next-column-requires add-n loop-less loop-again (λ c. c .before .loop .inv .kept) returns)

@@ -7,20 +7,11 @@ use borrow.Author.Needs.{needs}
 use Rattle.symbol.proofs.corners.Statement.{statement}
 use Rattle.symbol.proofs.corners.Tie as tie
 
-mul-run : tie.Need-mul-run
-mul-run c = search needs
-
-run-requires : tie.Need-run-requires
-run-requires c κs = search needs
-
 line-ends-requires : tie.Need-line-ends-requires
 line-ends-requires c κs =
     let start = c .before .before .before .before .before .before in
     let run = c .before .before .before .run in
     (start .pre .0, start .pre .1, omega (arith, start .pre .2, run .kept .0), omega arith, omega (arith, start .pre .0), near-upper (start .args .side), all-blank (cornerKind (start .args .side)) (start .args .side * start .args .side) (0 * start .args .side) (zero-mul (start .args .side)) (run .ensures))
-
-sub-line-ends : tie.Need-sub-line-ends
-sub-line-ends c = search needs
 
 line-ends-requires-2 : tie.Need-line-ends-requires-2
 line-ends-requires-2 c κs =
@@ -28,9 +19,6 @@ line-ends-requires-2 c κs =
     let run = c .before .before .before .before .before .before .before .run in
     let line-ends = c .before .before .before .line-ends in
     (start .pre .0, start .pre .1, omega (arith, start .pre .2, line-ends .kept .0, run .kept .0), omega arith, omega arith, near-lower (start .args .side), data-rows (start .args .side) (start .pre .0) (line-ends .ensures .0))
-
-same-length : tie.Need-same-length
-same-length c = search needs
 
 returns : tie.Need-returns
 returns c =
@@ -41,12 +29,5 @@ returns c =
 
 pub corners-spec : {M : Type 1} → statement M
 corners-spec =
-    tie.close
-    (tie.spec
-    mul-run
-    run-requires
-    line-ends-requires
-    sub-line-ends
-    line-ends-requires-2
-    same-length
-    returns)
+    tie.close (tie.spec (λ c. search needs) (λ c κs. search needs) line-ends-requires (λ c. search needs) line-ends-requires-2
+    (λ c. search needs) returns)

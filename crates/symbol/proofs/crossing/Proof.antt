@@ -28,17 +28,11 @@ returns-2 c =
     let start = c .before .before .before in
     exactly refl (crossing-first (start .args .p .version) (start .args .n) (start .args .j) (c .if2 .taken)) none
 
-step-requires : tie.Need-step-requires
-step-requires c κs = search needs
-
 line-left-requires : tie.Need-line-left-requires
 line-left-requires c κs =
     let start = c .before .before .before .before .before in
     let fits = c .before .before .before .before .before .fits in
     (omega (arith, start .pre .0 .spaced .side-is, start .pre .0 .spaced .high), room-of (start .pre .0 .spaced .side-is) (start .pre .0 .room), on-square (start .pre .0 .spaced) (fits .x) (fits .y) (start .pre .2) (start .pre .1), omega (arith, c .step .ensures .1 .1))
-
-step-requires-2 : tie.Need-step-requires-2
-step-requires-2 c κs = search needs
 
 line-down-requires : tie.Need-line-down-requires
 line-down-requires c κs =
@@ -46,9 +40,6 @@ line-down-requires c κs =
     let fits = c .before .before .before .before .before .before .before .before .before .before .fits in
     let line-left = c .before .before .before .before .line-left in
     (omega (arith, start .pre .0 .spaced .side-is, start .pre .0 .spaced .high), omega (arith, line-left .kept .0, room-of (start .pre .0 .spaced .side-is) (start .pre .0 .room)), on-square (start .pre .0 .spaced) (fits .x) (fits .y) (start .pre .2) (start .pre .1), c .step2 .ensures .1 .0, omega (arith, c .step2 .ensures .1 .1))
-
-same-length : tie.Need-same-length
-same-length c = search needs
 
 returns-3 : tie.Need-returns-3
 returns-3 c =
@@ -63,15 +54,5 @@ returns-3 c =
 
 pub crossing-spec : {M : Type 1} → statement M
 crossing-spec =
-    tie.close
-    (tie.spec
-    add-if1
-    returns
-    add-if2
-    returns-2
-    step-requires
-    line-left-requires
-    step-requires-2
-    line-down-requires
-    same-length
-    returns-3)
+    tie.close (tie.spec add-if1 returns add-if2 returns-2 (λ c κs. search needs) line-left-requires (λ c κs. search needs)
+    line-down-requires (λ c. search needs) returns-3)

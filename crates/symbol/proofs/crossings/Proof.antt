@@ -66,9 +66,6 @@ loop-again c =
     let row-crossings = c .before .before .before .row-crossings in
     further (start .pre) (loop .inv) (row-inside (start .pre .spaced) (loop .n) (loop .inv .few) (loop .inv .here) (toZ-ofZ (ok (signed .result) (signed .ok)) ∙ signed .ensures ∙ ap pos (start .pre .spaced .side-is)) (loop-test .taken)) (row-crossings .ensures) (row-crossings .kept .0) (toZ-ofZ (ok (c .next-row .result) (c .next-row .ok)) ∙ c .next-row .ensures)
 
-same-length : tie.Need-same-length Inv-loop μ-loop
-same-length c = c .before .loop .inv .kept
-
 returns : tie.Need-returns Inv-loop μ-loop
 unfolding crossings
 returns c =
@@ -79,16 +76,5 @@ returns c =
 
 pub crossings-spec : {M : Type 1} → statement M
 crossings-spec =
-    tie.close
-    (tie.spec
-    Inv-loop
-    μ-loop
-    signed-requires
-    loop-holds
-    row-crossings-requires
-    next-row-requires
-    add-n
-    loop-less
-    loop-again
-    same-length
-    returns)
+    tie.close (tie.spec Inv-loop μ-loop signed-requires loop-holds row-crossings-requires next-row-requires add-n loop-less loop-again
+    (λ c. c .before .loop .inv .kept) returns)

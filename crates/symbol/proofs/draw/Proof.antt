@@ -1,5 +1,5 @@
 use Prim.Native.Nat.{ℕ, _-_, _≤_}
-use mathlib.Core.Path.{_≡_, refl, ap, subst, _∙_}
+use mathlib.Core.Path.{_≡_, ap, subst, _∙_}
 use lib.ListN.{getD}
 use borrow.Author.Needs.{needs}
 use native.Mathlib.Omega.{arith}
@@ -17,29 +17,11 @@ abbrev μ-loop : tie.MeasureT-loop
 loop-holds : tie.Need-loop-holds Inv-loop μ-loop
 loop-holds c = (stored-none _ _ _, omega arith, omega arith)
 
-slice-read-drawn : tie.Need-slice-read-drawn Inv-loop μ-loop
-slice-read-drawn c = omega (arith, c .before .before .loop .inv .0 .size)
-
-drawn-requires : tie.Need-drawn-requires Inv-loop μ-loop
-drawn-requires c κs = search needs
-
-slice-write-grid : tie.Need-slice-write-grid Inv-loop μ-loop
-slice-write-grid c = omega (arith, c .before .before .before .loop .inv .0 .size)
-
-add-i : tie.Need-add-i Inv-loop μ-loop
-add-i c = omega arith
-
-loop-less : tie.Need-loop-less Inv-loop μ-loop
-loop-less c = omega arith
-
 loop-again : tie.Need-loop-again Inv-loop μ-loop
 loop-again c =
     let loop = c .before .before .before .loop in
     let kind = c .before .before .before .before .before .args .kind in
     (stored-more (loop .inv .1) (omega (arith, loop .inv .0 .size)) (c .drawn .ensures ∙ ap (λ (a : ℕ). drawn a kind) (loop .inv .0 .after (loop .i) (omega arith))) (loop .inv .0), omega arith, omega arith)
-
-same-length : tie.Need-same-length Inv-loop μ-loop
-same-length c = c .before .loop .inv .0 .size
 
 returns : tie.Need-returns Inv-loop μ-loop
 returns c =
@@ -50,16 +32,6 @@ returns c =
 
 pub draw-spec : {M : Type 1} → statement M
 draw-spec =
-    tie.close
-    (tie.spec
-    Inv-loop
-    μ-loop
-    loop-holds
-    slice-read-drawn
-    drawn-requires
-    slice-write-grid
-    add-i
-    loop-less
-    loop-again
-    same-length
-    returns)
+    tie.close (tie.spec Inv-loop μ-loop loop-holds (λ c. omega (arith, c .before .before .loop .inv .0 .size)) (λ c κs. search needs)
+    (λ c. omega (arith, c .before .before .before .loop .inv .0 .size)) (λ c. omega arith) (λ c. omega arith) loop-again
+    (λ c. c .before .loop .inv .0 .size) returns)

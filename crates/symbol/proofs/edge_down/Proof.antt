@@ -24,12 +24,6 @@ abbrev μ-loop : tie.MeasureT-loop
 loop-holds : tie.Need-loop-holds Inv-loop μ-loop
 loop-holds c = (start _, omega arith, refl)
 
-sub-loop : tie.Need-sub-loop Inv-loop μ-loop
-sub-loop c = omega arith
-
-add-forth : tie.Need-add-forth Inv-loop μ-loop
-add-forth c = omega arith
-
 forth-requires : tie.Need-forth-requires Inv-loop μ-loop
 forth-requires c κs = let o = c .before .before .before .before in (near 1000 (o .fits .y) (omega arith), omega arith)
 
@@ -41,12 +35,6 @@ line-module-requires c κs =
     let e : mag (c .forth .result) < 1000 = subst (λ (z : ℤ). mag z < 1000) (sym (c .forth .ensures ∙ read (λ z. z +ℤ pos (loop .i + 1)) (o .fits .y))) (omega (arith, mag-forth (o .args .y) ((loop .i + 1)))) in
     (search needs, omega arith, near 1000 (o .fits .x) (omega arith), near 1000 (ok (c .forth .result) (c .forth .ok)) e)
 
-add-i : tie.Need-add-i Inv-loop μ-loop
-add-i c = omega arith
-
-loop-less : tie.Need-loop-less Inv-loop μ-loop
-loop-less c = omega arith
-
 loop-again : tie.Need-loop-again Inv-loop μ-loop
 loop-again c =
     let before = c .before .before .before .before .before .before .before .before in
@@ -57,9 +45,6 @@ loop-again c =
     let l = loop in
     (turn (λ n. lineModule (toZ w64 (ofZ w64 (o .args .x))) ((toZ w64 (ofZ w64 (o .args .y))) +ℤ pos (n + 1))) (l .i) (l .inv .0) (heard lineModule (o .fits .x) (ok (forth .result) (forth .ok)) (sym (toZ-ofZ (o .fits .x))) (forth .ensures) (line-module .ensures)), omega arith, line-module .kept .0 ∙ l .inv .2)
 
-same-length : tie.Need-same-length Inv-loop μ-loop
-same-length c = c .before .loop .inv .2
-
 returns : tie.Need-returns Inv-loop μ-loop
 unfolding lineDown
 returns c = let o = c .before .before .before in
@@ -69,17 +54,5 @@ returns c = let o = c .before .before .before in
 
 pub edge-down-spec : {M : Type 1} → statement M
 edge-down-spec =
-    tie.close
-    (tie.spec
-    Inv-loop
-    μ-loop
-    loop-holds
-    sub-loop
-    add-forth
-    forth-requires
-    line-module-requires
-    add-i
-    loop-less
-    loop-again
-    same-length
-    returns)
+    tie.close (tie.spec Inv-loop μ-loop loop-holds (λ c. omega arith) (λ c. omega arith) forth-requires line-module-requires
+    (λ c. omega arith) (λ c. omega arith) loop-again (λ c. c .before .loop .inv .2) returns)

@@ -4,18 +4,9 @@ use borrow.Author.Needs.{needs}
 use Rattle.symbol.proofs.finder_at.Statement.{statement}
 use Rattle.symbol.proofs.finder_at.Tie as tie
 
-mul-result : tie.Need-mul-result
-mul-result c = search needs
-
-index-1-result : tie.Need-index-1-result
-index-1-result c = search needs
-
-index-2-result : tie.Need-index-2-result
-index-2-result c = search needs
-
 returns : tie.Need-returns
 unfolding finders
 returns c = (search needs, row-small (c .before .args .corner) (c .before .args .row) (c .before .pre .0) (c .before .pre .1))
 
 pub finder-at-spec : {M : Type 1} → statement M
-finder-at-spec = tie.close (tie.spec mul-result index-1-result index-2-result returns)
+finder-at-spec = tie.close (tie.spec (λ c. search needs) (λ c. search needs) (λ c. search needs) returns)

@@ -10,15 +10,6 @@ mul-at c =
     let start = c .before in
     omega (arith, row-end (start .args .side) (start .args .row) (start .pre .3), square-le (start .args .side) (start .pre .1), start .pre .0, start .pre .2)
 
-finder-row-requires : tie.Need-finder-row-requires
-finder-row-requires c κs = search needs
-
-finder-row-requires-2 : tie.Need-finder-row-requires-2
-finder-row-requires-2 c κs = search needs
-
-mul-modules : tie.Need-mul-modules
-mul-modules c = search needs
-
 modules-requires : tie.Need-modules-requires
 modules-requires c κs =
     let start = c .before .before .before .before in
@@ -44,16 +35,10 @@ add-run-3 c =
     let start = c .before .before .before .before .before .before .before .before .before .before .before .before in
     omega (arith, row-end (start .args .side) (start .args .row) (start .pre .3), square-le (start .args .side) (start .pre .1), start .pre .0, start .pre .2)
 
-sub-run : tie.Need-sub-run
-sub-run c = search needs
-
 add-run-4 : tie.Need-add-run-4
 add-run-4 c =
     let start = c .before .before .before .before .before .before .before .before .before .before .before .before in
     omega (arith, row-end (start .args .side) (start .args .row) (start .pre .3), square-le (start .args .side) (start .pre .1), start .pre .0, start .pre .2)
-
-sub-run-2 : tie.Need-sub-run-2
-sub-run-2 c = search needs
 
 run-requires-2 : tie.Need-run-requires-2
 run-requires-2 c κs =
@@ -66,18 +51,12 @@ add-modules c =
     let start = c .before .before .before .before .before .before .before .before .before .before .before .before .before .before .before .before in
     omega (arith, row-end (start .args .side) (start .args .row) (start .pre .3), square-le (start .args .side) (start .pre .1), start .pre .0, start .pre .2)
 
-sub-modules : tie.Need-sub-modules
-sub-modules c = search needs
-
 modules-requires-2 : tie.Need-modules-requires-2
 modules-requires-2 c κs =
     let start = c .before .before .before .before .before .before .before .before .before .before .before .before .before .before .before .before in
     let modules = c .before .before .before .before .before .before .before .before .before .before .before .modules in
     let run = c .before .before .before .before .before .before .before .run in
     omega (arith, row-end (start .args .side) (start .args .row) (start .pre .3), square-le (start .args .side) (start .pre .1), start .pre .0, start .pre .2, c .before .before .before .run2 .kept .0, run .kept .0, modules .kept .0)
-
-same-length : tie.Need-same-length
-same-length c = search needs
 
 returns : tie.Need-returns
 returns c =
@@ -91,23 +70,6 @@ returns c =
 
 pub finder-line-spec : {M : Type 1} → statement M
 finder-line-spec =
-    tie.close
-    (tie.spec
-    mul-at
-    finder-row-requires
-    finder-row-requires-2
-    mul-modules
-    modules-requires
-    add-run
-    add-run-2
-    run-requires
-    add-run-3
-    sub-run
-    add-run-4
-    sub-run-2
-    run-requires-2
-    add-modules
-    sub-modules
-    modules-requires-2
-    same-length
-    returns)
+    tie.close (tie.spec mul-at (λ c κs. search needs) (λ c κs. search needs) (λ c. search needs) modules-requires add-run add-run-2
+    run-requires add-run-3 (λ c. search needs) add-run-4 (λ c. search needs) run-requires-2 add-modules (λ c. search needs)
+    modules-requires-2 (λ c. search needs) returns)

@@ -25,9 +25,6 @@ add-run-2 c =
     let start = c .before .before .before .before .before .before in
     omega (arith, row-end (start .args .side) (start .args .row) (start .pre .3), square-le (start .args .side) (start .pre .1), start .pre .0, start .pre .2)
 
-sub-run : tie.Need-sub-run
-sub-run c = search needs
-
 add-run-3 : tie.Need-add-run-3
 add-run-3 c =
     let start = c .before .before .before .before .before .before in
@@ -38,9 +35,6 @@ run-requires-2 c κs =
     let start = c .before .before .before .before .before .before in
     (omega (arith, row-end (start .args .side) (start .args .row) (start .pre .3), square-le (start .args .side) (start .pre .1), start .pre .0, start .pre .2), omega (arith, row-end (start .args .side) (start .args .row) (start .pre .3), square-le (start .args .side) (start .pre .1), start .pre .0, start .pre .2, c .before .before .before .run .kept .0))
 
-same-length : tie.Need-same-length
-same-length c = search needs
-
 returns : tie.Need-returns
 returns c =
     let start = c .before .before .before .before .before .before .before .before .before in
@@ -49,14 +43,4 @@ returns c =
 
 pub information-line-spec : {M : Type 1} → statement M
 information-line-spec =
-    tie.close
-    (tie.spec
-    mul-at
-    add-run
-    run-requires
-    add-run-2
-    sub-run
-    add-run-3
-    run-requires-2
-    same-length
-    returns)
+    tie.close (tie.spec mul-at add-run run-requires add-run-2 (λ c. search needs) add-run-3 run-requires-2 (λ c. search needs) returns)

@@ -15,9 +15,6 @@ returns c = too-low (c .before .before .args .version) (c .before .before .args 
 returns-2 : tie.Need-returns-2
 returns-2 c = too-high (c .before .before .before .args .version) (c .before .before .before .args .out .now) (c .before .if1 .left) (c .if2 .taken)
 
-side-requires : tie.Need-side-requires
-side-requires c κs = search needs
-
 mul-if3 : tie.Need-mul-if3
 mul-if3 c = omega (arith, square-le (c .side .result) (omega (arith, c .side .ensures, c .before .if2 .left)))
 
@@ -25,12 +22,6 @@ returns-3 : tie.Need-returns-3
 returns-3 c =
     let start = c .before .before .before .before .before in
     too-short (start .args .version) (start .args .out .now) (c .before .before .before .if1 .left) (c .before .before .if2 .left) (subst (λ (k : ℕ). length (start .args .out .now) < k * k) (c .before .side .ensures) (c .if3 .taken))
-
-corners-requires : tie.Need-corners-requires
-corners-requires c κs = search needs
-
-same-length : tie.Need-same-length
-same-length c = search needs
 
 returns-4 : tie.Need-returns-4
 returns-4 c =
@@ -41,9 +32,6 @@ returns-4 c =
     let if3 = c .before .before .before .before .before .if3 in
     small (start .args .version) (start .args .out .now) (if1 .left) (if2 .left) (subst (λ (k : ℕ). k * k ≤ length (start .args .out .now)) (side .ensures) (if3 .left)) (side .ensures) (c .before .before .before .corners .ensures) (c .if4 .taken)
 
-spacing-of-requires : tie.Need-spacing-of-requires
-spacing-of-requires c κs = search needs
-
 alignment-requires : tie.Need-alignment-requires
 alignment-requires c κs =
     let start = c .before .before .before .before .before .before .before .before .before .before .before .before in
@@ -51,9 +39,6 @@ alignment-requires c κs =
     let if3 = c .before .before .before .before .before .before .before .if3 in
     let corners = c .before .before .before .before .before .corners in
     record { spaced = c .spacing-of .ensures .0; room = subst (λ (k : ℕ). sideOf k * sideOf k ≤ length (corners .last .0)) (sym (c .spacing-of .ensures .1)) (omega (arith, corners .kept .0, subst (λ (k : ℕ). k * k ≤ length (start .args .out .now)) (side .ensures) (if3 .left))) }
-
-same-length-2 : tie.Need-same-length-2
-same-length-2 c = search needs
 
 returns-5 : tie.Need-returns-5
 returns-5 c =
@@ -68,17 +53,5 @@ returns-5 c =
 
 pub layout-spec : {M : Type 1} → statement M
 layout-spec =
-    tie.close
-    (tie.spec
-    returns
-    returns-2
-    side-requires
-    mul-if3
-    returns-3
-    corners-requires
-    same-length
-    returns-4
-    spacing-of-requires
-    alignment-requires
-    same-length-2
-    returns-5)
+    tie.close (tie.spec returns returns-2 (λ c κs. search needs) mul-if3 returns-3 (λ c κs. search needs) (λ c. search needs) returns-4
+    (λ c κs. search needs) alignment-requires (λ c. search needs) returns-5)

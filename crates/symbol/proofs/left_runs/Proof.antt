@@ -1,5 +1,4 @@
-use Prim.Native.Nat.{ℕ, _+_, _-_, _*_, _≤_, _<_}
-use mathlib.Core.Path.{_≡_, refl}
+use Prim.Native.Nat.{_+_, _-_, _≤_, _<_}
 use lib.Arith.{digits-lt}
 use native.Mathlib.Omega.{arith}
 use borrow.Author.Needs.{needs}
@@ -15,23 +14,11 @@ mul-at c = let start = c .before in omega (arith, digits-lt (start .pre .3) (sta
 add-at : tie.Need-add-at
 add-at c = let start = c .before in omega (arith, digits-lt (start .pre .3) (start .pre .2), square-le (start .args .side) (start .pre .0))
 
-least-requires : tie.Need-least-requires
-least-requires c κs = search needs
-
-sub-draw : tie.Need-sub-draw
-sub-draw c = omega (arith, c .least .ensures .1)
-
 add-draw : tie.Need-add-draw
 add-draw c = let start = c .before .before .before in omega (arith, digits-lt (start .pre .3) (start .pre .2), square-le (start .args .side) (start .pre .0))
 
 draw-requires : tie.Need-draw-requires
 draw-requires c κs = let start = c .before .before .before in (omega arith, omega (arith, digits-lt (start .pre .3) (start .pre .2), start .pre .1))
-
-add-if1 : tie.Need-add-if1
-add-if1 c = search needs
-
-same-length : tie.Need-same-length
-same-length c = search needs
 
 returns : tie.Need-returns
 returns c =
@@ -47,15 +34,6 @@ add-draw-2 c =
     let start = c .before .before .before .before .before .before .before .before in
     omega (arith, room-below (start .args .side) (start .args .column) (start .args .row) (start .pre .2) (start .pre .3) (omega (arith, c .before .if1 .left)), square-le (start .args .side) (start .pre .0))
 
-add-least : tie.Need-add-least
-add-least c = search needs
-
-least-requires-2 : tie.Need-least-requires-2
-least-requires-2 c κs = search needs
-
-sub-draw-2 : tie.Need-sub-draw-2
-sub-draw-2 c = omega (arith, c .least2 .ensures .1)
-
 add-draw-3 : tie.Need-add-draw-3
 add-draw-3 c =
     let start = c .before .before .before .before .before .before .before .before .before in
@@ -66,9 +44,6 @@ draw-requires-2 c κs =
     let start = c .before .before .before .before .before .before .before .before .before in
     let draw = c .before .before .before .before .before .draw in
     (omega arith, omega (arith, room-below (start .args .side) (start .args .column) (start .args .row) (start .pre .2) (start .pre .3) (omega (arith, c .before .before .if1 .left)), start .pre .1, draw .ensures .size))
-
-same-length-2 : tie.Need-same-length-2
-same-length-2 c = search needs
 
 returns-2 : tie.Need-returns-2
 returns-2 c =
@@ -85,22 +60,6 @@ returns-2 c =
 
 pub left-runs-spec : {M : Type 1} → statement M
 left-runs-spec =
-    tie.close
-    (tie.spec
-    mul-at
-    add-at
-    least-requires
-    sub-draw
-    add-draw
-    draw-requires
-    add-if1
-    same-length
-    returns
-    add-draw-2
-    add-least
-    least-requires-2
-    sub-draw-2
-    add-draw-3
-    draw-requires-2
-    same-length-2
-    returns-2)
+    tie.close (tie.spec mul-at add-at (λ c κs. search needs) (λ c. omega (arith, c .least .ensures .1)) add-draw draw-requires
+    (λ c. search needs) (λ c. search needs) returns add-draw-2 (λ c. search needs) (λ c κs. search needs)
+    (λ c. omega (arith, c .least2 .ensures .1)) add-draw-3 draw-requires-2 (λ c. search needs) returns-2)

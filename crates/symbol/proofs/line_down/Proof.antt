@@ -20,9 +20,6 @@ edge-down-requires c κs =
     let start = c .before .before .before in
     (start .pre .0, start .pre .1, number-near (start .args .side) (start .fits .x) (start .pre .2 .x-is) (start .pre .2 .x-in) (start .pre .0), number-near (start .args .side) (start .fits .y) (start .pre .2 .y-is) (start .pre .2 .y-in) (start .pre .0), start .pre .3, start .pre .4)
 
-same-length : tie.Need-same-length
-same-length c = search needs
-
 returns : tie.Need-returns
 returns c =
     let start = c .before .before .before .before .before .before in
@@ -36,19 +33,10 @@ edge-down-requires-2 c κs =
     let start = c .before .before .before .before in
     (start .pre .0, start .pre .1, number-near (start .args .side) (start .fits .x) (start .pre .2 .x-is) (start .pre .2 .x-in) (start .pre .0), number-near (start .args .side) (start .fits .y) (start .pre .2 .y-is) (start .pre .2 .y-in) (start .pre .0), start .pre .3, start .pre .4)
 
-same-length-2 : tie.Need-same-length-2
-same-length-2 c = search needs
-
 returns-2 : tie.Need-returns-2
 returns-2 c =
     let start = c .before .before .before .before .before .before .before in
     heard (λ x y. lineDown x y (start .args .height)) (start .fits .x) (start .fits .y) refl refl (c .before .before .edge-down2 .ensures)
-
-run-down-requires : tie.Need-run-down-requires
-run-down-requires c κs = search needs
-
-same-length-3 : tie.Need-same-length-3
-same-length-3 c = search needs
 
 returns-3 : tie.Need-returns-3
 returns-3 c =
@@ -57,17 +45,5 @@ returns-3 c =
 
 pub line-down-spec : {M : Type 1} → statement M
 line-down-spec =
-    tie.close
-    (tie.spec
-    cast-column
-    cast-row
-    edge-down-requires
-    same-length
-    returns
-    add-if2
-    edge-down-requires-2
-    same-length-2
-    returns-2
-    run-down-requires
-    same-length-3
-    returns-3)
+    tie.close (tie.spec cast-column cast-row edge-down-requires (λ c. search needs) returns add-if2 edge-down-requires-2
+    (λ c. search needs) returns-2 (λ c κs. search needs) (λ c. search needs) returns-3)

@@ -29,9 +29,6 @@ add-row c =
     let loop-test = c .before .before .before .before .loop-test in
     omega (arith, loop-test .taken, start .pre .4, start .pre .1)
 
-loop-less : tie.Need-loop-less Inv-loop μ-loop
-loop-less c = omega (arith, c .before .before .before .before .loop-test .taken)
-
 loop-again : tie.Need-loop-again Inv-loop μ-loop
 loop-again c =
     let start = c .before .before .before .before .before .before .before in
@@ -39,9 +36,6 @@ loop-again c =
     let loop-test = c .before .before .before .before .loop-test in
     let line = c .before .before .line in
     let l : loop .row < start .args .side = omega (arith, loop-test .taken, start .pre .4) in (subst (λ (n : ℕ). UpTo (cornerKind (start .args .side)) (start .args .side * start .args .side) n (line .last .0)) (row-next (start .args .side) (loop .row)) (row-done (start .args .side) (loop .row) (start .pre .0) l (loop .inv .0) (line .ensures)), beyond-next (loop .inv .1) (row-beyond (start .args .side) (loop .row) (start .pre .0) l (line .ensures)), omega (arith, loop .inv .2), omega (arith, loop-test .taken))
-
-same-length : tie.Need-same-length Inv-loop μ-loop
-same-length c = c .before .loop .inv .1 .size
 
 returns : tie.Need-returns Inv-loop μ-loop
 returns c =
@@ -51,14 +45,5 @@ returns c =
 
 pub line-ends-spec : {M : Type 1} → statement M
 line-ends-spec =
-    tie.close
-    (tie.spec
-    Inv-loop
-    μ-loop
-    loop-holds
-    line-requires
-    add-row
-    loop-less
-    loop-again
-    same-length
-    returns)
+    tie.close (tie.spec Inv-loop μ-loop loop-holds line-requires add-row
+    (λ c. omega (arith, c .before .before .before .before .loop-test .taken)) loop-again (λ c. c .before .loop .inv .1 .size) returns)

@@ -11,17 +11,10 @@ cast-left-runs c = let start = c .before .before in number-is (start .args .side
 cast-left-runs-2 : tie.Need-cast-left-runs-2
 cast-left-runs-2 c = let start = c .before .before in number-is (start .args .side) (start .fits .y) (start .pre .2 .y-is) (start .pre .2 .y-in) (start .pre .0)
 
-left-runs-requires : tie.Need-left-runs-requires
-left-runs-requires c κs = search needs
-
-same-length : tie.Need-same-length
-same-length c = search needs
-
 returns : tie.Need-returns
 returns c =
     let start = c .before .before .before .before .before in
     numbered (λ x y. lineLeft x y (start .args .width)) (start .fits .x) (start .fits .y) (start .pre .2 .x-is) (start .pre .2 .y-is) (c .before .before .left-runs .ensures)
 
 pub line-left-spec : {M : Type 1} → statement M
-line-left-spec =
-    tie.close (tie.spec cast-left-runs cast-left-runs-2 left-runs-requires same-length returns)
+line-left-spec = tie.close (tie.spec cast-left-runs cast-left-runs-2 (λ c κs. search needs) (λ c. search needs) returns)

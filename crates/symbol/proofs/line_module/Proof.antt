@@ -1,27 +1,12 @@
 use Rattle.symbol.specs.Layout.{lineModule, plot, light, dark}
 use lib.IntN.{pos, _+ℤ_, _-ℤ_}
-use mathlib.Core.List.{[], _∷_}
+use mathlib.Core.List.{_∷_}
 use mathlib.Core.Path.{refl, _∙_}
 use Rattle.symbol.proofs.Coordinates.{read, ok}
 use Rattle.symbol.proofs.Plots.{next, heard}
 use borrow.Author.Needs.{needs}
 use Rattle.symbol.proofs.line_module.Statement.{statement}
 use Rattle.symbol.proofs.line_module.Tie as tie
-
-plot-requires : tie.Need-plot-requires
-plot-requires c κs = search needs
-
-back-requires : tie.Need-back-requires
-back-requires c κs = search needs
-
-forth-requires : tie.Need-forth-requires
-forth-requires c κs = search needs
-
-plot-requires-2 : tie.Need-plot-requires-2
-plot-requires-2 c κs = search needs
-
-same-length : tie.Need-same-length
-same-length c = search needs
 
 returns : tie.Need-returns
 unfolding lineModule
@@ -37,5 +22,5 @@ returns c =
 
 pub line-module-spec : {M : Type 1} → statement M
 line-module-spec =
-    tie.close
-    (tie.spec plot-requires back-requires forth-requires plot-requires-2 same-length returns)
+    tie.close (tie.spec (λ c κs. search needs) (λ c κs. search needs) (λ c κs. search needs) (λ c κs. search needs) (λ c. search needs)
+    returns)

@@ -1,6 +1,6 @@
 use Prim.Native.Nat.{_+_}
 use mathlib.Core.Path.{refl, sym, ap}
-use mathlib.Core.List.{[], _∷_}
+use mathlib.Core.List.{_∷_}
 use lib.IntN.{ℤ, pos}
 use borrow.Author.Needs.{needs}
 use Rattle.symbol.specs.Layout.{plot, lineModule}
@@ -8,21 +8,6 @@ use Rattle.symbol.proofs.Plots.{next, exactly}
 use Rattle.symbol.proofs.Coordinates.{difference}
 use Rattle.symbol.proofs.module_at.Statement.{statement}
 use Rattle.symbol.proofs.module_at.Tie as tie
-
-plot-at-requires : tie.Need-plot-at-requires
-plot-at-requires c κs = search needs
-
-sub-plot-at : tie.Need-sub-plot-at
-sub-plot-at c = search needs
-
-add-plot-at : tie.Need-add-plot-at
-add-plot-at c = search needs
-
-plot-at-requires-2 : tie.Need-plot-at-requires-2
-plot-at-requires-2 c κs = search needs
-
-same-length : tie.Need-same-length
-same-length c = search needs
 
 returns : tie.Need-returns
 unfolding lineModule
@@ -33,5 +18,5 @@ returns c =
 
 pub module-at-spec : {M : Type 1} → statement M
 module-at-spec =
-    tie.close
-    (tie.spec plot-at-requires sub-plot-at add-plot-at plot-at-requires-2 same-length returns)
+    tie.close (tie.spec (λ c κs. search needs) (λ c. search needs) (λ c. search needs) (λ c κs. search needs) (λ c. search needs)
+    returns)

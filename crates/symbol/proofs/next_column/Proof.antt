@@ -8,9 +8,6 @@ use borrow.Author.Needs.{needs}
 use Rattle.symbol.proofs.next_column.Statement.{statement}
 use Rattle.symbol.proofs.next_column.Tie as tie
 
-step-requires : tie.Need-step-requires
-step-requires c κs = search needs
-
 back-requires : tie.Need-back-requires
 back-requires c κs =
     let start = c .before in
@@ -23,4 +20,4 @@ returns c =
     toZ-ofZ (ok (c .back .result) (c .back .ok)) ∙ c .back .ensures ∙ read (λ z. z -ℤ pos (step .result)) (c .before .before .fits .x) ∙ column-more (start .args .p .version) (start .args .n) (step .result) (start .pre .1 .here) (step .ensures .0)
 
 pub next-column-spec : {M : Type 1} → statement M
-next-column-spec = tie.close (tie.spec step-requires back-requires returns)
+next-column-spec = tie.close (tie.spec (λ c κs. search needs) back-requires returns)

@@ -3,7 +3,7 @@ use Rattle.symbol.proofs.Coordinates.{place-left, place-above, below-ze
 use Rattle.symbol.specs.Layout.{plot, plotAll}
 use Prim.Native.Nat.{_*_}
 use mathlib.Core.Bool.{true, false}
-use mathlib.Core.List.{[], _∷_}
+use mathlib.Core.List.{_∷_}
 use native.Mathlib.Omega.{arith}
 use borrow.Author.Needs.{needs}
 use Rattle.symbol.proofs.plot.Statement.{statement}
@@ -41,12 +41,6 @@ returns-4 c =
     let fits = start .fits in
     record { is = plot-out (start .args .side) (start .args .x) (start .args .y) (start .args .kind) (start .args .grid .now) (start .args .side * start .args .side) (under (start .args .side) (start .args .x) (start .args .y) (fits .x) (fits .y) (c .before .if3 .left) (c .if4 .taken)) (omega arith) }
 
-plot-at-requires : tie.Need-plot-at-requires
-plot-at-requires c κs = search needs
-
-same-length : tie.Need-same-length
-same-length c = search needs
-
 returns-5 : tie.Need-returns-5
 returns-5 c =
     let start = c .before .before .before .before .before .before .before .before .before in
@@ -56,14 +50,4 @@ returns-5 c =
 
 pub plot-spec : {M : Type 1} → statement M
 plot-spec =
-    tie.close
-    (tie.spec
-    returns
-    returns-2
-    cast-column
-    cast-row
-    returns-3
-    returns-4
-    plot-at-requires
-    same-length
-    returns-5)
+    tie.close (tie.spec returns returns-2 cast-column cast-row returns-3 returns-4 (λ c κs. search needs) (λ c. search needs) returns-5)

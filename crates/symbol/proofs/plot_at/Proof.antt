@@ -28,9 +28,6 @@ returns c =
 slice-write-grid : tie.Need-slice-write-grid
 slice-write-grid c = let start = c .before .before in omega (arith, digits-lt (start .pre .3) (start .pre .2), start .pre .1)
 
-same-length : tie.Need-same-length
-same-length c = search needs
-
 returns-2 : tie.Need-returns-2
 unfolding plotAll
 returns-2 c =
@@ -38,5 +35,4 @@ returns-2 c =
     record { is = plot-set (start .args .side) (pos (start .args .column)) (pos (start .args .row)) (start .args .kind) (start .args .grid .now) (start .args .row * start .args .side + start .args .column) (sym (whole-in (start .args .side) (start .args .column) (start .args .row) (start .pre .2) (start .pre .3))) (digits-lt (start .pre .3) (start .pre .2)) (c .if1 .left) }
 
 pub plot-at-spec : {M : Type 1} → statement M
-plot-at-spec =
-    tie.close (tie.spec mul-i add-i slice-read-if1 returns slice-write-grid same-length returns-2)
+plot-at-spec = tie.close (tie.spec mul-i add-i slice-read-if1 returns slice-write-grid (λ c. search needs) returns-2)

@@ -17,9 +17,6 @@ Inv-loop grid₀ p n y x₀ j₀ grid x j = Walk p columnOf (crossing (p .versio
 abbrev μ-loop : tie.MeasureT-loop
 μ-loop grid₀ p n y x₀ j₀ grid x j = mOf (p .version) + 2 - j
 
-sub-signed : tie.Need-sub-signed Inv-loop μ-loop
-sub-signed c = omega (arith, c .before .before .pre .0 .spaced .side-is)
-
 signed-requires : tie.Need-signed-requires Inv-loop μ-loop
 signed-requires c κs = omega (arith, c .before .before .pre .0 .spaced .side-is, c .before .before .pre .0 .spaced .high)
 
@@ -64,9 +61,6 @@ loop-again c =
     let crossing = c .before .before .before .crossing in
     further (start .pre .0) (loop .inv) (column-inside (start .pre .0 .spaced) (loop .j) (loop .inv .few) (loop .inv .here) (loop-test .taken)) (crossing .ensures) (crossing .kept .0) (toZ-ofZ (ok (c .next-column .result) (c .next-column .ok)) ∙ c .next-column .ensures)
 
-same-length : tie.Need-same-length Inv-loop μ-loop
-same-length c = c .before .loop .inv .kept
-
 returns : tie.Need-returns Inv-loop μ-loop
 returns c =
     let start = c .before .before .before .before .before in
@@ -75,17 +69,5 @@ returns c =
 
 pub row-crossings-spec : {M : Type 1} → statement M
 row-crossings-spec =
-    tie.close
-    (tie.spec
-    Inv-loop
-    μ-loop
-    sub-signed
-    signed-requires
-    loop-holds
-    crossing-requires
-    next-column-requires
-    add-j
-    loop-less
-    loop-again
-    same-length
-    returns)
+    tie.close (tie.spec Inv-loop μ-loop (λ c. omega (arith, c .before .before .pre .0 .spaced .side-is)) signed-requires loop-holds
+    crossing-requires next-column-requires add-j loop-less loop-again (λ c. c .before .loop .inv .kept) returns)

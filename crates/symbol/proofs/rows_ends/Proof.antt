@@ -64,9 +64,6 @@ loop-again c =
     let row-ends = c .before .before .before .row-ends in
     further (start .pre) (loop .inv) (row-inside (start .pre .spaced) (loop .n) (loop .inv .few) (loop .inv .here) (toZ-ofZ (ok (signed .result) (signed .ok)) ∙ signed .ensures ∙ ap pos (start .pre .spaced .side-is)) (loop-test .taken)) (row-ends .ensures) (row-ends .kept .0) (toZ-ofZ (ok (c .next-row .result) (c .next-row .ok)) ∙ c .next-row .ensures)
 
-same-length : tie.Need-same-length Inv-loop μ-loop
-same-length c = c .before .loop .inv .kept
-
 returns : tie.Need-returns Inv-loop μ-loop
 returns c =
     let start = c .before .before .before .before in
@@ -76,16 +73,5 @@ returns c =
 
 pub rows-ends-spec : {M : Type 1} → statement M
 rows-ends-spec =
-    tie.close
-    (tie.spec
-    Inv-loop
-    μ-loop
-    signed-requires
-    loop-holds
-    row-ends-requires
-    next-row-requires
-    add-n
-    loop-less
-    loop-again
-    same-length
-    returns)
+    tie.close (tie.spec Inv-loop μ-loop signed-requires loop-holds row-ends-requires next-row-requires add-n loop-less loop-again
+    (λ c. c .before .loop .inv .kept) returns)

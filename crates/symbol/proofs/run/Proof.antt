@@ -15,20 +15,8 @@ abbrev μ-loop : tie.MeasureT-loop
 loop-holds : tie.Need-loop-holds Inv-loop μ-loop
 loop-holds c = (stored-none _ _ _, omega arith, omega arith)
 
-slice-write-out : tie.Need-slice-write-out Inv-loop μ-loop
-slice-write-out c = omega (arith, c .before .loop .inv .0 .size)
-
-add-i : tie.Need-add-i Inv-loop μ-loop
-add-i c = omega arith
-
-loop-less : tie.Need-loop-less Inv-loop μ-loop
-loop-less c = omega arith
-
 loop-again : tie.Need-loop-again Inv-loop μ-loop
 loop-again c = (stored-more (c .before .loop .inv .1) (omega (arith, c .before .loop .inv .0 .size)) refl (c .before .loop .inv .0), omega arith, omega arith)
-
-same-length : tie.Need-same-length Inv-loop μ-loop
-same-length c = c .before .loop .inv .0 .size
 
 returns : tie.Need-returns Inv-loop μ-loop
 returns c =
@@ -38,14 +26,5 @@ returns c =
 
 pub run-spec : {M : Type 1} → statement M
 run-spec =
-    tie.close
-    (tie.spec
-    Inv-loop
-    μ-loop
-    loop-holds
-    slice-write-out
-    add-i
-    loop-less
-    loop-again
-    same-length
-    returns)
+    tie.close (tie.spec Inv-loop μ-loop loop-holds (λ c. omega (arith, c .before .loop .inv .0 .size)) (λ c. omega arith)
+    (λ c. omega arith) loop-again (λ c. c .before .loop .inv .0 .size) returns)

@@ -18,26 +18,11 @@ abbrev μ-loop : tie.MeasureT-loop
 loop-holds : tie.Need-loop-holds Inv-loop μ-loop
 loop-holds c = (start _, omega arith, refl)
 
-sub-loop : tie.Need-sub-loop Inv-loop μ-loop
-sub-loop c = omega arith
-
-add-module-at : tie.Need-add-module-at Inv-loop μ-loop
-add-module-at c = omega arith
-
-add-module-at-2 : tie.Need-add-module-at-2 Inv-loop μ-loop
-add-module-at-2 c = omega arith
-
 module-at-requires : tie.Need-module-at-requires Inv-loop μ-loop
 module-at-requires c κs =
     let loop = c .before .before .loop in
     let o = c .before .before .before .before in
     (o .pre .0, omega (arith, loop .inv .2, o .pre .1), o .pre .2, o .pre .3, omega arith)
-
-add-i : tie.Need-add-i Inv-loop μ-loop
-add-i c = omega arith
-
-loop-less : tie.Need-loop-less Inv-loop μ-loop
-loop-less c = omega arith
 
 loop-again : tie.Need-loop-again Inv-loop μ-loop
 loop-again c =
@@ -45,9 +30,6 @@ loop-again c =
     let loop = c .before .before .before .before .before .loop in
     let module-at = c .before .before .module-at in
     (turn (λ n. lineModule (pos (o .args .column)) (pos (o .args .row) +ℤ pos (n + 1))) (loop .i) (loop .inv .0) (module-at .ensures), omega arith, module-at .kept .0 ∙ loop .inv .2)
-
-same-length : tie.Need-same-length Inv-loop μ-loop
-same-length c = c .before .loop .inv .2
 
 returns : tie.Need-returns Inv-loop μ-loop
 unfolding lineDown
@@ -59,17 +41,5 @@ returns c =
 
 pub run-down-spec : {M : Type 1} → statement M
 run-down-spec =
-    tie.close
-    (tie.spec
-    Inv-loop
-    μ-loop
-    loop-holds
-    sub-loop
-    add-module-at
-    add-module-at-2
-    module-at-requires
-    add-i
-    loop-less
-    loop-again
-    same-length
-    returns)
+    tie.close (tie.spec Inv-loop μ-loop loop-holds (λ c. omega arith) (λ c. omega arith) (λ c. omega arith) module-at-requires
+    (λ c. omega arith) (λ c. omega arith) loop-again (λ c. c .before .loop .inv .2) returns)

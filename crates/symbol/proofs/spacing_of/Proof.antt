@@ -4,36 +4,6 @@ use borrow.Author.Needs.{needs}
 use Rattle.symbol.proofs.spacing_of.Statement.{statement}
 use Rattle.symbol.proofs.spacing_of.Tie as tie
 
-side-requires : tie.Need-side-requires
-side-requires c κs = search needs
-
-sub-wide : tie.Need-sub-wide
-sub-wide c = search needs
-
-array-read-wide : tie.Need-array-read-wide
-array-read-wide c = search needs
-
-wide-requires : tie.Need-wide-requires
-wide-requires c κs = search needs
-
-sub-wide-2 : tie.Need-sub-wide-2
-sub-wide-2 c = search needs
-
-array-read-wide-2 : tie.Need-array-read-wide-2
-array-read-wide-2 c = search needs
-
-wide-requires-2 : tie.Need-wide-requires-2
-wide-requires-2 c κs = search needs
-
-sub-wide-3 : tie.Need-sub-wide-3
-sub-wide-3 c = search needs
-
-array-read-wide-3 : tie.Need-array-read-wide-3
-array-read-wide-3 c = search needs
-
-wide-requires-3 : tie.Need-wide-requires-3
-wide-requires-3 c κs = search needs
-
 returns : tie.Need-returns
 unfolding kOf rOf mOf ks rs ms
 returns c =
@@ -42,16 +12,5 @@ returns c =
 
 pub spacing-of-spec : {M : Type 1} → statement M
 spacing-of-spec =
-    tie.close
-    (tie.spec
-    side-requires
-    sub-wide
-    array-read-wide
-    wide-requires
-    sub-wide-2
-    array-read-wide-2
-    wide-requires-2
-    sub-wide-3
-    array-read-wide-3
-    wide-requires-3
-    returns)
+    tie.close (tie.spec (λ c κs. search needs) (λ c. search needs) (λ c. search needs) (λ c κs. search needs) (λ c. search needs)
+    (λ c. search needs) (λ c κs. search needs) (λ c. search needs) (λ c. search needs) (λ c κs. search needs) returns)

@@ -1,30 +1,12 @@
 use Rattle.symbol.specs.Layout.{threeAt, plot, light}
 use lib.IntN.{pos, _+ℤ_, _-ℤ_}
-use mathlib.Core.List.{[], _∷_}
+use mathlib.Core.List.{_∷_}
 use mathlib.Core.Path.{refl, _∙_}
 use Rattle.symbol.proofs.Coordinates.{read, ok}
 use Rattle.symbol.proofs.Plots.{next, heard}
 use borrow.Author.Needs.{needs}
 use Rattle.symbol.proofs.three.Statement.{statement}
 use Rattle.symbol.proofs.three.Tie as tie
-
-back-requires : tie.Need-back-requires
-back-requires c κs = search needs
-
-plot-requires : tie.Need-plot-requires
-plot-requires c κs = search needs
-
-plot-requires-2 : tie.Need-plot-requires-2
-plot-requires-2 c κs = search needs
-
-forth-requires : tie.Need-forth-requires
-forth-requires c κs = search needs
-
-plot-requires-3 : tie.Need-plot-requires-3
-plot-requires-3 c κs = search needs
-
-same-length : tie.Need-same-length
-same-length c = search needs
 
 returns : tie.Need-returns
 unfolding threeAt
@@ -42,12 +24,5 @@ returns c =
 
 pub three-spec : {M : Type 1} → statement M
 three-spec =
-    tie.close
-    (tie.spec
-    back-requires
-    plot-requires
-    plot-requires-2
-    forth-requires
-    plot-requires-3
-    same-length
-    returns)
+    tie.close (tie.spec (λ c κs. search needs) (λ c κs. search needs) (λ c κs. search needs) (λ c κs. search needs)
+    (λ c κs. search needs) (λ c. search needs) returns)

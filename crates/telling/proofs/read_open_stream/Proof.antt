@@ -36,12 +36,5 @@ returns c =
 
 pub read-open-stream-spec : {M : Type 1} → statement M
 read-open-stream-spec =
-    tie.close
-    (tie.spec
-    (λ c κs. search needs)
-    (λ c. search needs)
-    read-open-requires
-    (λ c. search needs)
-    to-stream-requires
-    (λ c. search needs)
-    returns)
+    tie.close (tie.spec (λ c κs. search needs) (λ c. search needs) read-open-requires (λ c. search needs) to-stream-requires
+    (λ c. search needs) returns)

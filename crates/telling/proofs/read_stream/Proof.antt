@@ -30,13 +30,5 @@ returns c =
 
 pub read-stream-spec : {M : Type 1} → statement M
 read-stream-spec =
-    tie.close
-    (tie.spec
-    (λ c κs. search needs)
-    (λ c κs. search needs)
-    (λ c. search needs)
-    read-codewords-requires
-    (λ c. search needs)
-    (λ c κs. search needs)
-    (λ c. search needs)
-    returns)
+    tie.close (tie.spec (λ c κs. search needs) (λ c κs. search needs) (λ c. search needs) read-codewords-requires (λ c. search needs)
+    (λ c κs. search needs) (λ c. search needs) returns)

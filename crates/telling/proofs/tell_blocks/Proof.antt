@@ -38,21 +38,6 @@ returns-2 c =
 
 pub tell-blocks-spec : {M : Type 1} → statement M
 tell-blocks-spec =
-    tie.close
-    (tie.spec
-    (λ c. search needs)
-    read-stream-requires
-    (λ c. search needs)
-    tell-stream-requires
-    (λ c. search needs)
-    (λ c. search needs)
-    (λ c. search needs)
-    returns
-    (λ c. search needs)
-    read-stream-requires-2
-    (λ c. search needs)
-    tell-stream-requires-2
-    (λ c. search needs)
-    (λ c. search needs)
-    (λ c. search needs)
-    returns-2)
+    tie.close (tie.spec (λ c. search needs) read-stream-requires (λ c. search needs) tell-stream-requires (λ c. search needs)
+    (λ c. search needs) (λ c. search needs) returns (λ c. search needs) read-stream-requires-2 (λ c. search needs)
+    tell-stream-requires-2 (λ c. search needs) (λ c. search needs) (λ c. search needs) returns-2)

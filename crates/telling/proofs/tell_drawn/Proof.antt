@@ -30,16 +30,5 @@ returns-2 c =
 
 pub tell-drawn-spec : {M : Type 1} → statement M
 tell-drawn-spec =
-    tie.close
-    (tie.spec
-    (λ c κs. search needs)
-    (λ c κs. search needs)
-    (λ c. search needs)
-    (λ c κs. search needs)
-    (λ c. search needs)
-    returns
-    tell-blocks-requires
-    (λ c. search needs)
-    (λ c. search needs)
-    (λ c. search needs)
-    returns-2)
+    tie.close (tie.spec (λ c κs. search needs) (λ c κs. search needs) (λ c. search needs) (λ c κs. search needs) (λ c. search needs)
+    returns tell-blocks-requires (λ c. search needs) (λ c. search needs) (λ c. search needs) returns-2)

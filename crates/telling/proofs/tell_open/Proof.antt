@@ -24,13 +24,5 @@ returns c =
 
 pub tell-open-spec : {M : Type 1} → statement M
 tell-open-spec =
-    tie.close
-    (tie.spec
-    (λ c. search needs)
-    read-open-stream-requires
-    (λ c. search needs)
-    tell-stream-requires
-    (λ c. search needs)
-    (λ c. search needs)
-    (λ c. search needs)
-    returns)
+    tie.close (tie.spec (λ c. search needs) read-open-stream-requires (λ c. search needs) tell-stream-requires (λ c. search needs)
+    (λ c. search needs) (λ c. search needs) returns)

@@ -38,20 +38,6 @@ returns-2 c =
 
 pub tell-stream-spec : {M : Type 1} → statement M
 tell-stream-spec =
-    tie.close
-    (tie.spec
-    (λ c κs. search needs)
-    (λ c. search needs)
-    correct-blocks-requires
-    (λ c. search needs)
-    (λ c. search needs)
-    tell-segments-requires
-    (λ c. search needs)
-    (λ c κs. search needs)
-    (λ c. search needs)
-    (λ c. search needs)
-    (λ c. search needs)
-    (λ c. search needs)
-    returns
-    (λ c. search needs)
-    returns-2)
+    tie.close (tie.spec (λ c κs. search needs) (λ c. search needs) correct-blocks-requires (λ c. search needs) (λ c. search needs)
+    tell-segments-requires (λ c. search needs) (λ c κs. search needs) (λ c. search needs) (λ c. search needs) (λ c. search needs)
+    (λ c. search needs) returns (λ c. search needs) returns-2)

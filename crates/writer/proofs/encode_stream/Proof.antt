@@ -17,11 +17,4 @@ returns c =
     stream-encoded (o .args .script .now) (o .args .payload .now) _ _ (o .args .stream .now) _ _ (o .pre .0 .3) (c .before .before .before .before .before .before .before .encode .ensures) (o .pre .0 .2) (w .kept .0) (w .ensures)
 
 pub encode-stream-spec : {M : Type 1} → statement M
-encode-stream-spec =
-    tie.close
-    (tie.spec
-    (λ c κs. search needs)
-    write-blocks-requires
-    (λ c. search needs)
-    (λ c. search needs)
-    returns)
+encode-stream-spec = tie.close (tie.spec (λ c κs. search needs) write-blocks-requires (λ c. search needs) (λ c. search needs) returns)

@@ -8,20 +8,11 @@ use borrow.Author.Needs.{needs}
 use Rattle.writer.proofs.place_refusal.Statement.{statement}
 use Rattle.writer.proofs.place_refusal.Tie as tie
 
-side-requires : tie.Need-side-requires
-side-requires c κs = search needs
-
-total-codewords-requires : tie.Need-total-codewords-requires
-total-codewords-requires c κs = search needs
-
 mul-data-modules : tie.Need-mul-data-modules
 mul-data-modules c = omega (arith, square-small _ _ (c .before .before .before .pre .ranged .high) (c .before .side .ensures))
 
 data-modules-requires : tie.Need-data-modules-requires
 data-modules-requires c κs = omega (arith, ap (λ (n : ℕ). n * n) (c .before .side .ensures), c .before .before .before .pre .long)
-
-mul-if1 : tie.Need-mul-if1
-mul-if1 c = search needs
 
 returns : tie.Need-returns
 returns c =
@@ -48,14 +39,5 @@ returns-3 c =
 
 pub place-refusal-spec : {M : Type 1} → statement M
 place-refusal-spec =
-    tie.close
-    (tie.spec
-    side-requires
-    total-codewords-requires
-    mul-data-modules
-    data-modules-requires
-    mul-if1
-    returns
-    mul-if2
-    returns-2
-    returns-3)
+    tie.close (tie.spec (λ c κs. search needs) (λ c κs. search needs) mul-data-modules data-modules-requires (λ c. search needs) returns
+    mul-if2 returns-2 returns-3)

@@ -23,12 +23,5 @@ returns c =
 
 pub place-stream-spec : {M : Type 1} → statement M
 place-stream-spec =
-    tie.close
-    (tie.spec
-    (λ c κs. search needs)
-    (λ c κs. search needs)
-    (λ c κs. search needs)
-    place-codewords-requires
-    (λ c. search needs)
-    (λ c. search needs)
-    returns)
+    tie.close (tie.spec (λ c κs. search needs) (λ c κs. search needs) (λ c κs. search needs) place-codewords-requires
+    (λ c. search needs) (λ c. search needs) returns)

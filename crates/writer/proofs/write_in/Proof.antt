@@ -19,4 +19,6 @@ write-ready-requires c κs =
     ready _ (start .args .kinds .now) _ R (start .pre (R .high)) (c .before .before .before .before .layout .ensures .1)
 
 pub write-in-spec : {M : Type 1} → statement M
-write-in-spec = tie.close (tie.spec (λ c κs. search needs) (λ c. search needs) (λ c. search needs) returns (λ c κs. search needs) write-ready-requires (λ c. search needs) (λ c. search needs) (λ c. search needs))
+write-in-spec =
+    tie.close (tie.spec (λ c κs. search needs) (λ c. search needs) (λ c. search needs) returns (λ c κs. search needs)
+    write-ready-requires (λ c. search needs) (λ c. search needs) (λ c. search needs))

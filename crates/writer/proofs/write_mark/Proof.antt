@@ -19,15 +19,5 @@ write-mark-in-requires-2 c κs =
 
 pub write-mark-spec : {M : Type 1} → statement M
 write-mark-spec =
-    tie.close
-    (tie.spec
-    (λ c. search needs)
-    (λ c. search needs)
-    write-mark-in-requires
-    (λ c. search needs)
-    (λ c. search needs)
-    (λ c. search needs)
-    (λ c. search needs)
-    write-mark-in-requires-2
-    (λ c. search needs)
-    (λ c. search needs))
+    tie.close (tie.spec (λ c. search needs) (λ c. search needs) write-mark-in-requires (λ c. search needs) (λ c. search needs)
+    (λ c. search needs) (λ c. search needs) write-mark-in-requires-2 (λ c. search needs) (λ c. search needs))

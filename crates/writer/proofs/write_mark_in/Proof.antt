@@ -56,16 +56,6 @@ returns c =
 
 pub write-mark-in-spec : {M : Type 1} → statement M
 write-mark-in-spec =
-    tie.close
-    (tie.spec
-    (λ c κs. search needs)
-    data-length-requires
-    slice-relend-prefix-encode-stream
-    slice-aggregate-encode-stream
-    encode-stream-requires
-    place-stream-requires
-    write-info-requires
-    (λ c. search needs)
-    (λ c. search needs)
-    (λ c. search needs)
+    tie.close (tie.spec (λ c κs. search needs) data-length-requires slice-relend-prefix-encode-stream slice-aggregate-encode-stream
+    encode-stream-requires place-stream-requires write-info-requires (λ c. search needs) (λ c. search needs) (λ c. search needs)
     returns)

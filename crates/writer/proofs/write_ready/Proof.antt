@@ -26,15 +26,5 @@ returns-3 c =
 
 pub write-ready-spec : {M : Type 1} → statement M
 write-ready-spec =
-    tie.close
-    (tie.spec
-    (λ c κs. search needs)
-    returns
-    (λ c κs. search needs)
-    (λ c. search needs)
-    (λ c κs. search needs)
-    returns-2
-    (λ c. search needs)
-    write-mark-requires
-    (λ c. search needs)
-    returns-3)
+    tie.close (tie.spec (λ c κs. search needs) returns (λ c κs. search needs) (λ c. search needs) (λ c κs. search needs) returns-2
+    (λ c. search needs) write-mark-requires (λ c. search needs) returns-3)

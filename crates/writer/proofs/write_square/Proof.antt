@@ -20,4 +20,6 @@ write-in-requires-2 c κs =
     λ h. square-le (sideOf (start .args .version)) (omega arith)
 
 pub write-square-spec : {M : Type 1} → statement M
-write-square-spec = tie.close (tie.spec (λ c. search needs) write-in-requires (λ c. search needs) (λ c. search needs) (λ c. search needs) write-in-requires-2 (λ c. search needs) (λ c. search needs))
+write-square-spec =
+    tie.close (tie.spec (λ c. search needs) write-in-requires (λ c. search needs) (λ c. search needs) (λ c. search needs)
+    write-in-requires-2 (λ c. search needs) (λ c. search needs))

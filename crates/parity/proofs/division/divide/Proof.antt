@@ -25,24 +25,6 @@ loop-holds c = (
   omega arith,
 )
 
-slice-read-q : tie.Need-slice-read-q Inv-loop μ-loop
-slice-read-q c = search needs
-
-add-add-moved : tie.Need-add-add-moved Inv-loop μ-loop
-add-add-moved c = search needs
-
-add-add-moved-2 : tie.Need-add-add-moved-2 Inv-loop μ-loop
-add-add-moved-2 c = search needs
-
-add-moved-requires : tie.Need-add-moved-requires Inv-loop μ-loop
-add-moved-requires c κs = search needs
-
-add-i : tie.Need-add-i Inv-loop μ-loop
-add-i c = search needs
-
-loop-less : tie.Need-loop-less Inv-loop μ-loop
-loop-less c = search needs
-
 loop-again : tie.Need-loop-again Inv-loop μ-loop
 loop-again c =
     let start = c .before .before .before .before .before .before .before .before .before in
@@ -54,25 +36,10 @@ loop-again c =
       omega arith,
     )
 
-same-length : tie.Need-same-length Inv-loop μ-loop
-same-length c = c .before .loop .inv .0
-
 returns : tie.Need-returns Inv-loop μ-loop
 returns c = (c .before .loop .inv .0, divided-end _ _ _ _ _ _ _ _ (c .before .loop .inv .1) (c .before .loop .inv .2) (omega arith))
 
 pub divide-spec : {M : Type 1} → statement M
 divide-spec =
-    tie.close
-    (tie.spec
-    Inv-loop
-    μ-loop
-    loop-holds
-    slice-read-q
-    add-add-moved
-    add-add-moved-2
-    add-moved-requires
-    add-i
-    loop-less
-    loop-again
-    same-length
-    returns)
+    tie.close (tie.spec Inv-loop μ-loop loop-holds (λ c. search needs) (λ c. search needs) (λ c. search needs) (λ c κs. search needs)
+    (λ c. search needs) (λ c. search needs) loop-again (λ c. c .before .loop .inv .0) returns)

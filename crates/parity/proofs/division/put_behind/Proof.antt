@@ -1,9 +1,8 @@
 -- `division::put_behind` meets its contract. Assumes nothing.
-use mathlib.Core.Path.{_≡_, sym, _∙_}
-use Prim.Native.Nat.{_+_, _-_, _≤_}
+use mathlib.Core.Path.{sym}
+use Prim.Native.Nat.{_-_, _≤_}
 use native.Mathlib.Omega.{arith}
 use borrow.Author.Needs.{needs}
-use lib.ListN.{length}
 use Rattle.reed_solomon.specs.Inner.{Each}
 use Rattle.reed_solomon.proofs.Each.{each-same, each-next, each-end}
 use Rattle.parity.specs.Inner.{behindOf}
@@ -20,24 +19,16 @@ abbrev μ-loop : tie.MeasureT-loop
 loop-holds : tie.Need-loop-holds Inv-loop μ-loop
 loop-holds c = (each-same _ _ _ (λ i h. sym (behind-low _ _ i _ h)), omega arith, omega arith)
 
-element-copy-out-block : tie.Need-element-copy-out-block Inv-loop μ-loop
-element-copy-out-block c = omega (arith, c .before .loop .inv .1)
-
-slice-write-block : tie.Need-slice-write-block Inv-loop μ-loop
-slice-write-block c = omega (arith, c .before .before .loop .inv .0 .size)
-
 loop-again : tie.Need-loop-again Inv-loop μ-loop
 loop-again c =
     let loop = c .before .before .loop in
     (each-next _ _ _ _ _ (loop .inv .0) (omega arith) (sym (behind-high _ _ (loop .i) _ (loop .inv .1))), omega arith, omega arith)
-
-same-length : tie.Need-same-length Inv-loop μ-loop
-same-length c = c .before .loop .inv .0 .size
 
 returns : tie.Need-returns Inv-loop μ-loop
 returns c = let loop = c .before .loop in each-end _ _ _ _ _ (loop .inv .0) (omega arith) (omega arith)
 
 pub put-behind-spec : {M : Type 1} → statement M
 put-behind-spec =
-    tie.close
-    (tie.spec Inv-loop μ-loop loop-holds (λ c. search needs) element-copy-out-block slice-write-block (λ c. search needs) (λ c. search needs) loop-again same-length returns)
+    tie.close (tie.spec Inv-loop μ-loop loop-holds (λ c. search needs) (λ c. omega (arith, c .before .loop .inv .1))
+    (λ c. omega (arith, c .before .before .loop .inv .0 .size)) (λ c. search needs) (λ c. search needs) loop-again
+    (λ c. c .before .loop .inv .0 .size) returns)

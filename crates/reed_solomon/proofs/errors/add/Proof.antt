@@ -19,53 +19,18 @@ abbrev μ-loop : tie.MeasureT-loop
 loop-holds : tie.Need-loop-holds Inv-loop μ-loop
 loop-holds c = (each-start _ _, omega arith, refl)
 
-sub-block : tie.Need-sub-block Inv-loop μ-loop
-sub-block c = search needs
-
-sub-block-2 : tie.Need-sub-block-2 Inv-loop μ-loop
-sub-block-2 c = search needs
-
-shared-slice-read-block : tie.Need-shared-slice-read-block Inv-loop μ-loop
-shared-slice-read-block c = omega (arith, c .before .before .loop .inv .2)
-
-slice-read-block : tie.Need-slice-read-block Inv-loop μ-loop
-slice-read-block c = omega (arith, c .before .before .before .loop .inv .0 .size)
-
-slice-write-block : tie.Need-slice-write-block Inv-loop μ-loop
-slice-write-block c = omega (arith, c .before .before .before .loop .inv .0 .size)
-
-add-k : tie.Need-add-k Inv-loop μ-loop
-add-k c = search needs
-
-loop-less : tie.Need-loop-less Inv-loop μ-loop
-loop-less c = search needs
-
 loop-again : tie.Need-loop-again Inv-loop μ-loop
 loop-again c =
     let start = c .before .before .before .before in
     let loop = c .before .before .before .loop in
     (repaired-next (length (start .args .block .now)) (loop .k) (start .args .e .now) (start .args .block .now) (loop .block) (loop .inv .0) (omega arith), omega arith, refl)
 
-same-length : tie.Need-same-length Inv-loop μ-loop
-same-length c = c .before .loop .inv .0 .size
-
 returns : tie.Need-returns Inv-loop μ-loop
 returns c = each-end _ _ _ _ _ (c .before .loop .inv .0) (omega arith) (omega arith)
 
 pub add-spec : {M : Type 1} → statement M
 add-spec =
-    tie.close
-    (tie.spec
-    Inv-loop
-    μ-loop
-    loop-holds
-    sub-block
-    sub-block-2
-    shared-slice-read-block
-    slice-read-block
-    slice-write-block
-    add-k
-    loop-less
-    loop-again
-    same-length
-    returns)
+    tie.close (tie.spec Inv-loop μ-loop loop-holds (λ c. search needs) (λ c. search needs)
+    (λ c. omega (arith, c .before .before .loop .inv .2)) (λ c. omega (arith, c .before .before .before .loop .inv .0 .size))
+    (λ c. omega (arith, c .before .before .before .loop .inv .0 .size)) (λ c. search needs) (λ c. search needs) loop-again
+    (λ c. c .before .loop .inv .0 .size) returns)

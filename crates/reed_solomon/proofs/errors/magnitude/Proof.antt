@@ -7,27 +7,15 @@ use borrow.Author.Needs.{needs}
 use Rattle.reed_solomon.proofs.errors.magnitude.Statement.{statement}
 use Rattle.reed_solomon.proofs.errors.magnitude.Tie as tie
 
-divided-requires : tie.Need-divided-requires
-divided-requires c κs = search needs
-
 returns : tie.Need-returns
 returns c =
     let start = c .before .before .before .before .before in
     magnitude-none _ (the-field _ (start .pre .0)) _ _ _ _ _ (sym (c .before .before .divided .ensures .1) ∙ c .if1 .taken)
 
-div-requires : tie.Need-div-requires
-div-requires c κs = search needs
-
 mul-raised : tie.Need-mul-raised
 mul-raised c =
     let start = c .before .before .before .before .before .before in
     omega (arith, small-product (start .args .d) (start .args .first) (start .pre .1 .2) (start .pre .1 .3))
-
-sub-raised : tie.Need-sub-raised
-sub-raised c = search needs
-
-raised-requires : tie.Need-raised-requires
-raised-requires c κs = search needs
 
 returns-2 : tie.Need-returns-2
 returns-2 c =
@@ -38,12 +26,5 @@ returns-2 c =
 
 pub magnitude-spec : {M : Type 1} → statement M
 magnitude-spec =
-    tie.close
-    (tie.spec
-    divided-requires
-    returns
-    div-requires
-    mul-raised
-    sub-raised
-    raised-requires
+    tie.close (tie.spec (λ c κs. search needs) returns (λ c κs. search needs) mul-raised (λ c. search needs) (λ c κs. search needs)
     returns-2)

@@ -17,42 +17,14 @@ abbrev μ-loop : tie.MeasureT-loop
 loop-holds : tie.Need-loop-holds Inv-loop μ-loop
 loop-holds c = (errors-start _ _ _ _ _ _, omega arith)
 
-slice-read-error-at : tie.Need-slice-read-error-at Inv-loop μ-loop
-slice-read-error-at c = omega (arith, c .before .before .loop .inv .0 .size)
-
-error-at-requires : tie.Need-error-at-requires Inv-loop μ-loop
-error-at-requires c κs = search needs
-
-slice-write-e : tie.Need-slice-write-e Inv-loop μ-loop
-slice-write-e c = omega (arith, c .before .before .before .loop .inv .0 .size)
-
-add-d : tie.Need-add-d Inv-loop μ-loop
-add-d c = search needs
-
-loop-less : tie.Need-loop-less Inv-loop μ-loop
-loop-less c = search needs
-
 loop-again : tie.Need-loop-again Inv-loop μ-loop
 loop-again c = (errors-next _ _ _ _ _ _ _ _ _ (c .before .before .before .loop .inv .0) (omega arith) (c .error-at .ensures), omega arith)
-
-same-length : tie.Need-same-length Inv-loop μ-loop
-same-length c = c .before .loop .inv .0 .size
 
 returns : tie.Need-returns Inv-loop μ-loop
 returns c = errors-end _ _ _ _ _ _ _ _ _ (c .before .loop .inv .0) (c .before .loop .inv .1) (omega arith)
 
 pub magnitudes-spec : {M : Type 1} → statement M
 magnitudes-spec =
-    tie.close
-    (tie.spec
-    Inv-loop
-    μ-loop
-    loop-holds
-    slice-read-error-at
-    error-at-requires
-    slice-write-e
-    add-d
-    loop-less
-    loop-again
-    same-length
-    returns)
+    tie.close (tie.spec Inv-loop μ-loop loop-holds (λ c. omega (arith, c .before .before .loop .inv .0 .size)) (λ c κs. search needs)
+    (λ c. omega (arith, c .before .before .before .loop .inv .0 .size)) (λ c. search needs) (λ c. search needs) loop-again
+    (λ c. c .before .loop .inv .0 .size) returns)

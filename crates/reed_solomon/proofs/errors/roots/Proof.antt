@@ -22,9 +22,6 @@ loop-holds c =
     let start = c .before .before in
     (terms-start _ (the-field _ (start .pre .0)) _ _ (start .pre .1 .2) (start .pre .1 .1), each-start _ _, omega arith)
 
-slice-aggregate-step : tie.Need-slice-aggregate-step Inv-loop μ-loop
-slice-aggregate-step c = sym (c .before .before .loop .inv .0 .size)
-
 step-requires : tie.Need-step-requires Inv-loop μ-loop
 step-requires c κs =
     let start = c .before .before .before .before .before in
@@ -47,9 +44,6 @@ loop-again c =
       omega (arith, loop .inv .2),
     )
 
-same-length : tie.Need-same-length Inv-loop μ-loop
-same-length c = c .before .loop .inv .1 .size
-
 returns : tie.Need-returns Inv-loop μ-loop
 returns c =
     let start = c .before .before .before .before in
@@ -57,5 +51,5 @@ returns c =
 
 pub roots-spec : {M : Type 1} → statement M
 roots-spec =
-    tie.close
-    (tie.spec Inv-loop μ-loop loop-holds slice-aggregate-step step-requires put-requires (λ c. search needs) (λ c. search needs) loop-again same-length returns)
+    tie.close (tie.spec Inv-loop μ-loop loop-holds (λ c. sym (c .before .before .loop .inv .0 .size)) step-requires put-requires
+    (λ c. search needs) (λ c. search needs) loop-again (λ c. c .before .loop .inv .1 .size) returns)

@@ -19,9 +19,6 @@ abbrev μ-loop : tie.MeasureT-loop
 loop-holds : tie.Need-loop-holds Inv-loop μ-loop
 loop-holds c = (sums-start _ _ _, each-start _ _, omega arith)
 
-slice-read-t : tie.Need-slice-read-t Inv-loop μ-loop
-slice-read-t c = omega (arith, c .before .before .loop .inv .1 .size)
-
 slice-write-terms : tie.Need-slice-write-terms Inv-loop μ-loop
 slice-write-terms c = omega (arith, c .before .before .before .before .before .loop .inv .1 .size)
 
@@ -36,14 +33,11 @@ loop-again c =
       omega arith,
     )
 
-same-length : tie.Need-same-length Inv-loop μ-loop
-same-length c = c .before .loop .inv .1 .size
-
 returns : tie.Need-returns Inv-loop μ-loop
 returns c = (sums-end _ _ _ _ _ _ _ _ _ (c .before .loop .inv .0) (omega arith), each-end _ _ _ _ _ (c .before .loop .inv .1) (omega arith) (omega arith))
 
 pub step-spec : {M : Type 1} → statement M
 step-spec =
-    tie.close
-    (tie.spec Inv-loop μ-loop loop-holds slice-read-t (λ c κs. search needs) (λ c. search needs) (λ c κs. search needs) (λ c κs. search needs) slice-write-terms
-    (λ c. search needs) (λ c. search needs) loop-again same-length returns)
+    tie.close (tie.spec Inv-loop μ-loop loop-holds (λ c. omega (arith, c .before .before .loop .inv .1 .size)) (λ c κs. search needs)
+    (λ c. search needs) (λ c κs. search needs) (λ c κs. search needs) slice-write-terms (λ c. search needs) (λ c. search needs)
+    loop-again (λ c. c .before .loop .inv .1 .size) returns)

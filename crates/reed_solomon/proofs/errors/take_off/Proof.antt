@@ -43,12 +43,6 @@ loop-holds c =
       omega arith,
     )
 
-slice-read-s : tie.Need-slice-read-s Inv-loop μ-loop
-slice-read-s c = omega (arith, c .before .before .before .loop .inv .0 .size)
-
-slice-write-s : tie.Need-slice-write-s Inv-loop μ-loop
-slice-write-s c = omega (arith, c .before .before .before .loop .inv .0 .size)
-
 loop-again : tie.Need-loop-again Inv-loop μ-loop
 loop-again c =
     let start = c .before .before .before .before .before .before .before .before .before in
@@ -61,14 +55,12 @@ loop-again c =
       omega arith,
     )
 
-same-length : tie.Need-same-length Inv-loop μ-loop
-same-length c = c .before .loop .inv .0 .size
-
 returns-2 : tie.Need-returns-2 Inv-loop μ-loop
 returns-2 c = each-end _ _ _ _ _ (c .before .loop .inv .0) (c .before .loop .inv .3) (omega arith)
 
 pub take-off-spec : {M : Type 1} → statement M
 take-off-spec =
-    tie.close
-    (tie.spec Inv-loop μ-loop returns (λ c κs. search needs) mul-reduced (λ c. search needs) (λ c κs. search needs) loop-holds (λ c κs. search needs) slice-read-s slice-write-s
-    (λ c. search needs) (λ c κs. search needs) (λ c. search needs) (λ c. search needs) loop-again same-length returns-2)
+    tie.close (tie.spec Inv-loop μ-loop returns (λ c κs. search needs) mul-reduced (λ c. search needs) (λ c κs. search needs) loop-holds
+    (λ c κs. search needs) (λ c. omega (arith, c .before .before .before .loop .inv .0 .size))
+    (λ c. omega (arith, c .before .before .before .loop .inv .0 .size)) (λ c. search needs) (λ c κs. search needs) (λ c. search needs)
+    (λ c. search needs) loop-again (λ c. c .before .loop .inv .0 .size) returns-2)

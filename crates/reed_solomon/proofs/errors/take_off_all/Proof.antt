@@ -19,25 +19,10 @@ loop-holds c =
     let start = c .before .before in
     (off-all-start (polyOf (start .args .field .now)) (start .args .first) (start .args .n) (start .args .parity) (start .args .e .now) (start .args .s .now), omega arith)
 
-sub-d : tie.Need-sub-d Inv-loop μ-loop
-sub-d c = search needs
-
-sub-d-2 : tie.Need-sub-d-2 Inv-loop μ-loop
-sub-d-2 c = search needs
-
-shared-slice-read-take-off : tie.Need-shared-slice-read-take-off Inv-loop μ-loop
-shared-slice-read-take-off c = search needs
-
 take-off-requires : tie.Need-take-off-requires Inv-loop μ-loop
 take-off-requires c κs =
     let start = c .before .before .before .before .before .before in
     (start .pre .0, (omega (arith, c .before .before .before .loop .inv .0 .size), omega arith, start .pre .1 .3))
-
-add-k : tie.Need-add-k Inv-loop μ-loop
-add-k c = search needs
-
-loop-less : tie.Need-loop-less Inv-loop μ-loop
-loop-less c = search needs
 
 loop-again : tie.Need-loop-again Inv-loop μ-loop
 loop-again c =
@@ -49,9 +34,6 @@ loop-again c =
       omega arith,
     )
 
-same-length : tie.Need-same-length Inv-loop μ-loop
-same-length c = c .before .loop .inv .0 .size
-
 returns : tie.Need-returns Inv-loop μ-loop
 returns c =
     let start = c .before .before .before .before in
@@ -61,17 +43,5 @@ returns c =
 
 pub take-off-all-spec : {M : Type 1} → statement M
 take-off-all-spec =
-    tie.close
-    (tie.spec
-    Inv-loop
-    μ-loop
-    loop-holds
-    sub-d
-    sub-d-2
-    shared-slice-read-take-off
-    take-off-requires
-    add-k
-    loop-less
-    loop-again
-    same-length
-    returns)
+    tie.close (tie.spec Inv-loop μ-loop loop-holds (λ c. search needs) (λ c. search needs) (λ c. search needs) take-off-requires
+    (λ c. search needs) (λ c. search needs) loop-again (λ c. c .before .loop .inv .0 .size) returns)

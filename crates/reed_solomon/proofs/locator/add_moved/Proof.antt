@@ -20,27 +20,6 @@ loop-holds c =
     let start = c .before .before in
     (adding-start (polyOf (start .args .field .now)) (start .args .q) (start .args .m) (start .args .g .now) (start .args .f .now), omega arith, omega arith)
 
-sub-mul : tie.Need-sub-mul Inv-loop μ-loop
-sub-mul c = search needs
-
-shared-slice-read-mul : tie.Need-shared-slice-read-mul Inv-loop μ-loop
-shared-slice-read-mul c = search needs
-
-mul-requires : tie.Need-mul-requires Inv-loop μ-loop
-mul-requires c κs = search needs
-
-slice-read-f : tie.Need-slice-read-f Inv-loop μ-loop
-slice-read-f c = omega (arith, c .before .before .before .before .loop .inv .0 .size)
-
-slice-write-f : tie.Need-slice-write-f Inv-loop μ-loop
-slice-write-f c = omega (arith, c .before .before .before .before .loop .inv .0 .size)
-
-add-i : tie.Need-add-i Inv-loop μ-loop
-add-i c = search needs
-
-loop-less : tie.Need-loop-less Inv-loop μ-loop
-loop-less c = search needs
-
 loop-again : tie.Need-loop-again Inv-loop μ-loop
 loop-again c =
     let start = c .before .before .before .before .before .before .before in
@@ -52,26 +31,12 @@ loop-again c =
       omega arith,
     )
 
-same-length : tie.Need-same-length Inv-loop μ-loop
-same-length c = c .before .loop .inv .0 .size
-
 returns : tie.Need-returns Inv-loop μ-loop
 returns c = each-end _ _ _ _ _ (c .before .loop .inv .0) (omega arith) (omega arith)
 
 pub add-moved-spec : {M : Type 1} → statement M
 add-moved-spec =
-    tie.close
-    (tie.spec
-    Inv-loop
-    μ-loop
-    loop-holds
-    sub-mul
-    shared-slice-read-mul
-    mul-requires
-    slice-read-f
-    slice-write-f
-    add-i
-    loop-less
-    loop-again
-    same-length
-    returns)
+    tie.close (tie.spec Inv-loop μ-loop loop-holds (λ c. search needs) (λ c. search needs) (λ c κs. search needs)
+    (λ c. omega (arith, c .before .before .before .before .loop .inv .0 .size))
+    (λ c. omega (arith, c .before .before .before .before .loop .inv .0 .size)) (λ c. search needs) (λ c. search needs) loop-again
+    (λ c. c .before .loop .inv .0 .size) returns)

@@ -22,24 +22,6 @@ loop-holds : tie.Need-loop-holds Inv-loop μ-loop
 unfolding sum
 loop-holds c = (refl, omega arith)
 
-shared-slice-read-mul : tie.Need-shared-slice-read-mul Inv-loop μ-loop
-shared-slice-read-mul c = search needs
-
-sub-mul : tie.Need-sub-mul Inv-loop μ-loop
-sub-mul c = search needs
-
-shared-slice-read-mul-2 : tie.Need-shared-slice-read-mul-2 Inv-loop μ-loop
-shared-slice-read-mul-2 c = search needs
-
-mul-requires : tie.Need-mul-requires Inv-loop μ-loop
-mul-requires c κs = search needs
-
-add-i : tie.Need-add-i Inv-loop μ-loop
-add-i c = search needs
-
-loop-less : tie.Need-loop-less Inv-loop μ-loop
-loop-less c = search needs
-
 loop-again : tie.Need-loop-again Inv-loop μ-loop
 loop-again c = (ap₂ bitXor (c .before .before .before .before .loop .inv .0) (c .mul .ensures) ∙ sym (sum-next _ _), omega arith)
 
@@ -49,16 +31,5 @@ returns c = let e : c .before .loop .i ≡ suc (c .before .before .before .befor
 
 pub discrepancy-spec : {M : Type 1} → statement M
 discrepancy-spec =
-    tie.close
-    (tie.spec
-    Inv-loop
-    μ-loop
-    loop-holds
-    shared-slice-read-mul
-    sub-mul
-    shared-slice-read-mul-2
-    mul-requires
-    add-i
-    loop-less
-    loop-again
-    returns)
+    tie.close (tie.spec Inv-loop μ-loop loop-holds (λ c. search needs) (λ c. search needs) (λ c. search needs) (λ c κs. search needs)
+    (λ c. search needs) (λ c. search needs) loop-again returns)

@@ -7,40 +7,10 @@ use borrow.Author.Needs.{needs}
 use Rattle.reed_solomon.proofs.locator.extend.Statement.{statement}
 use Rattle.reed_solomon.proofs.locator.extend.Tie as tie
 
-discrepancy-requires : tie.Need-discrepancy-requires
-discrepancy-requires c κs = search needs
-
-same-length : tie.Need-same-length
-same-length c = search needs
-
 returns : tie.Need-returns
 returns c =
     let start = c .before .before .before .before .before .before in
     register-kept _ (the-field _ (start .pre .0)) _ _ _ _ _ _ _ (start .pre .1 .1 .1) (sym (c .before .discrepancy .ensures) ∙ c .if1 .taken)
-
-div-requires : tie.Need-div-requires
-div-requires c κs = search needs
-
-add-m : tie.Need-add-m
-add-m c = search needs
-
-sub-m : tie.Need-sub-m
-sub-m c = search needs
-
-add-if2 : tie.Need-add-if2
-add-if2 c = search needs
-
-add-add-moved : tie.Need-add-add-moved
-add-add-moved c = search needs
-
-add-moved-requires : tie.Need-add-moved-requires
-add-moved-requires c κs = search needs
-
-same-length-2 : tie.Need-same-length-2
-same-length-2 c = search needs
-
-same-length-3 : tie.Need-same-length-3
-same-length-3 c = search needs
 
 returns-2 : tie.Need-returns-2
 returns-2 c =
@@ -53,36 +23,12 @@ returns-2 c =
     (omega (arith, if1 .left)) (omega arith) (div .ensures) (c .before .before .add-moved .ensures) (omega arith)
     (omega (arith, start .pre .1 .1 .1 .behind, start .pre .1 .1 .1 .state .before, if2 .taken)) (if2 .taken)
 
-add-grow : tie.Need-add-grow
-add-grow c = search needs
-
-sub-grow : tie.Need-sub-grow
-sub-grow c = search needs
-
-add-grow-2 : tie.Need-add-grow-2
-add-grow-2 c = search needs
-
 grow-requires : tie.Need-grow-requires
 grow-requires c κs =
     let start = c .before .before .before .before .before .before .before .before .before .before .before in (
       start .pre .0,
       (start .pre .1 .1 .1 .size-f, start .pre .1 .1 .1 .size-g, omega arith, omega (arith, start .pre .1 .1 .1 .behind, start .pre .1 .1 .1 .within), omega arith),
     )
-
-add-t14 : tie.Need-add-t14
-add-t14 c = search needs
-
-sub-t27 : tie.Need-sub-t27
-sub-t27 c = search needs
-
-add-t26 : tie.Need-add-t26
-add-t26 c = search needs
-
-same-length-4 : tie.Need-same-length-4
-same-length-4 c = search needs
-
-same-length-5 : tie.Need-same-length-5
-same-length-5 c = search needs
 
 returns-3 : tie.Need-returns-3
 returns-3 c =
@@ -100,27 +46,7 @@ returns-3 c =
 
 pub extend-spec : {M : Type 1} → statement M
 extend-spec =
-    tie.close
-    (tie.spec
-    discrepancy-requires
-    same-length
-    returns
-    div-requires
-    add-m
-    sub-m
-    add-if2
-    add-add-moved
-    add-moved-requires
-    same-length-2
-    same-length-3
-    returns-2
-    add-grow
-    sub-grow
-    add-grow-2
-    grow-requires
-    add-t14
-    sub-t27
-    add-t26
-    same-length-4
-    same-length-5
-    returns-3)
+    tie.close (tie.spec (λ c κs. search needs) (λ c. search needs) returns (λ c κs. search needs) (λ c. search needs)
+    (λ c. search needs) (λ c. search needs) (λ c. search needs) (λ c κs. search needs) (λ c. search needs) (λ c. search needs) returns-2
+    (λ c. search needs) (λ c. search needs) (λ c. search needs) grow-requires (λ c. search needs) (λ c. search needs)
+    (λ c. search needs) (λ c. search needs) (λ c. search needs) returns-3)

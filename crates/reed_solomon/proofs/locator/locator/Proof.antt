@@ -16,30 +16,15 @@ Inv-loop field s n f₀ g₀ at₀ r₀ f g at r = Register (polyOf field) s r f
 abbrev μ-loop : tie.MeasureT-loop
 μ-loop field s n f₀ g₀ at₀ r₀ f g at r = n - r
 
-slice-write-f : tie.Need-slice-write-f Inv-loop μ-loop
-slice-write-f c = search needs
-
-array-write-g : tie.Need-array-write-g Inv-loop μ-loop
-array-write-g c = search needs
-
 loop-holds : tie.Need-loop-holds Inv-loop μ-loop
 loop-holds c =
     let start = c .before .before in
     (register-start _ _ (start .args .f .now) (replicate 256 0) (start .pre .1 .1 .1 .0) (start .pre .1 .1 .1 .1) refl (zeros 256), omega arith)
 
-slice-aggregate-extend : tie.Need-slice-aggregate-extend Inv-loop μ-loop
-slice-aggregate-extend c = sym (c .before .before .before .loop .inv .0 .size-g)
-
 extend-requires : tie.Need-extend-requires Inv-loop μ-loop
 extend-requires c κs =
     let start = c .before .before .before .before .before .before in
     (start .pre .0, (omega arith, (start .pre .1 .1 .0, c .before .before .before .loop .inv .0)))
-
-add-r : tie.Need-add-r Inv-loop μ-loop
-add-r c = search needs
-
-loop-less : tie.Need-loop-less Inv-loop μ-loop
-loop-less c = search needs
 
 loop-again : tie.Need-loop-again Inv-loop μ-loop
 loop-again c = (c .before .before .before .extend .ensures, omega arith)
@@ -52,17 +37,6 @@ returns c = register-end _ _ _ _ _ _ _ _ _ (c .before .loop .inv .0) (c .before 
 
 pub locator-spec : {M : Type 1} → statement M
 locator-spec =
-    tie.close
-    (tie.spec
-    Inv-loop
-    μ-loop
-    slice-write-f
-    array-write-g
-    loop-holds
-    slice-aggregate-extend
-    extend-requires
-    add-r
-    loop-less
-    loop-again
-    same-length
-    returns)
+    tie.close (tie.spec Inv-loop μ-loop (λ c. search needs) (λ c. search needs) loop-holds
+    (λ c. sym (c .before .before .before .loop .inv .0 .size-g)) extend-requires (λ c. search needs) (λ c. search needs) loop-again
+    same-length returns)

@@ -19,9 +19,6 @@ abbrev μ-loop : tie.MeasureT-loop
 loop-holds : tie.Need-loop-holds Inv-loop μ-loop
 loop-holds c = (each-start _ _, omega arith)
 
-slice-read-raised : tie.Need-slice-read-raised Inv-loop μ-loop
-slice-read-raised c = omega (arith, c .before .before .loop .inv .0 .size)
-
 slice-write-s : tie.Need-slice-write-s Inv-loop μ-loop
 slice-write-s c = omega (arith, c .before .before .before .before .before .loop .inv .0 .size)
 
@@ -34,29 +31,11 @@ loop-again c =
       omega arith,
     )
 
-same-length : tie.Need-same-length Inv-loop μ-loop
-same-length c = c .before .loop .inv .0 .size
-
 returns : tie.Need-returns Inv-loop μ-loop
 returns c = each-end _ _ _ _ _ (c .before .loop .inv .0) (omega arith) (omega arith)
 
 pub advance-two-spec : {M : Type 1} → statement M
 advance-two-spec =
-    tie.close
-    (tie.spec
-    Inv-loop
-    μ-loop
-    loop-holds
-    (λ c. search needs)
-    slice-read-raised
-    (λ c. search needs)
-    (λ c. search needs)
-    (λ c κs. search needs)
-    (λ c κs. search needs)
-    (λ c κs. search needs)
-    slice-write-s
-    (λ c. search needs)
-    (λ c. search needs)
-    loop-again
-    same-length
-    returns)
+    tie.close (tie.spec Inv-loop μ-loop loop-holds (λ c. search needs) (λ c. omega (arith, c .before .before .loop .inv .0 .size))
+    (λ c. search needs) (λ c. search needs) (λ c κs. search needs) (λ c κs. search needs) (λ c κs. search needs) slice-write-s
+    (λ c. search needs) (λ c. search needs) loop-again (λ c. c .before .loop .inv .0 .size) returns)

@@ -64,24 +64,6 @@ returns-2 c =
 
 pub syndromes-spec : {M : Type 1} → statement M
 syndromes-spec =
-    tie.close
-    (tie.spec
-    Inv-loop
-    μ-loop
-    loop-holds
-    (λ c. search needs)
-    (λ c. search needs)
-    (λ c. search needs)
-    (λ c. search needs)
-    (λ c. search needs)
-    advance-two-requires
-    (λ c. search needs)
-    (λ c. search needs)
-    loop-again
-    same-length
-    returns
-    (λ c. search needs)
-    (λ c. search needs)
-    advance-requires
-    same-length-2
-    returns-2)
+    tie.close (tie.spec Inv-loop μ-loop loop-holds (λ c. search needs) (λ c. search needs) (λ c. search needs) (λ c. search needs)
+    (λ c. search needs) advance-two-requires (λ c. search needs) (λ c. search needs) loop-again same-length returns (λ c. search needs)
+    (λ c. search needs) advance-requires same-length-2 returns-2)

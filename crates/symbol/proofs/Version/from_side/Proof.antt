@@ -21,9 +21,6 @@ returns-3 c =
     let if2 = c .before .if2 in
     let h = ne-eqb (c .before .before .before .args .side % 2) 1 (λ z. omega arith) in (simp (le-leb _ _ (if1 .left), le-leb _ _ (if2 .left), h), simp (le-leb _ _ (if1 .left), le-leb _ _ (if2 .left), h))
 
-sub-t3 : tie.Need-sub-t3
-sub-t3 c = search needs
-
 returns-4 : tie.Need-returns-4
 unfolding isSide sideRefusal sideVersion
 returns-4 c =
@@ -32,4 +29,4 @@ returns-4 c =
     let h = eq-eqb (c .before .before .before .args .side % 2) 1 (omega (arith, c .if3 .left)) in (simp (le-leb _ _ (if1 .left), le-leb _ _ (if2 .left), h), simp (le-leb _ _ (if1 .left), le-leb _ _ (if2 .left), h))
 
 pub from-side-spec : {M : Type 1} → statement M
-from-side-spec = tie.close (tie.spec returns returns-2 returns-3 sub-t3 returns-4)
+from-side-spec = tie.close (tie.spec returns returns-2 returns-3 (λ c. search needs) returns-4)
