@@ -115,7 +115,7 @@ How by_known(size_t version, size_t level, size_t mask)
     return how;
 }
 
-/* What document 01 says of every reading: what a refusal leaves and what its receipt has, and what is written after a 0. */
+/* What holds of every reading (SPECIFICATION 10.1, 2.6): what a refusal leaves and what its receipt has, and what is written after a 0. */
 static void check_reading(int line, const uint8_t *square, size_t length, Lent lent, size_t number)
 {
     static const uint8_t zeros[HX_RECEIPT];

@@ -1,5 +1,5 @@
-/* The test of the interface for C. What is expected comes from document 01: the refusals and their order, the receipt, the edges, the
- * formulas of the writer and the block table; never from an answer of the library. */
+/* The test of the interface for C. What is expected comes from docs/SPECIFICATION.md: the refusals and their order, the receipt, the
+ * edges, the formulas of the writer and the block table; never from an answer of the library. */
 #include "calls.h"
 #include "marks.h"
 
@@ -304,7 +304,7 @@ static void stream_of(size_t side, size_t mask, size_t total, uint8_t *stream)
             stream[place] = found[n++];
 }
 
-/* What is in a written mark, by document 01: the data codewords, and a block that is zero at x^1 to x^parity. */
+/* What is in a written mark (SPECIFICATION 10.11): the data codewords, and a block that is zero at x^1 to x^parity. */
 static void test_written(void)
 {
     static const size_t totals[] = {25, 37, 50}, rooms[3][4] = {{21, 17, 13, 9}, {31, 25, 19, 15}, {42, 34, 26, 20}};

@@ -1,5 +1,5 @@
-// Document 01, "Information": the word of a version, level and mask, the nearest word to two copies, and the copies in a square
-// (000: `info_positions`, `gf16_mul`, `info_bits`, `nearest_info`).
+// SPECIFICATION 5, 10.3 and 10.4: the word of a version, level and mask, the nearest word to two copies, and the copies in a square
+// (han_xin.rs: `info_positions`, `gf16_mul`, `info_bits`, `nearest_info`).
 ghost use mathlib.Core.Path.{_≡_};
 ghost use mathlib.Core.Bool.{true, false, cond};
 ghost use Prim.Native.Nat.{ℕ, _+_, _*_, _/_, _%_, _^_, _≤_, _<_};
@@ -106,7 +106,7 @@ fn wide(x: usize) -> u64
     x as u64
 }
 
-// The 34 function information bits, first bit in bit 33.
+// SPECIFICATION 10.3, Information word: the 34 function information bits, first bit in bit 33.
 pub fn info_bits(version: usize, level: usize, mask: usize) -> InfoBits
     ensures { λ r. ⌜ (wordRefusalOf r ≡ infoRefusal version level mask) × (wordIn r ≡ infoWord version level mask) ⌝ }
 {
@@ -182,7 +182,7 @@ fn nearest_word(version: usize, first: u64, second: u64) -> Best
     best
 }
 
-// The level and mask of the nearest word of a version, with the number of differing bits of both copies.
+// SPECIFICATION 10.4, Nearest word: the level and mask of the nearest word of a version, with the number of differing bits of both copies.
 pub fn nearest_info(version: usize, first: u64, second: u64) -> NearestInfo
     ensures { λ r. ⌜ (nearestRefusalOf r ≡ nearestRefusal version) × (levelOf r ≡ nearestLevel version first second) × (maskOf r ≡ nearestMask version first second) × (distanceOf r ≡ nearestDistance version first second) ⌝ }
 {

@@ -1,5 +1,5 @@
--- What a customer may quote of blocks. Each holds for any polynomial that passes document 01's order test, any first root, and blocks of
--- at most 255 bytes. Assumes nothing.
+-- What a customer may quote of blocks (SPECIFICATION 3.6). Each holds for any polynomial that passes the order test (3.2), any first root,
+-- and blocks of at most 255 bytes. Assumes nothing.
 use mathlib.Core.Path.{_≡_}
 use mathlib.Core.Logic.{_≢_}
 use mathlib.Core.List.{List}

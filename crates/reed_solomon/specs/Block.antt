@@ -1,4 +1,4 @@
--- Document 01, "Field and block": a block, what a codeword is, and the codeword in reach. The polynomial of the field and the exponent
+-- SPECIFICATION 3.3 to 3.5 and 3.8: a block, what a codeword is, and the codeword in reach. The polynomial of the field and the exponent
 -- of the first root are parameters throughout.
 use mathlib.Core.Bool.{Bool, true, false, _&&_, _||_}
 use mathlib.Core.Option.{Option, none, some}
@@ -9,7 +9,7 @@ use lib.ListN.{length}
 use lib.Bits.{bitXor}
 use Rattle.field.specs.Field.{power, mul, below}
 
--- the value at x of a block, first byte the highest coefficient, behind a value so far (001: `eval`)
+-- the value at x of a block, first byte the highest coefficient, behind a value so far (reed_solomon.rs: `eval`)
 unfoldable pub evalFrom : ℕ → ℕ → ℕ → List ℕ → ℕ
 evalFrom poly x acc [] = acc
 evalFrom poly x acc (b ∷ bs) = evalFrom poly x (bitXor (mul poly acc x) b) bs

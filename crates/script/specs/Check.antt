@@ -1,5 +1,5 @@
--- Document 01, "Operations and what they turn away", Write a square: what is asked of script and payload by themselves, with 11, 12
--- and 8 in this order, each tested over the whole script.
+-- SPECIFICATION 10.8: what Write a square asks of script and payload by themselves, with 11, 12 and 8 in this order, each tested over the
+-- whole script.
 use mathlib.Core.Bool.{Bool, true, cond, _&&_}
 use mathlib.Core.List.{List, [], _∷_}
 use Prim.Native.Nat.{ℕ, zero, suc, _+_, _*_, _%_}
@@ -80,7 +80,7 @@ checkedOf (these gs) p = cond (allHave gs) (cond (eqb (length p) 0) Empty (Bits 
 abbrev pub checkOf : List ℕ → List ℕ → Check
 checkOf s p = checkedOf (commandsOf s p) p
 
--- document 01's number of each answer, and the number of bits beside it
+-- the refusal number of each answer (SPECIFICATION 2.7), and the number of bits beside it
 abbrev pub refusalOf : Check → ℕ
 refusalOf (Bits n) = 0
 refusalOf Malformed = 11

@@ -1,5 +1,5 @@
--- Document 01, "Operations and what they turn away": Segments from data. The first refusal that applies is given, each tested over the
--- whole input; a refusal changes neither buffer, and both lengths are then 0.
+-- SPECIFICATION 10.7: Segments from data. The first refusal that applies is given, each tested over the whole input; a refusal
+-- changes neither buffer, and both lengths are then 0.
 use mathlib.Core.Bool.{cond}
 use mathlib.Core.List.{List, _++_}
 use Prim.Native.Nat.{ℕ}
@@ -46,7 +46,7 @@ givenOr7 (got gs u) p c = given gs p c
 abbrev pub fromData : List ℕ → List ℕ → List ℕ → Outcome
 fromData s p c = cond (ltb 3886 (length s)) (refused 2 p c) (givenOr7 (segmentsOf s) p c)
 
--- document 01's number of each answer
+-- the refusal number of each answer (SPECIFICATION 2.7)
 abbrev pub refusalOf : Answer → ℕ
 refusalOf (Read n m) = 0
 refusalOf TooLong = 2

@@ -1,6 +1,6 @@
--- THE THEOREM OF DEMAND 3, for Read a square and for Read with known version, level, mask, over the definitions that the contracts cite.
--- First: a mark made by the writer is read as it was written, whichever modules flip within reach. Second: what a reading answers for any
--- square at all that passes its first refusals. Assumes nothing.
+-- A WRITTEN MARK IS READ BACK (SPECIFICATION 11), by Read a square and by Read with known version, level, mask, over the definitions that
+-- the contracts cite. First: a mark made by the writer is read as it was written, whichever modules flip within reach. Second: what a
+-- reading answers for any square at all that passes its first refusals. Assumes nothing.
 use mathlib.Core.Path.{_≡_, sym, ap, _∙_, subst}
 use mathlib.Core.List.{List, _++_}
 use Prim.Native.Nat.{ℕ, _+_, _-_, _*_, _/_, _≤_, _<_}
@@ -22,7 +22,7 @@ use Rattle.squares.proofs.Demand as demand
 use Rattle.squares.proofs.Settle as settle
 use Rattle.squares.proofs.Settle.{InReach}
 
--- ---- 1. Marks made by the writer
+-- ---- 1. Marks made by the writer (SPECIFICATION 11.1 to 11.8)
 
 -- A script (a list of bytes) and a payload are written at a version, level and mask into a square, which then is `mark`. `square` is any
 -- square of the same size with module bytes 0 or 1, each block of which differs from the written block in at most floor(parity / 2)
@@ -50,8 +50,8 @@ module _ (v level mask : ℕ) (script payload before mark : List ℕ) (bytes : (
       → distance (blockAt (blocksIn v level mask square) j) (blockAt (blocksIn v level mask (markOf v level mask script payload)) j) ≤ parityAt (shapesOf v level) j / 2
   reach′ j h = subst (λ (m : List ℕ). distance (blockAt (blocksIn v level mask square) j) (blockAt (blocksIn v level mask m) j) ≤ parityAt (shapesOf v level) j / 2) is-mark (reach j h)
 
-  -- If at most 8 of the 68 information modules differ, Read a square answers 0, with the script, payload, version, level and mask that were
-  -- written, and the count is exactly the number of block codewords that differ.
+  -- 11.6, 11.7. If at most 8 of the 68 information modules differ, Read a square answers 0, with the script, payload, version, level and
+  -- mask that were written, and the count is exactly the number of block codewords that differ.
   pub mark-is-read : infoFlips (layoutOf v) mark square ≤ 8
       → readOf square (sideOf v) p s r ≡ record {
         number = 0;
@@ -64,7 +64,7 @@ module _ (v level mask : ℕ) (script payload before mark : List ℕ) (bytes : (
       (subst (λ (m : List ℕ). infoFlips (layoutOf v) m square ≤ 8) is-mark few)
       ∙ ap (λ (m : List ℕ). demand.given v level mask (differences (blocksIn v level mask square) (blocksIn v level mask m)) (distanceIn v square) script payload p s) (sym is-mark)
 
-  -- Read with known version, level, mask does so whatever the information modules are; its receipt shows distance 0.
+  -- 11.8. Read with known version, level, mask does so whatever the information modules are; its receipt shows distance 0.
   pub mark-is-read-known : readKnownOf square v level mask p s r ≡ record {
     number = 0;
     receipt = receiptOf v level mask changed 0 (length payload) (length script);
@@ -75,8 +75,8 @@ module _ (v level mask : ℕ) (script payload before mark : List ℕ) (bytes : (
       demand.known-back v level mask script payload before bytes is-written square sized modules reach′ p s room-p room-s r receipt
       ∙ ap (λ (m : List ℕ). demand.given v level mask (differences (blocksIn v level mask square) (blocksIn v level mask m)) 0 script payload p s) (sym is-mark)
 
--- ---- 2. Any square. `InReach v level mask sq j u` says that u is a codeword within floor(parity / 2) places of block j of sq: of the same
--- length and parity, and different in at most so many bytes.
+-- ---- 2. Any square (SPECIFICATION 11.9 to 11.12). `InReach v level mask sq j u` says that u is a codeword within floor(parity / 2) places
+-- of block j of sq: of the same length and parity, and different in at most so many bytes.
 
 -- A square that passes refusals 1 to 4 of Read a square, where the receipt has 12 bytes. Its version is its side's, level and mask are the
 -- nearest.
@@ -98,7 +98,7 @@ module _ (sq : List ℕ) (side : ℕ) (p s r : List ℕ) (receipt : length r ≡
   unfolding readOf
   read-body = in-body r p s (readRefusal side sq) (bodyOf version level mask (distanceIn version sq) sq p s) receipt passes
 
-  -- If some block has no codeword within floor(parity / 2) places, the answer is 6, and payload and script are left ..
+  -- 11.9. If some block has no codeword within floor(parity / 2) places, the answer is 6, and payload and script are left ..
   pub lost-is-six : (j : ℕ) → j < length (shapesOf version level) → ((u : List ℕ) → InReach version level mask sq j u → ⊥) → readOf sq side p s r ≡ refused 6 p s
   lost-is-six j h e =
       read-body ∙ settle.lost-six version level mask (distanceIn version sq) sq p s (ranged .0) (ranged .1) (level-range (sideVersion side) sq) j h e
@@ -109,12 +109,12 @@ module _ (sq : List ℕ) (side : ℕ) (p s r : List ℕ) (receipt : length r ≡
       settle.six-lost version level mask (distanceIn version sq) sq p s (ranged .0) (ranged .1) (level-range (sideVersion side) sq)
       (sym (ap (λ (x : Reading). x .number) read-body) ∙ e)
 
-  -- No block has two.
+  -- 11.10. No block has two.
   pub no-block-has-two : (j : ℕ) → j < length (shapesOf version level) → (u w : List ℕ) → InReach version level mask sq j u → InReach version level mask sq j w → u ≡ w
   no-block-has-two = settle.no-two version level mask (distanceIn version sq) sq p s (ranged .0) (ranged .1) (level-range (sideVersion side) sq)
 
-  -- When each has one, each is set to it: payload and script, or the refusal, are what Segments from data gives for their data parts, and
-  -- the count is the number of places in which the square's blocks differ from them.
+  -- 11.11, 11.12. When each has one, each is set to it: payload and script, or the refusal, are what Segments from data gives for their
+  -- data parts, and the count is the number of places in which the square's blocks differ from them.
   pub each-is-set : (ws : List (List ℕ)) → length ws ≡ length (shapesOf version level)
       → ((j : ℕ) → j < length (shapesOf version level) → InReach version level mask sq j (blockAt ws j))
       → readOf sq side p s r ≡ told version level mask (distanceIn version sq) (differences (blocksIn version level mask sq) ws) (fromData (dataParts (shapesOf version level) ws) p s)

@@ -1,5 +1,5 @@
--- Document 01, "Operations": Read a square, and Read with known version, level, mask. The first refusal that applies is given, each tested
--- over the whole input.
+-- SPECIFICATION 10.9 and 10.10: Read a square, and Read with known version, level, mask. The first refusal that applies is given, each
+-- tested over the whole input.
 use mathlib.Core.Bool.{Bool, true, false, cond, _&&_}
 use mathlib.Core.List.{List, [], _∷_}
 use Prim.Native.Nat.{ℕ, _*_}
@@ -57,11 +57,11 @@ distanceIn v sq = nearestDistance v (copyOf (sideOf v) false sq) (copyOf (sideOf
 unfoldable pub streamFrom : ℕ → ℕ → List ℕ → List ℕ
 streamFrom v mask sq = streamIn (totalOf v) (maskBit (sideOf v) mask) (layoutOf v) sq
 
--- "Words of demand 3": the blocks of a square, for a version, level and mask
+-- SPECIFICATION 11.3: the blocks of a square, for a version, level and mask
 unfoldable pub blocksIn : ℕ → ℕ → ℕ → List ℕ → List (List ℕ)
 blocksIn v level mask sq = cut (shapesOf v level) (streamFrom v mask sq)
 
--- 1 side not odd or not 23 to 189; 2 not s × s bytes; 3 a byte above 1; 4 distance above 10; 1 for a row or version as under Blocks
+-- 1 side not odd or not 23 to 189; 2 not s × s bytes; 3 a byte above 1; 4 distance above 10; 1 by SPECIFICATION 7.4
 unfoldable pub readRefusal : ℕ → List ℕ → ℕ
 readRefusal side sq =
     firstRefusal
@@ -94,12 +94,12 @@ unfoldable pub withReceipt : List ℕ → List ℕ → List ℕ → ℕ → Read
 withReceipt r p s refusal body =
     cond (eqb (length r) 12) (cond (eqb refusal 0) body (refused refusal p s)) (readingOf 2 r p s)
 
--- Read a square
+-- SPECIFICATION 10.9: Read a square
 unfoldable pub readOf : List ℕ → ℕ → List ℕ → List ℕ → List ℕ → Reading
 readOf sq side p s r =
     let v = sideVersion side in
     withReceipt r p s (readRefusal side sq) (bodyOf v (levelIn v sq) (maskIn v sq) (distanceIn v sq) sq p s)
 
--- Read with known version, level, mask: its receipt shows distance 0
+-- SPECIFICATION 10.10: Read with known version, level, mask; its receipt shows distance 0
 unfoldable pub readKnownOf : List ℕ → ℕ → ℕ → ℕ → List ℕ → List ℕ → List ℕ → Reading
 readKnownOf sq v level mask p s r = withReceipt r p s (knownRefusal v level mask sq) (bodyOf v level mask 0 sq p s)

@@ -1,4 +1,4 @@
--- Document 01, "Operations": Write a square.
+-- SPECIFICATION 10.11: Write a square.
 use mathlib.Core.Bool.{cond}
 use mathlib.Core.List.{List, [], _∷_}
 use Prim.Native.Nat.{ℕ, _*_}
@@ -27,7 +27,7 @@ writingOf n sq = record { number = n; square = sq }
 abbrev pub roomOf : ℕ → ℕ → ℕ
 roomOf v level = totalData (shapesOf v level)
 
--- 1 version, level or mask outside its range, or a row or version as under Blocks; 2 square not s × s; 11, 12 or 8 for script and payload;
+-- 1 version, level or mask outside its range, or by SPECIFICATION 7.4; 2 square not s × s; 11, 12 or 8 for script and payload;
 -- 13 more bits than 8 × data codewords
 unfoldable pub writeRefusal : ℕ → ℕ → ℕ → List ℕ → List ℕ → List ℕ → ℕ
 writeRefusal v level mask s p sq =
