@@ -13,7 +13,7 @@ use Rattle.symbol.specs.Layout.{layoutOf}
 use Rattle.symbol.proofs.Theorems.{layout-length}
 use Rattle.information.specs.Information.{isInfo, infoBits, wordAt, copyOf, infoFlips, nearest, distance, nearestLevel, nearestMask, nearestDistance}
 use Rattle.information.proofs.Apart.{word-lt}
-use Rattle.information.proofs.Flips.{flips-nearest, write-then-first, write-then-second, info-length, info-bits}
+use Rattle.information.proofs.Flips.{flips-distance, flips-nearest, write-then-first, write-then-second, info-length, info-bits}
 use Rattle.blocks.specs.Blocks.{shapesOf, hasBlocks}
 use Rattle.codewords.specs.Codewords.{maskBit, squareOf}
 use Rattle.codewords.proofs.Back.{length-square}
@@ -152,12 +152,17 @@ module _ (v l k : ℕ) (s p : List ℕ) (R : Ranges v l k) where
     abbrev copy : Bool → ℕ
     copy second = copyOf (sideOf v) second h
 
-    near : (nearest v (copy false) (copy true) ≡ 4 * l + k) × (distance v (copy false) (copy true) (4 * l + k) ≤ infoFlips (layoutOf v) mark h)
+    first-copy : copyOf (sideOf v) false mark ≡ wordAt v (4 * l + k)
     unfolding markOf
+    first-copy = write-then-first v (R .low) (infoBits v l k) base (omega (arith, base-length)) word-small ∙ word-is
+
+    second-copy : copyOf (sideOf v) true mark ≡ wordAt v (4 * l + k)
+    unfolding markOf
+    second-copy = write-then-second v (R .low) (infoBits v l k) base (omega (arith, base-length)) word-small ∙ word-is
+
+    near : nearest v (copy false) (copy true) ≡ 4 * l + k
     near =
-        flips-nearest v (4 * l + k) mark h (R .low) (R .high) (omega (arith, R .level, R .mask)) mark-length size mark-below b
-        (write-then-first v (R .low) (infoBits v l k) base (omega (arith, base-length)) word-small ∙ word-is)
-        (write-then-second v (R .low) (infoBits v l k) base (omega (arith, base-length)) word-small ∙ word-is) few
+        flips-nearest v (4 * l + k) mark h (R .low) (R .high) (omega (arith, R .level, R .mask)) mark-length size mark-below b first-copy second-copy few
 
     versioned : isVersion v ≡ true
     versioned = version-is v (R .low) (R .high)
@@ -166,13 +171,13 @@ module _ (v l k : ℕ) (s p : List ℕ) (R : Ranges v l k) where
     unfolding levelIn nearestLevel
     level-is =
         ap (λ (t : Bool). cond t (nearest v (copy false) (copy true) / 4) 0) versioned
-        ∙ ap (λ (n : ℕ). n / 4) (near .0) ∙ (let e : (4 * l + k) / 4 ≡ l = omega (arith, R .mask) in e)
+        ∙ ap (λ (n : ℕ). n / 4) near ∙ (let e : (4 * l + k) / 4 ≡ l = omega (arith, R .mask) in e)
 
     pub mask-is : maskIn v h ≡ k
     unfolding maskIn nearestMask
     mask-is =
         ap (λ (t : Bool). cond t (nearest v (copy false) (copy true) % 4) 0) versioned
-        ∙ ap (λ (n : ℕ). n % 4) (near .0) ∙ (let e : (4 * l + k) % 4 ≡ k = omega (arith, R .mask) in e)
+        ∙ ap (λ (n : ℕ). n % 4) near ∙ (let e : (4 * l + k) % 4 ≡ k = omega (arith, R .mask) in e)
 
     pub distance-le : distanceIn v h ≤ 8
     unfolding distanceIn nearestDistance
@@ -180,6 +185,6 @@ module _ (v l k : ℕ) (s p : List ℕ) (R : Ranges v l k) where
         omega (
           arith,
           ap (λ (t : Bool). cond t (distance v (copy false) (copy true) (nearest v (copy false) (copy true))) 0) versioned,
-          ap (distance v (copy false) (copy true)) (near .0),
-          near .1,
+          ap (distance v (copy false) (copy true)) near,
+          flips-distance v (4 * l + k) mark h (R .low) mark-length size mark-below b first-copy second-copy,
         )

@@ -24,7 +24,7 @@ use Rattle.blockwise.proofs.Theorems.{row-holds-own}
 use Rattle.squares.specs.Read.{Reading, readingOf, refused, withReceipt, levelIn, maskIn}
 use Rattle.squares.proofs.Refusals.{both-true, true-both, true-unless, false-unless, leb-fact, eqb-fact}
 use Rattle.squares.proofs.Marks.{version-is}
-use Rattle.squares.proofs.Demand.{data-le}
+use Rattle.squares.proofs.ReadBack.{data-le}
 
 -- ---- the layout of a version, written into a buffer that is long enough
 

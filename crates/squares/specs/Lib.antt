@@ -2,3 +2,4 @@
 pub mod Receipt
 pub mod Read
 pub mod Write
+pub mod Promise
