@@ -55,20 +55,17 @@ infoBits v level mask = wordOf (dataOf v level mask)
 unfoldable pub isInfo : ℕ → ℕ → ℕ → Bool
 isInfo v level mask = isVersion v && (leb level 3 && leb mask 3)
 
-unfoldable pub infoRefusal : ℕ → ℕ → ℕ → ℕ
-infoRefusal v level mask = cond (isInfo v level mask) 0 1
+pub record InfoAnswer : Type 0 where
+  pub number : ℕ
+  pub word : ℕ
 
-unfoldable pub infoWord : ℕ → ℕ → ℕ → ℕ
-infoWord v level mask = cond (isInfo v level mask) (infoBits v level mask) 0
+unfoldable pub infoOf : ℕ → ℕ → ℕ → InfoAnswer
+infoOf v level mask = cond (isInfo v level mask) (record { number = 0; word = infoBits v level mask }) (record { number = 1; word = 0 })
 
--- an answer's refusal number and word
-abbrev pub wordRefusalOf : InfoBits → ℕ
-wordRefusalOf (bits.Word w) = 0
-wordRefusalOf bits.OutOfRange = 1
-
-abbrev pub wordIn : InfoBits → ℕ
-wordIn (bits.Word w) = w
-wordIn bits.OutOfRange = 0
+-- what each case of the code's answer says
+abbrev pub infoAnswer : InfoBits → InfoAnswer
+infoAnswer (bits.Word w) = record { number = 0; word = w }
+infoAnswer bits.OutOfRange = record { number = 1; word = 0 }
 
 -- The nearest of the 16 words of a version (5.5 to 5.7).
 
@@ -90,34 +87,22 @@ unfoldable pub nearest : ℕ → ℕ → ℕ → ℕ
 nearest v a b = leastOf (distance v a b) 15
 
 -- SPECIFICATION 10.4, Nearest word. 1: version outside its range; 0, and level, mask and distance beside it.
-unfoldable pub nearestRefusal : ℕ → ℕ
-nearestRefusal v = cond (isVersion v) 0 1
+pub record NearestAnswer : Type 0 where
+  pub number : ℕ
+  pub level : ℕ
+  pub mask : ℕ
+  pub distance : ℕ
 
-unfoldable pub nearestLevel : ℕ → ℕ → ℕ → ℕ
-nearestLevel v a b = cond (isVersion v) (nearest v a b / 4) 0
+unfoldable pub nearestOf : ℕ → ℕ → ℕ → NearestAnswer
+nearestOf v a b =
+    let k = nearest v a b in
+    cond (isVersion v) (record { number = 0; level = k / 4; mask = k % 4; distance = distance v a b k })
+    (record { number = 1; level = 0; mask = 0; distance = 0 })
 
-unfoldable pub nearestMask : ℕ → ℕ → ℕ → ℕ
-nearestMask v a b = cond (isVersion v) (nearest v a b % 4) 0
-
-unfoldable pub nearestDistance : ℕ → ℕ → ℕ → ℕ
-nearestDistance v a b = cond (isVersion v) (distance v a b (nearest v a b)) 0
-
--- an answer's refusal number, level, mask and distance
-abbrev pub nearestRefusalOf : NearestInfo → ℕ
-nearestRefusalOf (near.Nearest l m d) = 0
-nearestRefusalOf near.NoVersion = 1
-
-abbrev pub levelOf : NearestInfo → ℕ
-levelOf (near.Nearest l m d) = l
-levelOf near.NoVersion = 0
-
-abbrev pub maskOf : NearestInfo → ℕ
-maskOf (near.Nearest l m d) = m
-maskOf near.NoVersion = 0
-
-abbrev pub distanceOf : NearestInfo → ℕ
-distanceOf (near.Nearest l m d) = d
-distanceOf near.NoVersion = 0
+-- what each case of the code's answer says
+abbrev pub nearestAnswer : NearestInfo → NearestAnswer
+nearestAnswer (near.Nearest l m d) = record { number = 0; level = l; mask = m; distance = d }
+nearestAnswer near.NoVersion = record { number = 1; level = 0; mask = 0; distance = 0 }
 
 -- The 68 information modules of a square of side s (5.3, 5.4): 34 places, each in two copies.
 

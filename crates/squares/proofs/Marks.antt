@@ -11,7 +11,7 @@ use lib.ListN.{length}
 use Rattle.symbol.specs.Version.{sideOf, isVersion, isSide, sideVersion}
 use Rattle.symbol.specs.Layout.{layoutOf}
 use Rattle.symbol.proofs.Theorems.{layout-length}
-use Rattle.information.specs.Information.{isInfo, infoBits, wordAt, copyOf, infoFlips, nearest, distance, nearestLevel, nearestMask, nearestDistance}
+use Rattle.information.specs.Information.{isInfo, infoBits, wordAt, copyOf, infoFlips, nearest, distance, NearestAnswer, nearestOf}
 use Rattle.information.proofs.Apart.{word-lt}
 use Rattle.information.proofs.Flips.{flips-distance, flips-nearest, write-then-first, write-then-second, info-length, info-bits}
 use Rattle.blocks.specs.Blocks.{shapesOf, hasBlocks}
@@ -22,7 +22,7 @@ use Rattle.script.specs.declared.Check.{Check}
 use Rattle.script.specs.declared.Check.the-variants.{Bits, Malformed, Lacking, Empty}
 use Rattle.script.specs.Check.{commandsOf, checkOf, bitsOfCheck, encoded}
 use Rattle.script.specs.Check.{refusalOf as checkRefusal}
-use Rattle.squares.specs.Read.{unless, levelIn, maskIn, distanceIn}
+use Rattle.squares.specs.Read.{unless, levelIn, maskIn, distanceIn, nearestIn}
 use Rattle.squares.specs.Write.{Writing, roomOf, writeRefusal, markOf, writeOf}
 use Rattle.squares.proofs.Refusals.{true-unless, first-none, both-true, true-both, leb-fact, eqb-fact}
 use Rattle.codewords.proofs.Masks.{mask-bit-lt}
@@ -167,24 +167,24 @@ module _ (v l k : ℕ) (s p : List ℕ) (R : Ranges v l k) where
     versioned : isVersion v ≡ true
     versioned = version-is v (R .low) (R .high)
 
+    found : nearestIn v h ≡ record { number = 0; level = l; mask = k; distance = distance v (copy false) (copy true) (4 * l + k) }
+    unfolding nearestIn nearestOf
+    found =
+        simp (versioned, near)
+        (let a : (4 * l + k) / 4 ≡ l = omega (arith, R .mask) in
+        let b : (4 * l + k) % 4 ≡ k = omega (arith, R .mask) in
+        λ i. record { number = 0; level = a i; mask = b i; distance = distance v (copy false) (copy true) (4 * l + k) })
+
     pub level-is : levelIn v h ≡ l
-    unfolding levelIn nearestLevel
-    level-is =
-        ap (λ (t : Bool). cond t (nearest v (copy false) (copy true) / 4) 0) versioned
-        ∙ ap (λ (n : ℕ). n / 4) near ∙ (let e : (4 * l + k) / 4 ≡ l = omega (arith, R .mask) in e)
+    level-is = ap (λ (x : NearestAnswer). x .level) found
 
     pub mask-is : maskIn v h ≡ k
-    unfolding maskIn nearestMask
-    mask-is =
-        ap (λ (t : Bool). cond t (nearest v (copy false) (copy true) % 4) 0) versioned
-        ∙ ap (λ (n : ℕ). n % 4) near ∙ (let e : (4 * l + k) % 4 ≡ k = omega (arith, R .mask) in e)
+    mask-is = ap (λ (x : NearestAnswer). x .mask) found
 
     pub distance-le : distanceIn v h ≤ 8
-    unfolding distanceIn nearestDistance
     distance-le =
         omega (
           arith,
-          ap (λ (t : Bool). cond t (distance v (copy false) (copy true) (nearest v (copy false) (copy true))) 0) versioned,
-          ap (distance v (copy false) (copy true)) near,
+          ap (λ (x : NearestAnswer). x .distance) found,
           flips-distance v (4 * l + k) mark h (R .low) mark-length size mark-below b first-copy second-copy,
         )

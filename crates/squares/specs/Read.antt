@@ -7,7 +7,7 @@ use lib.Dec.{leb, eqb}
 use lib.ListN.{length}
 use Rattle.symbol.specs.Version.{sideOf, isSide, sideVersion}
 use Rattle.symbol.specs.Layout.{layoutOf}
-use Rattle.information.specs.Information.{isInfo, copyOf, nearestLevel, nearestMask, nearestDistance}
+use Rattle.information.specs.Information.{isInfo, copyOf, NearestAnswer, nearestOf}
 use Rattle.blocks.specs.Blocks.{totalOf, shapesOf, hasBlocks, cut}
 use Rattle.codewords.specs.Codewords.{maskBit, streamIn}
 use Rattle.blockwise.specs.Blockwise.{refusalOf, countOf, corrected, dataOf}
@@ -44,14 +44,17 @@ areModules [] = true
 areModules (m ∷ ms) = leb m 1 && areModules ms
 
 -- the nearest level and mask of a square of version v, and their distance
-unfoldable pub levelIn : ℕ → List ℕ → ℕ
-levelIn v sq = nearestLevel v (copyOf (sideOf v) false sq) (copyOf (sideOf v) true sq)
+unfoldable pub nearestIn : ℕ → List ℕ → NearestAnswer
+nearestIn v sq = nearestOf v (copyOf (sideOf v) false sq) (copyOf (sideOf v) true sq)
 
-unfoldable pub maskIn : ℕ → List ℕ → ℕ
-maskIn v sq = nearestMask v (copyOf (sideOf v) false sq) (copyOf (sideOf v) true sq)
+abbrev pub levelIn : ℕ → List ℕ → ℕ
+levelIn v sq = nearestIn v sq .level
 
-unfoldable pub distanceIn : ℕ → List ℕ → ℕ
-distanceIn v sq = nearestDistance v (copyOf (sideOf v) false sq) (copyOf (sideOf v) true sq)
+abbrev pub maskIn : ℕ → List ℕ → ℕ
+maskIn v sq = nearestIn v sq .mask
+
+abbrev pub distanceIn : ℕ → List ℕ → ℕ
+distanceIn v sq = nearestIn v sq .distance
 
 -- the stream of a square of version v under a mask
 unfoldable pub streamFrom : ℕ → ℕ → List ℕ → List ℕ
