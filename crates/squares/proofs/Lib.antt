@@ -7,3 +7,4 @@ pub mod ReadBack
 pub mod Starts
 pub mod AnySquare
 pub mod Theorems
+pub mod Instance
