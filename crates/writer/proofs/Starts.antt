@@ -27,9 +27,12 @@ module _ (v l k : ℕ) (b : InfoBits) (er : infoAnswer b ≡ infoOf v l k) (w : 
   has = has-word v l k b er w e
 
   -- it is theirs
-  word-is : w ≡ infoBits v l k
+  theirs : infoOf v l k ≡ record { number = 0; word = infoBits v l k }
   unfolding infoOf
-  word-is = sym (ap (λ (x : InfoBits). infoAnswer x .word) e) ∙ ap (λ (x : InfoAnswer). x .word) (er ∙ simp has)
+  theirs = simp has
+
+  word-is : w ≡ infoBits v l k
+  word-is = sym (ap (λ (x : InfoBits). infoAnswer x .word) e) ∙ ap (λ (x : InfoAnswer). x .word) (er ∙ theirs)
 
   pub ranged : Ranged (record { version = v; level = l; mask = k; word = w })
   ranged = let R = ranges v l k has in record { low = R .low; high = R .high; level = R .level; mask = R .mask; word = word-is }
