@@ -160,10 +160,13 @@ module _ (v side a b : ℕ) (sq : List ℕ) (es : side ≡ sideOf v) (ea : a ≡
         distance = ap (λ (x : NearestAnswer). x .distance) is;
       }
 
-  pub no-version : 1 ≤ v → v ≤ 84 → r ≡ NoVersion → nearestAnswer r ≡ nearestOf v a b → ⊥
+  zero-number : 1 ≤ v → v ≤ 84 → nearestOf v a b .number ≡ 0
   unfolding nearestOf
+  zero-number low high = simp (version-is v low high)
+
+  pub no-version : 1 ≤ v → v ≤ 84 → r ≡ NoVersion → nearestAnswer r ≡ nearestOf v a b → ⊥
   no-version low high e f =
-      let z : nearestAnswer r .number ≡ 0 = ap (λ (x : NearestAnswer). x .number) (f ∙ simp (version-is v low high)) in
+      let z : nearestAnswer r .number ≡ 0 = ap (λ (x : NearestAnswer). x .number) f ∙ zero-number low high in
       omega (arith, ap (λ (x : NearestInfo). nearestAnswer x .number) e)
 
 -- ---- Read a square
