@@ -1,14 +1,14 @@
 -- The premises of the theorem can be met: the digit 5 is written as a mark of version 1, and the mark is read back. Whether it is written is
 -- computed. Assumes nothing.
-use mathlib.Core.Path.{_≡_, refl, ap, _∙_}
-use mathlib.Core.Bool.{Bool, true, false, cond, not, _&&_}
-use mathlib.Core.List.{List, [], _∷_, _++_}
-use Prim.Native.Nat.{ℕ, zero, suc, _+_, _*_, _/_, _≤_, _<_}
+use mathlib.Core.Path.{_≡_, refl, ap}
+use mathlib.Core.Bool.{Bool, true, false, cond, _&&_}
+use mathlib.Core.List.{List, [], _∷_}
+use Prim.Native.Nat.{ℕ, zero, suc, _+_, _*_, _<_}
 use native.Mathlib.Omega.{arith}
 use borrow.Author.Tests.{eq-eqb}
 use lib.Dec.{eqb, leb}
-use lib.ListN.{length, getD, drop, replicate}
-use Rattle.symbol.specs.Version.{sideOf, isVersion}
+use lib.ListN.{getD, replicate}
+use Rattle.symbol.specs.Version.{isVersion}
 use Rattle.symbol.specs.Layout.{layoutOf, plotAll, corners, table, cornerAt, ring, edge, finderAt, finderRow, half, within, finders}
 use Rattle.information.specs.Information.{isInfo, infoFlips}
 use Rattle.blocks.specs.Table.{blocks, totals}

@@ -8,19 +8,13 @@ use borrow.Author.Needs.{needs}
 use Rattle.blocks.proofs.block_row.Statement.{statement}
 use Rattle.blocks.proofs.block_row.Tie as tie
 
-nine-requires : tie.Need-nine-requires
-nine-requires c κs = let start = c .before .before in (omega (arith, start .pre .1, start .pre .2), omega (arith, c .before .if1 .taken, start .pre .2))
-
 returns : tie.Need-returns
 unfolding blocks
 returns c =
     let start = c .before .before .before in
     let v = start .args .version in
     let level = start .args .level in
-    row-copied v level (start .pre .0) (start .pre .1) (start .pre .2) _ (c .nine .ensures .0) (λ k h. c .nine .ensures .1 k h ∙ getD-take 360 blocks ((4 * (v - 1) + level) * 9 + k) 0 (omega (arith, c .before .before .if1 .taken, start .pre .2)))
-
-nine-requires-2 : tie.Need-nine-requires-2
-nine-requires-2 c κs = let start = c .before .before in (omega (arith, start .pre .1, start .pre .2), omega (arith, start .pre .1, start .pre .2))
+    row-copied v level (start .pre .0) (start .pre .1) (start .pre .2) _ (c .nine .ensures .0) (λ k h. c .nine .ensures .1 k h ∙ getD-take 360 blocks ((4 * (v - 1) + level) * 9 + k) 0 (omega arith))
 
 returns-2 : tie.Need-returns-2
 unfolding blocks
@@ -28,5 +22,5 @@ returns-2 c = let start = c .before .before .before in row-copied (start .args .
 
 pub block-row-spec : {M : Type 1} → statement M
 block-row-spec =
-    tie.close (tie.spec (λ c. omega arith) (λ c. omega arith) (λ c. omega arith) (λ c. omega arith) (λ c. search needs) nine-requires
-    returns (λ c. search needs) nine-requires-2 returns-2)
+    tie.close (tie.spec (λ c. omega arith) (λ c. omega arith) (λ c. omega arith) (λ c. omega arith) (λ c. search needs)
+    (λ c κs. (omega arith, omega arith)) returns (λ c. search needs) (λ c κs. (omega arith, omega arith)) returns-2)

@@ -22,18 +22,15 @@ loop-holds c = (omega arith, refl)
 add-count : tie.Need-add-count Inv-loop μ-loop
 add-count c =
     let kinds = c .before .before .before .before .before .args .kinds .now in
-    let end = c .before .run-end .result in omega (arith, c .run-modules .ensures, modules-few (take end kinds), length-take-le end kinds (omega arith))
-
-loop-again : tie.Need-loop-again Inv-loop μ-loop
-loop-again c = (omega arith, omega (arith, c .run-modules .ensures))
+    let end = c .before .run-end .result in omega (arith, modules-few (take end kinds), length-take-le end kinds (omega arith))
 
 returns : tie.Need-returns Inv-loop μ-loop
 returns c =
     let start = c .before .before .before in
     let loop = c .before .loop in
-    let e : loop .i ≡ start .args .n = omega (arith, c .loop-test .left, loop .inv .0) in loop .inv .1 ∙ ap (λ (k : ℕ). dataModules (take k (start .args .kinds .now))) e
+    let e : loop .i ≡ start .args .n = omega arith in loop .inv .1 ∙ ap (λ (k : ℕ). dataModules (take k (start .args .kinds .now))) e
 
 pub data-modules-spec : {M : Type 1} → statement M
 data-modules-spec =
     tie.close (tie.spec Inv-loop μ-loop loop-holds (λ c κs. search needs) (λ c κs. search needs) (λ c. search needs) add-count
-    (λ c. omega arith) loop-again returns)
+    (λ c. omega arith) (λ c. (omega arith, omega arith)) returns)

@@ -20,13 +20,13 @@ loop-again c =
     let loop = c .before .before .before .loop in
     let more : dataModules (take (start .args .from) (start .args .kinds .now)) + loop .count + c .data-module .result ≡ dataModules (take (loop .i + 1) (start .args .kinds .now)) =
     modules-more (start .args .kinds .now) (start .args .to) (loop .i) _ (c .data-module .result) (start .pre .2) (c .before .before .loop-test .taken) (c .data-module .ensures .0) (loop .inv .2) in
-    (omega arith, omega (arith, c .data-module .ensures .1), omega (arith, more))
+    (omega arith, omega arith, omega (arith, more))
 
 returns : tie.Need-returns Inv-loop μ-loop
 returns c =
     let start = c .before .before .before in
     let loop = c .before .loop in
-    let e : loop .i ≡ start .args .to = omega (arith, c .loop-test .left, loop .inv .0) in loop .inv .2 ∙ ap (λ (k : ℕ). dataModules (take k (start .args .kinds .now))) e
+    let e : loop .i ≡ start .args .to = omega arith in loop .inv .2 ∙ ap (λ (k : ℕ). dataModules (take k (start .args .kinds .now))) e
 
 pub run-modules-spec : {M : Type 1} → statement M
 run-modules-spec =

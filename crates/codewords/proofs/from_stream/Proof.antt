@@ -24,9 +24,8 @@ collect-start-requires c κs = (c .before .before .loop .inv .0, c .before .loop
 loop-again : tie.Need-loop-again Inv-loop μ-loop
 loop-again c =
     let loop = c .before .before .before .before .before .loop in
-    let loop-test = c .before .before .before .before .loop-test in
     let collect-start = c .before .before .collect-start in
-    (collect-start .ensures .0, collect-start .ensures .1 ∙ loop .inv .1, omega (arith, loop-test .taken), collect-start .kept .0 ∙ loop .inv .3)
+    (collect-start .ensures .0, collect-start .ensures .1 ∙ loop .inv .1, omega arith, collect-start .kept .0 ∙ loop .inv .3)
 
 returns : tie.Need-returns Inv-loop μ-loop
 returns c = collect-last (c .before .before .before .before .args .out .now) (c .before .loop .inv .0) (c .loop-test .left) (c .before .loop .inv .1)

@@ -24,9 +24,8 @@ store-start-requires c κs = (c .before .before .loop .inv .0, c .before .loop-t
 loop-again : tie.Need-loop-again Inv-loop μ-loop
 loop-again c =
     let loop = c .before .before .before .before .before .loop in
-    let loop-test = c .before .before .before .before .loop-test in
     let store-start = c .before .before .store-start in
-    (store-start .ensures .0, store-start .ensures .1 ∙ loop .inv .1, omega (arith, loop-test .taken), store-start .kept .0 ∙ loop .inv .3)
+    (store-start .ensures .0, store-start .ensures .1 ∙ loop .inv .1, omega arith, store-start .kept .0 ∙ loop .inv .3)
 
 returns : tie.Need-returns Inv-loop μ-loop
 returns c = store-last (c .before .before .before .before .args .out .now) (c .before .loop .inv .0) (c .loop-test .left) (c .before .loop .inv .1)

@@ -24,7 +24,7 @@ returns-3 c = unfit-refused _ _ _ _ (unfit-long _ _ (c .if3 .taken))
 
 syndromes-requires : tie.Need-syndromes-requires
 syndromes-requires c κs =
-    let start = c .before .before .before .before .before .before in (start .pre .0, (omega (arith, start .pre .1, c .before .before .before .if2 .left, c .before .before .if3 .left), (refl, zeros 256)))
+    let start = c .before .before .before .before .before .before in (start .pre .0, (omega arith, (refl, zeros 256)))
 
 returns-4 : tie.Need-returns-4
 unfolding outcome
@@ -32,26 +32,20 @@ returns-4 c =
     let start = c .before .before .before .before .before .before .before .before .before .before .before in
     let slice-known = c .before .before .before .before .before .before .before .before .before .before .slice-known in
     let if1 = c .before .before .before .before .before .before .before .before .before .if1 in
-    let if2 = c .before .before .before .before .before .before .before .before .if2 in
-    let if3 = c .before .before .before .before .before .before .before .if3 in
-    clean-settled _ (the-field _ (start .pre .0)) _ _ _ (omega (arith, if3 .left)) (λ i. omega (arith, slice-known .given i)) _ (c .before .before .before .before .syndromes .ensures)
+    clean-settled _ (the-field _ (start .pre .0)) _ _ _ (omega arith) (λ i. omega (arith, slice-known .given i)) _ (c .before .before .before .before .syndromes .ensures)
     (sym (c .if4 .taken) ∙ c .before .clean .ensures)
-    ∙ fit-settled _ _ _ _ (fit _ _ (if1 .left) (omega (arith, if2 .left)) (omega (arith, if3 .left)))
+    ∙ fit-settled _ _ _ _ (fit _ _ (if1 .left) (omega arith) (omega arith))
 
 repair-requires : tie.Need-repair-requires
 repair-requires c κs =
     let start = c .before .before .before .before .before .before .before .before .before .before .before .before .before in
-    let if2 = c .before .before .before .before .before .before .before .before .before .before .if2 in
-    let if3 = c .before .before .before .before .before .before .before .before .before .if3 in
     let syndromes = c .before .before .before .before .before .before .syndromes in
-    (start .pre .0, ((start .pre .1, omega (arith, if2 .left, if3 .left), omega (arith, if3 .left)), syndromes .ensures))
+    (start .pre .0, ((start .pre .1, omega arith, omega arith), syndromes .ensures))
 
 returns-5 : tie.Need-returns-5
 returns-5 c =
     let if1 = c .before .before .before .before .before .before .before .before .before .before .before .before .before .before .before .if1 in
-    let if2 = c .before .before .before .before .before .before .before .before .before .before .before .before .before .before .if2 in
-    let if3 = c .before .before .before .before .before .before .before .before .before .before .before .before .before .if3 in
-    c .before .before .before .repair .ensures ∙ fit-settled _ _ _ _ (fit _ _ (if1 .left) (omega (arith, if2 .left)) (omega (arith, if3 .left)))
+    c .before .before .before .repair .ensures ∙ fit-settled _ _ _ _ (fit _ _ (if1 .left) (omega arith) (omega arith))
 
 pub correct-over-spec : {M : Type 1} → statement M
 correct-over-spec =

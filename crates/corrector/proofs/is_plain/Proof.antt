@@ -8,7 +8,7 @@ use Rattle.corrector.proofs.is_plain.Tie as tie
 
 mul-result : tie.Need-mul-result
 mul-result c =
-    let fits = c .before .is-untabled .ensures (c .if1 .left) in omega (arith, fits .2, mul-le-mul-left (c .before .before .args .n) (fits .0 .1))
+    let fits = c .before .is-untabled .ensures (c .if1 .left) in omega (arith, mul-le-mul-left (c .before .before .args .n) (fits .0 .1))
 
 returns-2 : tie.Need-returns-2
 returns-2 c = λ e. c .before .is-untabled .ensures (c .if1 .left)

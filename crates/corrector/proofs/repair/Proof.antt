@@ -26,25 +26,24 @@ roots-requires : tie.Need-roots-requires
 roots-requires c κs =
     let start = c .before .before .before .before .before .before .before .before .before in
     let locator = c .before .before .before .before .locator in
-    (start .pre .0, (omega (arith, c .before .before .if1 .left, start .pre .1 .0 .1), locator .ensures .size, locator .ensures .bytes, omega arith, refl))
+    (start .pre .0, (omega arith, locator .ensures .size, locator .ensures .bytes, omega arith, refl))
 
 take-off-all-requires : tie.Need-take-off-all-requires
 take-off-all-requires c κs =
     let start = c .before .before .before .before .before .before .before .before .before .before .before .before .before .before .before .before .before .before in
-    let roots = c .before .before .before .before .before .before .before .before .roots in
-    (start .pre .0, (omega (arith, start .pre .1 .1 .size), omega arith, omega (arith, c .before .before .before .magnitudes .ensures .size, roots .ensures .size), omega arith))
+    (start .pre .0, (omega arith, omega arith, omega arith, omega arith))
 
 clean-requires : tie.Need-clean-requires
 clean-requires c κs =
     let start = c .before .before .before .before .before .before .before .before .before .before .before .before .before .before .before .before .before .before .before .before .before .before in
-    omega (arith, c .before .before .before .take-off-all .ensures .size, start .pre .1 .1 .size, start .pre .1 .0 .1)
+    omega arith
 
 add-requires : tie.Need-add-requires
 add-requires c κs =
     let start = c .before .before .before .before .before .before .before .before .before .before .before .before .before .before .before .before .before .before .before .before .before .before .before .before .before .before in
     let roots = c .before .before .before .before .before .before .before .before .before .before .before .before .before .before .before .before .roots in
     let magnitudes = c .before .before .before .before .before .before .before .before .before .before .before .magnitudes in
-    omega (arith, magnitudes .ensures .size, roots .ensures .size, start .pre .1 .0 .2)
+    omega arith
 
 returns-2 : tie.Need-returns-2
 unfolding outcome
@@ -60,7 +59,7 @@ returns-2 c =
     let if2 = c .before .before .before .before .before .if2 in
     repaired-settled _ (the-field _ (start .pre .0)) _ _ _ (start .pre .1 .0 .2) (λ i. omega (arith, slice-known .given i)) _ (start .pre .1 .1)
     _ _ (locator .ensures) _ _ _ (roots .ensures) (magnitudes .ensures) (take-off-all .ensures)
-    (omega (arith, if1 .left)) (sym (if2 .taken) ∙ clean .ensures) _ (c .before .before .add .ensures)
+    (omega arith) (sym (if2 .taken) ∙ clean .ensures) _ (c .before .before .add .ensures)
 
 returns-3 : tie.Need-returns-3
 unfolding outcome

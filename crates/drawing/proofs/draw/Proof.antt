@@ -17,23 +17,17 @@ abbrev μ-loop : tie.MeasureT-loop
 loop-holds : tie.Need-loop-holds Inv-loop μ-loop
 loop-holds c = (omega arith, refl, λ k h. absurd (omega arith))
 
-shared-slice-read-pattern : tie.Need-shared-slice-read-pattern Inv-loop μ-loop
-shared-slice-read-pattern c = omega (arith, c .before .before .before .before .before .pre, c .before .before .loop .inv .1)
-
-loop-less : tie.Need-loop-less Inv-loop μ-loop
-loop-less c = omega (arith, c .before .before .loop-test .taken, c .before .before .before .loop .inv .1)
-
 loop-again : tie.Need-loop-again Inv-loop μ-loop
 loop-again c =
     let loop = c .before .before .before .loop in
     let kinds = c .before .before .before .before .before .before .args .kinds .now in
-    (omega (arith, c .before .before .loop-test .taken, loop .inv .1), length-set (loop .square) (loop .i) (c .pattern .result) ∙ loop .inv .1, copied-more (λ (k : ℕ). patternOf (getD kinds k 0)) (loop .square) (loop .i) (c .pattern .result) (c .before .before .loop-test .taken) (c .pattern .ensures) (loop .inv .2))
+    (omega arith, length-set (loop .square) (loop .i) (c .pattern .result) ∙ loop .inv .1, copied-more (λ (k : ℕ). patternOf (getD kinds k 0)) (loop .square) (loop .i) (c .pattern .result) (c .before .before .loop-test .taken) (c .pattern .ensures) (loop .inv .2))
 
 returns : tie.Need-returns Inv-loop μ-loop
-returns c = let loop = c .before .loop in record { is = λ k lo hi. loop .inv .2 k (omega (arith, c .loop-test .left, c .before .before .before .before .pre, loop .inv .1)) }
+returns c = let loop = c .before .loop in record { is = λ k lo hi. loop .inv .2 k (omega arith) }
 
 pub draw-spec : {M : Type 1} → statement M
 draw-spec =
-    tie.close (tie.spec Inv-loop μ-loop loop-holds shared-slice-read-pattern (λ c κs. search needs)
-    (λ c. omega (arith, c .before .before .loop-test .taken)) (λ c. search needs) loop-less loop-again (λ c. c .before .loop .inv .1)
-    returns)
+    tie.close (tie.spec Inv-loop μ-loop loop-holds (λ c. omega arith) (λ c κs. search needs)
+    (λ c. omega (arith, c .before .before .loop-test .taken)) (λ c. search needs) (λ c. omega arith) loop-again
+    (λ c. c .before .loop .inv .1) returns)

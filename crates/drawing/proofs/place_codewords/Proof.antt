@@ -10,7 +10,7 @@ use Rattle.drawing.proofs.place_codewords.Statement.{statement}
 use Rattle.drawing.proofs.place_codewords.Tie as tie
 
 slice-aggregate-place-all : tie.Need-slice-aggregate-place-all
-slice-aggregate-place-all c = let start = c .before .before .before .before .before in sym (length-take-le (start .args .side * start .args .side) (start .args .kinds .now) (omega (arith, start .pre .0 .0, start .pre .0 .3)))
+slice-aggregate-place-all c = let start = c .before .before .before .before .before in sym (length-take-le (start .args .side * start .args .side) (start .args .kinds .now) (omega arith))
 
 slice-aggregate-place-all-2 : tie.Need-slice-aggregate-place-all-2
 slice-aggregate-place-all-2 c = let start = c .before .before .before .before .before .before in sym (length-take-le (start .args .total) (start .args .codewords .now) (start .pre .1 .0))
@@ -18,8 +18,8 @@ slice-aggregate-place-all-2 c = let start = c .before .before .before .before .b
 place-all-requires : tie.Need-place-all-requires
 place-all-requires c κs =
     let start = c .before .before .before .before .before .before in
-    let kinds = length-take-le (start .args .side * start .args .side) (start .args .kinds .now) (omega (arith, start .pre .0 .0, start .pre .0 .3)) in
-    (start .pre .0 .3 ∙ sym kinds, start .pre .0 .1, start .pre .0 .2, start .pre .0 .3, omega (arith, start .pre .1 .1, length-take-le (start .args .total) (start .args .codewords .now) (start .pre .1 .0)))
+    let kinds = length-take-le (start .args .side * start .args .side) (start .args .kinds .now) (omega arith) in
+    (start .pre .0 .3 ∙ sym kinds, start .pre .0 .1, start .pre .0 .2, start .pre .0 .3, omega (arith, length-take-le (start .args .total) (start .args .codewords .now) (start .pre .1 .0)))
 
 returns : tie.Need-returns
 returns c =

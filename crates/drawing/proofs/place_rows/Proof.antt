@@ -37,40 +37,34 @@ mask-row-requires c κs =
     let side = c .before .before .before .before .before .before .before .before .before .before .pre .3 in (omega (arith, taken, side), omega (arith, side), columns-fewer (omega (arith, taken)) columns, columns, c .before .before .before .loop .inv .0)
 
 mul-at : tie.Need-mul-at Inv-loop μ-loop
-mul-at c = omega (arith, row-inside (c .before .before .before .before .before .loop .i) (c .before .before .before .before .before .before .before .before .before .before .before .before .args .side) (c .before .before .before .before .loop-test .taken), c .before .before .before .before .before .before .before .before .before .before .before .before .pre .4, c .before .before .before .before .before .before .before .before .before .before .before .before .pre .1, mul-le-mul-left (c .before .before .before .before .before .before .before .before .before .before .before .before .args .side) (c .before .before .before .before .before .before .before .before .before .before .before .before .pre .3), c .before .before .before .before .before .before .before .before .before .before .before .before .pre .3)
+mul-at c = omega (arith, row-inside (c .before .before .before .before .before .loop .i) (c .before .before .before .before .before .before .before .before .before .before .before .before .args .side) (c .before .before .before .before .loop-test .taken), mul-le-mul-left (c .before .before .before .before .before .before .before .before .before .before .before .before .args .side) (c .before .before .before .before .before .before .before .before .before .before .before .before .pre .3))
 
 add-end : tie.Need-add-end Inv-loop μ-loop
-add-end c = omega (arith, row-inside (c .before .before .before .before .before .loop .i) (c .before .before .before .before .before .before .before .before .before .before .before .before .args .side) (c .before .before .before .before .loop-test .taken), c .before .before .before .before .before .before .before .before .before .before .before .before .pre .4, c .before .before .before .before .before .before .before .before .before .before .before .before .pre .1, mul-le-mul-left (c .before .before .before .before .before .before .before .before .before .before .before .before .args .side) (c .before .before .before .before .before .before .before .before .before .before .before .before .pre .3), c .before .before .before .before .before .before .before .before .before .before .before .before .pre .3)
+add-end c = omega (arith, row-inside (c .before .before .before .before .before .loop .i) (c .before .before .before .before .before .before .before .before .before .before .before .before .args .side) (c .before .before .before .before .loop-test .taken), mul-le-mul-left (c .before .before .before .before .before .before .before .before .before .before .before .before .args .side) (c .before .before .before .before .before .before .before .before .before .before .before .before .pre .3))
 
 part-put-row-end : tie.Need-part-put-row-end Inv-loop μ-loop
-part-put-row-end c = omega (arith, row-inside (c .before .before .before .before .before .loop .i) (c .before .before .before .before .before .before .before .before .before .before .before .before .args .side) (c .before .before .before .before .loop-test .taken), c .before .before .before .before .before .before .before .before .before .before .before .before .pre .4, c .before .before .before .before .before .before .before .before .before .before .before .before .pre .1, c .before .before .before .before .before .loop .inv .2 .size)
+part-put-row-end c = omega (arith, row-inside (c .before .before .before .before .before .loop .i) (c .before .before .before .before .before .before .before .before .before .before .before .before .args .side) (c .before .before .before .before .loop-test .taken))
 
 part-put-row-end-2 : tie.Need-part-put-row-end-2 Inv-loop μ-loop
-part-put-row-end-2 c = omega (arith, row-inside (c .before .before .before .before .before .before .loop .i) (c .before .before .before .before .before .before .before .before .before .before .before .before .before .args .side) (c .before .before .before .before .before .loop-test .taken), c .before .before .before .before .before .before .before .before .before .before .before .before .before .pre .4, c .before .before .before .before .before .before .before .before .before .before .before .before .before .pre .1)
+part-put-row-end-2 c = omega (arith, row-inside (c .before .before .before .before .before .before .loop .i) (c .before .before .before .before .before .before .before .before .before .before .before .before .before .args .side) (c .before .before .before .before .before .loop-test .taken))
 
 put-row-requires : tie.Need-put-row-requires Inv-loop μ-loop
 put-row-requires c κs =
     let start = c .before .before .before .before .before .before .before .before .before .before .before .before .before .before .before in
     let loop = c .before .before .before .before .before .before .before .before .loop in
-    let h : loop .i * start .args .side + start .args .side ≤ length (start .args .kinds .now) = omega (arith, row-inside (c .before .before .before .before .before .before .before .before .loop .i) (c .before .before .before .before .before .before .before .before .before .before .before .before .before .before .before .args .side) (c .before .before .before .before .before .before .before .loop-test .taken), c .before .before .before .before .before .before .before .before .before .before .before .before .before .before .before .pre .4, c .before .before .before .before .before .before .before .before .before .before .before .before .before .before .before .pre .1) in
+    let h : loop .i * start .args .side + start .args .side ≤ length (start .args .kinds .now) = omega (arith, row-inside (c .before .before .before .before .before .before .before .before .loop .i) (c .before .before .before .before .before .before .before .before .before .before .before .before .before .before .before .args .side) (c .before .before .before .before .before .before .before .loop-test .taken)) in
     (row-blank (start .args .kinds .now) (loop .square) (loop .i * start .args .side) (start .args .side) (loop .inv .2 .size) (c .before .before .before .before .mask-row .ensures .0) (start .pre .3) h (start .pre .5), row-drawn (loop .i * start .args .side) (start .args .side) (loop .inv .2 .drawn) h)
-
-add-i : tie.Need-add-i Inv-loop μ-loop
-add-i c = omega (arith, c .before .before .before .before .before .before .before .before .before .before .loop-test .taken, c .before .before .before .before .before .before .before .before .before .before .before .before .before .before .before .before .before .before .pre .3)
-
-loop-less : tie.Need-loop-less Inv-loop μ-loop
-loop-less c = omega (arith, c .before .before .before .before .before .before .before .before .before .before .loop-test .taken)
 
 loop-again : tie.Need-loop-again Inv-loop μ-loop
 loop-again c =
     let start = c .before .before .before .before .before .before .before .before .before .before .before .before .before .before .before .before .before .before in
     let loop = c .before .before .before .before .before .before .before .before .before .before .before .loop in
     let m = maskBit (start .args .side) (start .args .mask) in
-    let h : loop .i * start .args .side + start .args .side ≤ length (start .args .kinds .now) = omega (arith, row-inside (c .before .before .before .before .before .before .before .before .before .before .before .loop .i) (c .before .before .before .before .before .before .before .before .before .before .before .before .before .before .before .before .before .before .args .side) (c .before .before .before .before .before .before .before .before .before .before .loop-test .taken), c .before .before .before .before .before .before .before .before .before .before .before .before .before .before .before .before .before .before .pre .4, c .before .before .before .before .before .before .before .before .before .before .before .before .before .before .before .before .before .before .pre .1) in
+    let h : loop .i * start .args .side + start .args .side ≤ length (start .args .kinds .now) = omega (arith, row-inside (c .before .before .before .before .before .before .before .before .before .before .before .loop .i) (c .before .before .before .before .before .before .before .before .before .before .before .before .before .before .before .before .before .before .args .side) (c .before .before .before .before .before .before .before .before .before .before .loop-test .taken)) in
     let mask-row = c .before .before .before .before .before .before .before .mask-row in
     let put-row = c .before .before .put-row .ensures in (
       mask-row .ensures .0,
-      omega (arith, c .before .before .before .before .before .before .before .before .before .before .loop-test .taken),
+      omega arith,
       placing-row m (start .args .kinds .now) (mask-row .last .0) (loop .i) (start .args .side) (loop .inv .2) h (λ k l. mask-row .ensures .1 k (omega arith) ∙ row-mask (start .args .mask) (loop .i) (start .args .side) k l) (put-row .0) (put-row .1) refl,
     )
 
@@ -81,13 +75,13 @@ returns : tie.Need-returns Inv-loop μ-loop
 returns c =
     let start = c .before .before .before .before .before .before .before .before in
     let loop = c .before .loop in
-    let e : loop .i ≡ start .args .side = omega (arith, loop .inv .1, c .loop-test .left) in
-    placing-done (loop .inv .2) (omega (arith, start .pre .1, start .pre .4, ap (λ (n : ℕ). n * start .args .side) e))
+    let e : loop .i ≡ start .args .side = omega arith in
+    placing-done (loop .inv .2) (omega (arith, ap (λ (n : ℕ). n * start .args .side) e))
 
 pub place-rows-spec : {M : Type 1} → statement M
 place-rows-spec =
     tie.close (tie.spec Inv-loop μ-loop (λ c. omega arith) (λ c. omega arith) (λ c. refl) (λ c κs. (omega arith, refl)) loop-holds
     (λ c. sym (c .before .before .loop .inv .0 .size)) (λ c. sym (c .before .before .before .before .before .columns .ensures .size))
     mask-row-requires mul-at add-end (λ c. omega arith) (λ c. omega arith) part-put-row-end (λ c. omega arith) (λ c. omega arith)
-    part-put-row-end-2 (λ c. sym (c .before .before .before .before .mask-row .ensures .0 .size)) put-row-requires add-i loop-less
-    loop-again same-length returns)
+    part-put-row-end-2 (λ c. sym (c .before .before .before .before .mask-row .ensures .0 .size)) put-row-requires (λ c. omega arith)
+    (λ c. omega arith) loop-again same-length returns)

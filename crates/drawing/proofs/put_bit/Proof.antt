@@ -12,7 +12,7 @@ returns : tie.Need-returns
 returns c = record { room = λ h. absurd (omega arith); full = λ h. (refl, refl) }
 
 cast-square : tie.Need-cast-square
-cast-square c = let start = c .before .before .before .before in omega (arith, c .bit .ensures, bit-lt (start .args .codewords .now) (start .args .bit))
+cast-square c = let start = c .before .before .before .before in omega (arith, bit-lt (start .args .codewords .now) (start .args .bit))
 
 returns-2 : tie.Need-returns-2
 returns-2 c = let start = c .before .before .before .before in record { room = λ h. (refl, ap (λ (y : ℕ). set (start .args .square .now) (start .args .at) (bitXor y (start .args .inverted))) (c .bit .ensures)); full = λ h. absurd (omega arith) }

@@ -8,12 +8,12 @@ use Rattle.drawing.proofs.put_eight.Statement.{statement}
 use Rattle.drawing.proofs.put_eight.Tie as tie
 
 spread-requires : tie.Need-spread-requires
-spread-requires c κs = let start = c .before .before .before .before in omega (arith, c .window .ensures, value-lt (start .args .codewords .now) (start .args .p .bit) 8)
+spread-requires c κs = let start = c .before .before .before .before in omega (arith, value-lt (start .args .codewords .now) (start .args .p .bit) 8)
 
 returns : tie.Need-returns
 returns c =
     let start = c .before .before .before .before .before .before .before .before .before .before .before in
-    let bytes = masked-bytes (start .args .codewords .now) (start .args .row .now) (start .args .p .bit) (start .args .p .column) (omega (arith, start .pre .4)) (start .pre .3) (c .before .before .before .before .before .before .before .window .ensures) (c .before .before .before .before .before .before .spread .ensures) (c .before .before .before .before .before .eight .ensures) in
+    let bytes = masked-bytes (start .args .codewords .now) (start .args .row .now) (start .args .p .bit) (start .args .p .column) (omega arith) (start .pre .3) (c .before .before .before .before .before .before .before .window .ensures) (c .before .before .before .before .before .before .spread .ensures) (c .before .before .before .before .before .eight .ensures) in
     record { column-is = refl; bit-is = refl; is = c .before .before .before .put .ensures ∙ ap (sets (start .args .square .now) (start .args .p .column)) bytes }
 
 pub put-eight-spec : {M : Type 1} → statement M

@@ -19,9 +19,6 @@ loop-holds c = let start = c .before .before .before .before in (start .pre .0, 
 put-one-requires : tie.Need-put-one-requires Inv-loop μ-loop
 put-one-requires c κs = (c .before .before .before .loop .inv .0, c .before .if1 .taken)
 
-loop-less : tie.Need-loop-less Inv-loop μ-loop
-loop-less c = omega (arith, c .before .before .put-one .ensures .0, c .before .before .put-one .ensures .1)
-
 loop-again : tie.Need-loop-again Inv-loop μ-loop
 loop-again c =
     let put-one = c .before .before .put-one in
@@ -31,7 +28,7 @@ same-length : tie.Need-same-length Inv-loop μ-loop
 same-length c = c .before .before .loop .inv .0 .size ∙ sym (c .before .before .before .before .before .before .before .pre .0 .size)
 
 returns : tie.Need-returns Inv-loop μ-loop
-returns c = puts-all (c .before .before .loop .inv .2) (omega (arith, c .if1 .left))
+returns c = puts-all (c .before .before .loop .inv .2) (omega arith)
 
 pub put-last-spec : {M : Type 1} → statement M
-put-last-spec = tie.close (tie.spec Inv-loop μ-loop loop-holds put-one-requires loop-less loop-again same-length returns)
+put-last-spec = tie.close (tie.spec Inv-loop μ-loop loop-holds put-one-requires (λ c. omega arith) loop-again same-length returns)

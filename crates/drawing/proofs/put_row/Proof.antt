@@ -21,9 +21,6 @@ loop-holds c = let start = c .before .before .before .before .before in (start .
 put-step-requires : tie.Need-put-step-requires Inv-loop μ-loop
 put-step-requires c κs = let loop = c .before .before .before .loop in (loop .inv .0, c .before .before .before .before .groups-end .ensures .0 (loop .p .column) (c .before .if1 .taken))
 
-loop-less : tie.Need-loop-less Inv-loop μ-loop
-loop-less c = omega (arith, c .before .before .put-step .ensures .0, c .before .before .put-step .ensures .1)
-
 loop-again : tie.Need-loop-again Inv-loop μ-loop
 loop-again c =
     let step = c .before .before .put-step in
@@ -42,5 +39,5 @@ returns c =
 
 pub put-row-spec : {M : Type 1} → statement M
 put-row-spec =
-    tie.close (tie.spec Inv-loop μ-loop (λ c κs. search needs) loop-holds put-step-requires loop-less loop-again put-last-requires
-    same-length returns)
+    tie.close (tie.spec Inv-loop μ-loop (λ c κs. search needs) loop-holds put-step-requires (λ c. omega arith) loop-again
+    put-last-requires same-length returns)

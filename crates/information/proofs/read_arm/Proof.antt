@@ -18,22 +18,19 @@ loop-holds : tie.Need-loop-holds Inv-loop μ-loop
 loop-holds c = (c .before .pre .4, c .before .pre .6)
 
 info-position-requires : tie.Need-info-position-requires Inv-loop μ-loop
-info-position-requires c κs = (c .before .before .before .pre .0, c .before .before .before .pre .1, omega (arith, c .loop-test .taken, c .before .before .before .pre .5))
+info-position-requires c κs = (c .before .before .before .pre .0, c .before .before .before .pre .1, omega arith)
 
 mul-w : tie.Need-mul-w Inv-loop μ-loop
 mul-w c =
     let start = c .before .before .before .before in
     let loop = c .before .before .loop in
-    omega (arith, number-small (λ k. getD (start .args .square .now) (infoPosition (start .args .side) (start .args .second) k) 0) (λ k. start .pre .3 (infoPosition (start .args .side) (start .args .second) k)) (loop .n) (omega (arith, loop .inv .0, start .pre .5)), loop .inv .1)
-
-shared-slice-read-wide8 : tie.Need-shared-slice-read-wide8 Inv-loop μ-loop
-shared-slice-read-wide8 c = omega (arith, c .before .info-position .ensures .1, c .before .before .before .before .before .pre .2)
+    omega (arith, number-small (λ k. getD (start .args .square .now) (infoPosition (start .args .side) (start .args .second) k) 0) (λ k. start .pre .3 (infoPosition (start .args .side) (start .args .second) k)) (loop .n) (omega arith))
 
 add-w : tie.Need-add-w Inv-loop μ-loop
 add-w c =
     let start = c .before .before .before .before .before .before in
     let loop = c .before .before .before .before .loop in
-    omega (arith, number-small (λ k. getD (start .args .square .now) (infoPosition (start .args .side) (start .args .second) k) 0) (λ k. start .pre .3 (infoPosition (start .args .side) (start .args .second) k)) (loop .n) (omega (arith, loop .inv .0, start .pre .5)), loop .inv .1, c .wide8 .ensures, start .pre .3 (c .before .before .info-position .result))
+    omega (arith, number-small (λ k. getD (start .args .square .now) (infoPosition (start .args .side) (start .args .second) k) 0) (λ k. start .pre .3 (infoPosition (start .args .side) (start .args .second) k)) (loop .n) (omega arith), start .pre .3 (c .before .before .info-position .result))
 
 loop-again : tie.Need-loop-again Inv-loop μ-loop
 loop-again c =
@@ -49,5 +46,5 @@ returns c =
 
 pub read-arm-spec : {M : Type 1} → statement M
 read-arm-spec =
-    tie.close (tie.spec Inv-loop μ-loop loop-holds info-position-requires mul-w shared-slice-read-wide8 (λ c κs. search needs) add-w
+    tie.close (tie.spec Inv-loop μ-loop loop-holds info-position-requires mul-w (λ c. omega arith) (λ c κs. search needs) add-w
     (λ c. omega arith) (λ c. omega arith) loop-again returns)

@@ -17,15 +17,7 @@ loop-holds : tie.Need-loop-holds Inv-loop μ-loop
 loop-holds c = (omega arith, record { is = λ g e. e }, refl)
 
 info-position-requires : tie.Need-info-position-requires Inv-loop μ-loop
-info-position-requires c κs = (c .before .before .before .pre .0, c .before .before .before .pre .1, omega (arith, c .loop-test .taken, c .before .before .before .pre .4))
-
-bit-requires : tie.Need-bit-requires Inv-loop μ-loop
-bit-requires c κs = omega (arith, c .before .loop-test .taken, c .before .before .before .before .pre .4)
-
-slice-write-square : tie.Need-slice-write-square Inv-loop μ-loop
-slice-write-square c =
-    let start = c .before .before .before .before .before in
-    omega (arith, c .before .info-position .ensures .1, start .pre .2, c .before .before .before .loop .inv .2)
+info-position-requires c κs = (c .before .before .before .pre .0, c .before .before .before .pre .1, omega arith)
 
 loop-again : tie.Need-loop-again Inv-loop μ-loop
 loop-again c =
@@ -43,5 +35,5 @@ returns c =
 
 pub write-arm-spec : {M : Type 1} → statement M
 write-arm-spec =
-    tie.close (tie.spec Inv-loop μ-loop loop-holds info-position-requires bit-requires slice-write-square (λ c. omega arith)
+    tie.close (tie.spec Inv-loop μ-loop loop-holds info-position-requires (λ c κs. omega arith) (λ c. omega arith) (λ c. omega arith)
     (λ c. omega arith) loop-again (λ c. c .before .loop .inv .2) returns)

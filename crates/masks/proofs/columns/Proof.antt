@@ -19,30 +19,23 @@ returns c = columns-none (c .if1 .taken) (c .before .before .pre .1)
 
 fill-rows-requires : tie.Need-fill-rows-requires Inv-loop μ-loop
 fill-rows-requires c κs =
-    let start = c .before .before .before .before in (start .pre .0, start .pre .1, omega (arith, c .before .before .if1 .left), c .before .if2 .taken)
+    let start = c .before .before .before .before in (start .pre .0, start .pre .1, omega arith, c .before .if2 .taken)
 
 loop-holds : tie.Need-loop-holds Inv-loop μ-loop
 loop-holds c = (columns-start (c .before .before .before .pre .1), omega arith)
 
-factor-requires : tie.Need-factor-requires Inv-loop μ-loop
-factor-requires c κs = (omega arith, omega (arith, c .before .before .before .before .before .pre .0))
-
-slice-write-table : tie.Need-slice-write-table Inv-loop μ-loop
-slice-write-table c = omega (arith, c .before .before .loop .inv .0 .size, c .before .before .before .before .before .before .pre .0)
-
 slice-write-table-2 : tie.Need-slice-write-table-2 Inv-loop μ-loop
-slice-write-table-2 c = let loop = c .before .before .before .loop in omega (arith, loop .inv .0 .size, c .before .before .before .before .before .before .before .pre .0, length-set (loop .table) (192 + loop .c) (c .before .factor .result))
+slice-write-table-2 c = let loop = c .before .before .before .loop in omega (arith, length-set (loop .table) (192 + loop .c) (c .before .factor .result))
 
 slice-write-table-3 : tie.Need-slice-write-table-3 Inv-loop μ-loop
 slice-write-table-3 c =
     let loop = c .before .before .before .loop in
-    let first = set (loop .table) (192 + loop .c) (c .before .factor .result) in omega (arith, loop .inv .0 .size, c .before .before .before .before .before .before .before .pre .0, length-set (loop .table) (192 + loop .c) (c .before .factor .result), length-set first (384 + loop .c) (c .rest-of .result))
+    let first = set (loop .table) (192 + loop .c) (c .before .factor .result) in omega (arith, length-set (loop .table) (192 + loop .c) (c .before .factor .result), length-set first (384 + loop .c) (c .rest-of .result))
 
 loop-again : tie.Need-loop-again Inv-loop μ-loop
 loop-again c =
     let loop = c .before .before .before .loop in
-    let start = c .before .before .before .before .before .before .before in
-    (columns-next _ _ _ (loop .inv .0) (omega (arith, start .pre .0)) (omega (arith, c .before .before .before .before .if2 .left)) refl (c .before .factor .ensures) (c .rest-of .ensures), omega arith)
+    (columns-next _ _ _ (loop .inv .0) (omega arith) (omega arith) refl (c .before .factor .ensures) (c .rest-of .ensures), omega arith)
 
 same-length-2 : tie.Need-same-length-2 Inv-loop μ-loop
 same-length-2 c = c .before .loop .inv .0 .size ∙ sym (c .before .before .before .before .before .pre .1)
@@ -51,11 +44,11 @@ returns-3 : tie.Need-returns-3 Inv-loop μ-loop
 returns-3 c =
     let loop = c .before .loop in
     let start = c .before .before .before .before .before in
-    let e : loop .c ≡ start .args .n = omega (arith, loop .inv .1, c .loop-test .left) in subst (λ (k : ℕ). Columns (start .args .mask) k (loop .table)) e (loop .inv .0)
+    let e : loop .c ≡ start .args .n = omega arith in subst (λ (k : ℕ). Columns (start .args .mask) k (loop .table)) e (loop .inv .0)
 
 pub columns-spec : {M : Type 1} → statement M
 columns-spec =
     tie.close (tie.spec Inv-loop μ-loop returns fill-rows-requires (λ c. search needs) (λ c. c .before .before .fill-rows .ensures)
-    loop-holds (λ c. omega arith) factor-requires (λ c. omega arith) (λ c. omega arith) slice-write-table (λ c. omega arith)
-    (λ c κs. omega arith) (λ c. omega arith) (λ c. omega arith) slice-write-table-2 (λ c. omega arith) (λ c. omega arith)
-    (λ c. omega arith) slice-write-table-3 (λ c. omega arith) (λ c. omega arith) loop-again same-length-2 returns-3)
+    loop-holds (λ c. omega arith) (λ c κs. (omega arith, omega arith)) (λ c. omega arith) (λ c. omega arith) (λ c. omega arith)
+    (λ c. omega arith) (λ c κs. omega arith) (λ c. omega arith) (λ c. omega arith) slice-write-table-2 (λ c. omega arith)
+    (λ c. omega arith) (λ c. omega arith) slice-write-table-3 (λ c. omega arith) (λ c. omega arith) loop-again same-length-2 returns-3)

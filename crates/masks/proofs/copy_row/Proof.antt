@@ -17,31 +17,18 @@ section-requires c κs = let start = c .before .before in (start .pre .0, start 
 loop-holds : tie.Need-loop-holds Inv-loop μ-loop
 loop-holds c = filling-start (c .before .before .before .pre .4)
 
-add-row : tie.Need-add-row Inv-loop μ-loop
-add-row c = omega (arith, c .before .before .section .ensures .0, c .before .before .before .before .before .pre .2)
-
-mul-row : tie.Need-mul-row Inv-loop μ-loop
-mul-row c = omega (arith, c .before .before .section .ensures .0, c .before .before .before .before .before .pre .2)
-
-shared-slice-read-row : tie.Need-shared-slice-read-row Inv-loop μ-loop
-shared-slice-read-row c =
-    let start = c .before .before .before .before .before .before in omega (arith, c .before .before .before .section .ensures .0, start .pre .2, start .pre .3 .size)
-
 cast-row : tie.Need-cast-row Inv-loop μ-loop
 cast-row c =
     let section = c .before .before .before .section in
     let start = c .before .before .before .before .before .before in
     omega (arith, bit-copied (start .args .i) (start .pre .3) (start .pre .0) (start .pre .1) (section .ensures .0) (section .ensures .1) (c .before .loop-test .taken) .1)
 
-slice-write-row : tie.Need-slice-write-row Inv-loop μ-loop
-slice-write-row c = omega (arith, c .before .before .loop .inv .row-is .size, c .before .before .before .before .before .before .pre .2)
-
 loop-again : tie.Need-loop-again Inv-loop μ-loop
 loop-again c =
     let section = c .before .before .before .section in
     let start = c .before .before .before .before .before .before in
     let bit = bit-copied (start .args .i) (start .pre .3) (start .pre .0) (start .pre .1) (section .ensures .0) (section .ensures .1) (c .before .loop-test .taken) in
-    filling-next _ (c .before .before .loop .inv) (start .pre .0) (omega (arith, start .pre .2)) (bit .0) (bit .1)
+    filling-next _ (c .before .before .loop .inv) (start .pre .0) (omega arith) (bit .0) (bit .1)
 
 same-length : tie.Need-same-length Inv-loop μ-loop
 same-length c = c .before .loop .inv .row-is .size ∙ sym (c .before .before .before .before .before .pre .4 .size)
@@ -51,5 +38,6 @@ returns c = let loop = c .before .loop in (loop .inv .row-is, λ k hi. loop .inv
 
 pub copy-row-spec : {M : Type 1} → statement M
 copy-row-spec =
-    tie.close (tie.spec Inv-loop μ-loop section-requires (λ c. omega (arith, c .section .ensures .0)) loop-holds add-row mul-row
-    shared-slice-read-row cast-row slice-write-row (λ c. omega arith) (λ c. omega arith) loop-again same-length returns)
+    tie.close (tie.spec Inv-loop μ-loop section-requires (λ c. omega (arith, c .section .ensures .0)) loop-holds (λ c. omega arith)
+    (λ c. omega arith) (λ c. omega arith) cast-row (λ c. omega arith) (λ c. omega arith) (λ c. omega arith) loop-again same-length
+    returns)

@@ -11,7 +11,7 @@ returns c = let start = c .before in low-one (start .args .mask) (start .args .i
 returns-2 : tie.Need-returns-2
 returns-2 c =
     let start = c .before in
-    let m : start .args .mask ≡ 2 = omega (arith, start .pre .0, start .pre .1, c .if1 .left) in low-two (start .args .mask) (start .args .i) (start .args .c) m
+    let m : start .args .mask ≡ 2 = omega arith in low-two (start .args .mask) (start .args .i) (start .args .c) m
 
 pub inverts-low-spec : {M : Type 1} → statement M
 inverts-low-spec =

@@ -10,11 +10,11 @@ use Rattle.masks.proofs.inverts_three.Tie as tie
 
 add-result-2 : tie.Need-add-result-2
 add-result-2 c =
-    let start = c .before .before .before .before .before .before .before .before in omega (arith, start .pre .3 .number-is, start .pre .3 .rest-is, rest-le (start .args .i + 1), start .pre .1)
+    let start = c .before .before .before .before .before .before .before .before in omega (arith, rest-le (start .args .i + 1))
 
 add-result-3 : tie.Need-add-result-3
 add-result-3 c =
-    let start = c .before .before .before .before .before .before .before .before in omega (arith, start .pre .3 .number-is, start .pre .3 .rest-is, rest-le (start .args .i + 1), start .pre .1)
+    let start = c .before .before .before .before .before .before .before .before in omega (arith, rest-le (start .args .i + 1))
 
 returns : tie.Need-returns
 returns c =

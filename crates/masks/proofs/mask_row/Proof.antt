@@ -17,7 +17,7 @@ returns c = let start = c .before .before .before in (start .pre .4, λ k hi. ro
 
 copy-row-requires : tie.Need-copy-row-requires Inv-loop μ-loop
 copy-row-requires c κs =
-    let start = c .before .before .before .before .before in (omega (arith, c .before .before .if1 .left), c .before .if2 .taken, start .pre .1, start .pre .3, start .pre .4)
+    let start = c .before .before .before .before .before in (omega arith, c .before .if2 .taken, start .pre .1, start .pre .3, start .pre .4)
 
 loop-holds : tie.Need-loop-holds Inv-loop μ-loop
 loop-holds c = filling-start (c .before .before .before .before .pre .4)
@@ -25,17 +25,14 @@ loop-holds c = filling-start (c .before .before .before .before .pre .4)
 inverts-three-requires : tie.Need-inverts-three-requires Inv-loop μ-loop
 inverts-three-requires c κs =
     let start = c .before .before .before .before .before .before in
-    let m : 2 < start .args .mask = omega (arith, c .before .before .if2 .left) in
-    (start .pre .2 .size, start .pre .0, omega (arith, start .pre .1), start .pre .2 .column m (start .args .i) (omega arith), start .pre .3 .column m (c .before .loop .c) (c .loop-test .taken))
-
-slice-write-row : tie.Need-slice-write-row Inv-loop μ-loop
-slice-write-row c = omega (arith, c .before .before .loop .inv .row-is .size, c .before .before .before .before .before .before .before .pre .1)
+    let m : 2 < start .args .mask = omega arith in
+    (start .pre .2 .size, start .pre .0, omega arith, start .pre .2 .column m (start .args .i) (omega arith), start .pre .3 .column m (c .before .loop .c) (c .loop-test .taken))
 
 loop-again : tie.Need-loop-again Inv-loop μ-loop
 loop-again c =
     let start = c .before .before .before .before .before .before .before in
-    let m : 2 < start .args .mask = omega (arith, c .before .before .before .if2 .left) in
-    filling-next _ (c .before .before .loop .inv) (omega (arith, m)) (omega (arith, start .pre .1)) (c .inverts-three .ensures .0 ∙ mask-above (start .args .mask) _ _ m) (c .inverts-three .ensures .1)
+    let m : 2 < start .args .mask = omega arith in
+    filling-next _ (c .before .before .loop .inv) (omega (arith, m)) (omega arith) (c .inverts-three .ensures .0 ∙ mask-above (start .args .mask) _ _ m) (c .inverts-three .ensures .1)
 
 same-length-2 : tie.Need-same-length-2 Inv-loop μ-loop
 same-length-2 c = c .before .loop .inv .row-is .size ∙ sym (c .before .before .before .before .before .before .pre .4 .size)
@@ -46,4 +43,4 @@ returns-3 c = let loop = c .before .loop in (loop .inv .row-is, λ k hi. loop .i
 pub mask-row-spec : {M : Type 1} → statement M
 mask-row-spec =
     tie.close (tie.spec Inv-loop μ-loop returns copy-row-requires (λ c. search needs) (λ c. c .before .before .copy-row .ensures)
-    loop-holds inverts-three-requires slice-write-row (λ c. omega arith) (λ c. omega arith) loop-again same-length-2 returns-3)
+    loop-holds inverts-three-requires (λ c. omega arith) (λ c. omega arith) (λ c. omega arith) loop-again same-length-2 returns-3)

@@ -10,7 +10,7 @@ returns c = let start = c .before in (omega arith, λ j. repeat-one (start .args
 returns-2 : tie.Need-returns-2
 returns-2 c =
     let start = c .before in
-    let m : start .args .mask ≡ 2 = omega (arith, start .pre .0, start .pre .1, c .if1 .left) in (omega arith, λ j. repeat-two (start .args .mask) (start .args .i) j m)
+    let m : start .args .mask ≡ 2 = omega arith in (omega arith, λ j. repeat-two (start .args .mask) (start .args .i) j m)
 
 pub section-spec : {M : Type 1} → statement M
 section-spec = tie.close (tie.spec returns returns-2)

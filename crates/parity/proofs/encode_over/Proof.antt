@@ -23,24 +23,20 @@ returns-3 c = unfit-refused _ _ _ _ (unfit-long _ _ (c .if3 .taken))
 write-parity-requires : tie.Need-write-parity-requires
 write-parity-requires c κs =
     let start = c .before .before .before .before .before .before .before in
-    let if2 = c .before .before .before .before .if2 in
-    let if3 = c .before .before .before .if3 in
     let generator = c .before .before .generator in (
       start .pre .0,
-      ((omega arith, omega (arith, if3 .left), omega (arith, generator .ensures .0, if2 .left, if3 .left)), generator-monic _ _ _ _ _ (generator .ensures .1) (omega (arith, if2 .left)) (omega (arith, if2 .left))),
+      ((omega arith, omega arith, omega arith), generator-monic _ _ _ _ _ (generator .ensures .1) (omega arith) (omega arith)),
     )
 
 returns-4 : tie.Need-returns-4
 unfolding encoding
 returns-4 c =
     let if1 = c .before .before .before .before .before .before .before .before .if1 in
-    let if2 = c .before .before .before .before .before .before .before .if2 in
-    let if3 = c .before .before .before .before .before .before .if3 in
     let generator = c .before .before .before .before .before .generator in
     fit-written _ _ _ _
-    (fit _ _ (if1 .left) (omega (arith, if2 .left)) (omega (arith, if3 .left)))
-    (omega (arith, if2 .left)) _
-    (c .before .before .write-parity .ensures _ (generator-end _ _ _ _ _ (generator .ensures .1) (omega (arith, if2 .left)) (omega (arith, if2 .left))))
+    (fit _ _ (if1 .left) (omega arith) (omega arith))
+    (omega arith) _
+    (c .before .before .write-parity .ensures _ (generator-end _ _ _ _ _ (generator .ensures .1) (omega arith) (omega arith)))
 
 pub encode-over-spec : {M : Type 1} → statement M
 encode-over-spec =

@@ -12,7 +12,7 @@ put-behind-requires : tie.Need-put-behind-requires
 put-behind-requires c κs =
     let start = c .before .before .before .before .before .before .before in
     let fits = c .before .before .before .is-parity .ensures (c .before .before .if1 .taken) in
-    (start .pre .0 .0, omega (arith, fits .0 .1), c .before .before .before .before .before .bytes .ensures .0)
+    (start .pre .0 .0, omega arith, c .before .before .before .before .before .bytes .ensures .0)
 
 returns : tie.Need-returns
 returns c =

@@ -9,8 +9,7 @@ use Rattle.parity.proofs.write_parity.Tie as tie
 divide-requires : tie.Need-divide-requires
 divide-requires c κs =
     let start = c .before .before .before .before .before .before .before in
-    let copy = c .before .before .copy in
-    (start .pre .0, ((omega (arith, copy .ensures .size), omega arith, omega (arith, copy .ensures .size)), start .pre .1 .1))
+    (start .pre .0, ((omega arith, omega arith, omega arith), start .pre .1 .1))
 
 returns : tie.Need-returns
 returns c =

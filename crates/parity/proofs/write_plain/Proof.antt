@@ -12,7 +12,7 @@ write-parity-requires : tie.Need-write-parity-requires
 write-parity-requires c κs =
     let start = c .before .before .before .before .before .before .before in
     let g = c .before .before .before .generator .ensures in
-    (c .before .before .before .before .before .han-xin .ensures .0, ((start .pre .0, start .pre .1, omega (arith, g .0)), g .1 .monic))
+    (c .before .before .before .before .before .han-xin .ensures .0, ((start .pre .0, start .pre .1, omega arith), g .1 .monic))
 
 returns : tie.Need-returns
 returns c =

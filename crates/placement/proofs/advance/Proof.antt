@@ -8,35 +8,29 @@ use borrow.Author.Needs.{needs}
 use Rattle.placement.proofs.advance.Statement.{statement}
 use Rattle.placement.proofs.advance.Tie as tie
 
-add-t10 : tie.Need-add-t10
-add-t10 c = omega (arith, c .before .no-data .ensures .most, c .before .before .before .before .before .before .pre .3)
-
 returns : tie.Need-returns
 returns c =
     let start = c .before .before .before .before .before .before in
     let least = c .before .before .before .least in
-    let none : c .before .before .before .before .lead .result ≡ 0 = omega (arith, c .before .before .if1 .taken, start .pre .1, least .ensures .2 (omega (arith, c .before .before .if1 .taken, start .pre .1))) in
+    let none : c .before .before .before .before .lead .result ≡ 0 = omega (arith, least .ensures .2 (omega arith)) in
     (record { few = start .pre .0 .few; small = start .pre .0 .small }, moves-skip (start .pre .1) (start .pre .2) (subst (Leads (start .args .k)) none (c .before .before .before .before .lead .ensures)) (c .before .no-data .ensures) refl refl refl refl)
-
-sub-push : tie.Need-sub-push
-sub-push c = omega (arith, c .before .before .before .least .ensures .1, c .before .before .before .before .before .before .pre .2)
 
 push-requires : tie.Need-push-requires
 push-requires c κs =
     let start = c .before .before .before .before .before .before in
     let w = c .before .before .before .least .result in
     let few = c .before .before .before .least .ensures .1 in
-    let e : 8 ≡ c .before .before .before .least .result + (8 - c .before .before .before .least .result) = omega (arith, few, start .pre .2) in
-    (start .pre .0, omega (arith, few, start .pre .2), shr-lt w (8 - w) (subst (λ (n : ℕ). c .gather .result < 2 ^ n) e (c .gather .ensures .small)), omega (arith, start .pre .3))
+    let e : 8 ≡ c .before .before .before .least .result + (8 - c .before .before .before .least .result) = omega (arith, few) in
+    (start .pre .0, omega (arith, few), shr-lt w (8 - w) (subst (λ (n : ℕ). c .gather .result < 2 ^ n) e (c .gather .ensures .small)), omega arith)
 
 returns-2 : tie.Need-returns-2
 returns-2 c =
     let start = c .before .before .before .before .before .before .before .before .before in
     let least = c .before .before .before .before .before .before .least in
     let push = c .before .before .push in
-    (push .ensures .0, moves-push (start .pre .1) (start .pre .2) (least .result) (c .before .before .before .before .before .before .before .lead .ensures) (least .ensures .0) (omega (arith, least .ensures .1)) (omega (arith, c .before .before .before .before .before .if1 .left)) (c .before .before .before .gather .ensures) (push .ensures .1) (push .ensures .2))
+    (push .ensures .0, moves-push (start .pre .1) (start .pre .2) (least .result) (c .before .before .before .before .before .before .before .lead .ensures) (least .ensures .0) (omega arith) (omega arith) (c .before .before .before .gather .ensures) (push .ensures .1) (push .ensures .2))
 
 pub advance-spec : {M : Type 1} → statement M
 advance-spec =
-    tie.close (tie.spec (λ c κs. search needs) (λ c κs. search needs) (λ c κs. search needs) add-t10 returns (λ c κs. search needs)
-    sub-push (λ c. omega arith) push-requires (λ c. search needs) returns-2)
+    tie.close (tie.spec (λ c κs. search needs) (λ c κs. search needs) (λ c κs. search needs) (λ c. omega arith) returns
+    (λ c κs. search needs) (λ c. omega arith) (λ c. omega arith) push-requires (λ c. search needs) returns-2)

@@ -22,7 +22,7 @@ returns-2 : tie.Need-returns-2
 returns-2 c =
     let start = c .before .before .before .before .before .before .before .before .before in
     let left = start .args .r .bits + start .args .w - 8 in
-    let l : start .args .r .bits + start .args .w ≡ 8 + (start .args .r .bits + start .args .w - 8) = omega (arith, c .before .before .before .before .if1 .left) in
+    let l : start .args .r .bits + start .args .w ≡ 8 + (start .args .r .bits + start .args .w - 8) = omega arith in
     let e = shifted (start .pre .0) (start .args .w) (start .args .x) (start .pre .1) (start .pre .2) in
     let v = ap (λ (y : ℕ). (y + start .args .x) % 256) e in
     let t = subst (λ (y : ℕ). Stored (start .args .r .n) ((y + start .args .x) / 2 ^ left % 256) (start .args .out .now) (c .before .before .store .last .0) (c .before .before .store .result)) e (c .before .before .store .ensures) in

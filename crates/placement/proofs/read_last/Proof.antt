@@ -15,24 +15,16 @@ abbrev μ-loop : tie.MeasureT-loop
 μ-loop out₀ kinds square row end k x r₀ out r = length kinds - r .column
 
 modules-requires : tie.Need-modules-requires Inv-loop μ-loop
-modules-requires c κs = let start = c .before .before .before .before .before in (start .pre .0 .masked, start .pre .0 .room, omega (arith, start .pre .3, start .pre .0 .size))
+modules-requires c κs = let start = c .before .before .before .before .before in (start .pre .0 .masked, start .pre .0 .room, omega arith)
 
 loop-holds : tie.Need-loop-holds Inv-loop μ-loop
 loop-holds c = let start = c .before .before .before .before .before .before in (start .pre .1, omega arith, start .pre .2, goes-none, refl)
 
-mul-s : tie.Need-mul-s Inv-loop μ-loop
-mul-s c = omega (arith, c .before .before .before .loop .inv .1, c .before .before .before .before .before .before .before .before .before .before .pre .4)
-
-sub-s : tie.Need-sub-s Inv-loop μ-loop
-sub-s c = omega (arith, c .before .before .before .loop .inv .1, c .before .before .before .before .before .before .before .before .before .before .pre .4)
-
 advance-requires : tie.Need-advance-requires Inv-loop μ-loop
-advance-requires c κs =
-    let start = c .before .before .before .before .before .before .before .before .before .before .before in
-    let loop = c .before .before .before .before .loop in (loop .inv .0, omega (arith, c .before .before .if1 .taken), omega (arith, loop .inv .1, start .pre .4), omega (arith, loop .inv .2, start .pre .0 .size, start .pre .0 .masked .side))
+advance-requires c κs = let loop = c .before .before .before .before .loop in (loop .inv .0, omega arith, omega arith, omega arith)
 
 loop-less : tie.Need-loop-less Inv-loop μ-loop
-loop-less c = let m = last-moves (c .before .before .before .before .before .before .before .before .before .before .before .before .before .before .pre .0) (λ i. omega (arith, c .before .before .before .before .before .before .before .before .before .before .before .before .shared-slice-known .given i)) (c .before .before .before .before .before .before .before .before .before .before .before .before .before .before .pre .3) (c .before .before .before .before .before .if1 .taken) (omega (arith, c .before .before .before .before .before .before .before .loop .inv .1, c .before .before .before .before .before .before .before .before .before .before .before .before .before .before .pre .4)) (c .before .before .before .before .before .before .before .before .before .eight .ensures) (c .before .before .before .before .before .before .before .before .modules .ensures) (c .before .before .advance .ensures .1) in omega (arith, m .0, m .1)
+loop-less c = let m = last-moves (c .before .before .before .before .before .before .before .before .before .before .before .before .before .before .pre .0) (λ i. omega (arith, c .before .before .before .before .before .before .before .before .before .before .before .before .shared-slice-known .given i)) (c .before .before .before .before .before .before .before .before .before .before .before .before .before .before .pre .3) (c .before .before .before .before .before .if1 .taken) (omega arith) (c .before .before .before .before .before .before .before .before .before .eight .ensures) (c .before .before .before .before .before .before .before .before .modules .ensures) (c .before .before .advance .ensures .1) in omega arith
 
 loop-again : tie.Need-loop-again Inv-loop μ-loop
 loop-again c =
@@ -42,12 +34,12 @@ loop-again c =
     (advance .ensures .0, omega (arith, loop .inv .1, m .0), m .1, goes-on (loop .inv .3) (m .2), advance .kept .0 ∙ loop .inv .4)
 
 returns : tie.Need-returns Inv-loop μ-loop
-returns c = let loop = c .before .before .loop in (loop .inv .0, omega (arith, loop .inv .2, c .if1 .left), loop .inv .3)
+returns c = let loop = c .before .before .loop in (loop .inv .0, omega arith, loop .inv .3)
 
 pub read-last-spec : {M : Type 1} → statement M
 read-last-spec =
     tie.close (tie.spec Inv-loop μ-loop (λ c. c .before .before .before .before .pre .3)
     (λ c κs. omega (arith, c .before .before .before .before .pre .3)) (λ c. c .before .before .before .before .before .pre .3)
-    modules-requires loop-holds (λ c. c .before .before .before .loop .inv .2) mul-s sub-s
+    modules-requires loop-holds (λ c. c .before .before .before .loop .inv .2) (λ c. omega arith) (λ c. omega arith)
     (λ c. omega (arith, c .before .before .if1 .taken)) (λ c. omega (arith, c .before .before .if1 .taken)) advance-requires loop-less
     loop-again (λ c. c .before .before .loop .inv .4) returns)

@@ -15,13 +15,10 @@ abbrev μ-loop : tie.MeasureT-loop
 μ-loop out₀ kinds square row end r₀ out r = length kinds - r .column
 
 loop-holds : tie.Need-loop-holds Inv-loop μ-loop
-loop-holds c = let start = c .before .before .before .before .before in (start .pre .1, omega (arith, start .pre .2), goes-none, refl)
+loop-holds c = let start = c .before .before .before .before .before in (start .pre .1, omega arith, goes-none, refl)
 
 step-requires : tie.Need-step-requires Inv-loop μ-loop
 step-requires c κs = let start = c .before .before .before .before .before .before .before .before .before in let loop = c .before .before .before .loop in (start .pre .0, loop .inv .0, c .before .before .before .before .groups-end .ensures .0 (loop .r .column) (c .before .if1 .taken))
-
-loop-less : tie.Need-loop-less Inv-loop μ-loop
-loop-less c = omega (arith, c .before .before .step .ensures .1, c .before .before .step .ensures .2)
 
 loop-again : tie.Need-loop-again Inv-loop μ-loop
 loop-again c =
@@ -29,7 +26,7 @@ loop-again c =
     let loop = c .before .before .before .before .before .before .loop in (step .ensures .0, step .ensures .2, goes-on (loop .inv .2) (step .ensures .3), step .kept .0 ∙ loop .inv .3)
 
 read-last-requires : tie.Need-read-last-requires Inv-loop μ-loop
-read-last-requires c κs = let start = c .before .before .before .before .before .before .before .before .before in let loop = c .before .before .before .loop in (start .pre .0, loop .inv .0, loop .inv .1, start .pre .3, omega (arith, c .before .before .before .before .groups-end .ensures .1, c .before .if1 .left))
+read-last-requires c κs = let start = c .before .before .before .before .before .before .before .before .before in let loop = c .before .before .before .loop in (start .pre .0, loop .inv .0, loop .inv .1, start .pre .3, omega arith)
 
 same-length : tie.Need-same-length Inv-loop μ-loop
 same-length c = c .before .before .read-last .kept .0 ∙ c .before .before .before .before .before .before .loop .inv .3
@@ -39,5 +36,5 @@ returns c = let last = c .before .before .read-last in (last .ensures .0, last .
 
 pub read-row-spec : {M : Type 1} → statement M
 read-row-spec =
-    tie.close (tie.spec Inv-loop μ-loop (λ c κs. search needs) loop-holds step-requires loop-less loop-again read-last-requires
+    tie.close (tie.spec Inv-loop μ-loop (λ c κs. search needs) loop-holds step-requires (λ c. omega arith) loop-again read-last-requires
     same-length returns)

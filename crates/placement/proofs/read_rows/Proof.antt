@@ -37,16 +37,16 @@ mask-row-requires c κs =
     let side = c .before .before .before .before .before .before .before .before .before .before .pre .2 in (omega (arith, taken, side), omega (arith, side), columns-fewer (omega (arith, taken)) columns, columns, c .before .before .before .loop .inv .0)
 
 mul-at : tie.Need-mul-at Inv-loop μ-loop
-mul-at c = omega (arith, row-inside (c .before .before .before .before .before .loop .i) (c .before .before .before .before .before .before .before .before .before .before .before .before .args .side) (c .before .before .before .before .loop-test .taken), c .before .before .before .before .before .before .before .before .before .before .before .before .pre .3, c .before .before .before .before .before .before .before .before .before .before .before .before .pre .0 .few)
+mul-at c = omega (arith, row-inside (c .before .before .before .before .before .loop .i) (c .before .before .before .before .before .before .before .before .before .before .before .before .args .side) (c .before .before .before .before .loop-test .taken))
 
 add-end : tie.Need-add-end Inv-loop μ-loop
-add-end c = omega (arith, row-inside (c .before .before .before .before .before .loop .i) (c .before .before .before .before .before .before .before .before .before .before .before .before .args .side) (c .before .before .before .before .loop-test .taken), c .before .before .before .before .before .before .before .before .before .before .before .before .pre .3, c .before .before .before .before .before .before .before .before .before .before .before .before .pre .0 .few)
+add-end c = omega (arith, row-inside (c .before .before .before .before .before .loop .i) (c .before .before .before .before .before .before .before .before .before .before .before .before .args .side) (c .before .before .before .before .loop-test .taken))
 
 part-read-row-end : tie.Need-part-read-row-end Inv-loop μ-loop
-part-read-row-end c = omega (arith, row-inside (c .before .before .before .before .before .before .loop .i) (c .before .before .before .before .before .before .before .before .before .before .before .before .before .args .side) (c .before .before .before .before .before .loop-test .taken), c .before .before .before .before .before .before .before .before .before .before .before .before .before .pre .3, c .before .before .before .before .before .before .before .before .before .before .before .before .before .pre .0 .kinds)
+part-read-row-end c = omega (arith, row-inside (c .before .before .before .before .before .before .loop .i) (c .before .before .before .before .before .before .before .before .before .before .before .before .before .args .side) (c .before .before .before .before .before .loop-test .taken))
 
 part-read-row-end-2 : tie.Need-part-read-row-end-2 Inv-loop μ-loop
-part-read-row-end-2 c = omega (arith, row-inside (c .before .before .before .before .before .before .before .loop .i) (c .before .before .before .before .before .before .before .before .before .before .before .before .before .before .args .side) (c .before .before .before .before .before .before .loop-test .taken), c .before .before .before .before .before .before .before .before .before .before .before .before .before .before .pre .3)
+part-read-row-end-2 c = omega (arith, row-inside (c .before .before .before .before .before .before .before .loop .i) (c .before .before .before .before .before .before .before .before .before .before .before .before .before .before .args .side) (c .before .before .before .before .before .before .loop-test .taken))
 
 slice-aggregate-read-row : tie.Need-slice-aggregate-read-row Inv-loop μ-loop
 slice-aggregate-read-row c = sym (c .before .before .before .before .before .mask-row .ensures .0 .size)
@@ -55,14 +55,8 @@ read-row-requires : tie.Need-read-row-requires Inv-loop μ-loop
 read-row-requires c κs =
     let start = c .before .before .before .before .before .before .before .before .before .before .before .before .before .before .before .before in
     let loop = c .before .before .before .before .before .before .before .before .before .loop in
-    let h : loop .i * start .args .side + start .args .side ≤ length (start .args .square .now) = omega (arith, row-inside (c .before .before .before .before .before .before .before .before .before .loop .i) (c .before .before .before .before .before .before .before .before .before .before .before .before .before .before .before .before .args .side) (c .before .before .before .before .before .before .before .before .loop-test .taken), c .before .before .before .before .before .before .before .before .before .before .before .before .before .before .before .before .pre .3) in
-    (aligned (loop .i * start .args .side) (start .args .side) (start .pre .0) (c .before .before .before .before .before .mask-row .ensures .0) (start .pre .2) h, record { few = loop .inv .1 .few; small = loop .inv .1 .small }, refl, omega (arith, start .pre .1, part-length (loop .i * start .args .side) (start .args .side) (start .args .kinds .now) (omega (arith, h, start .pre .0 .kinds))))
-
-add-i : tie.Need-add-i Inv-loop μ-loop
-add-i c = omega (arith, c .before .before .before .before .before .before .before .before .before .before .before .loop-test .taken, c .before .before .before .before .before .before .before .before .before .before .before .before .before .before .before .before .before .before .before .pre .2)
-
-loop-less : tie.Need-loop-less Inv-loop μ-loop
-loop-less c = omega (arith, c .before .before .before .before .before .before .before .before .before .before .before .loop-test .taken)
+    let h : loop .i * start .args .side + start .args .side ≤ length (start .args .square .now) = omega (arith, row-inside (c .before .before .before .before .before .before .before .before .before .loop .i) (c .before .before .before .before .before .before .before .before .before .before .before .before .before .before .before .before .args .side) (c .before .before .before .before .before .before .before .before .loop-test .taken)) in
+    (aligned (loop .i * start .args .side) (start .args .side) (start .pre .0) (c .before .before .before .before .before .mask-row .ensures .0) (start .pre .2) h, record { few = loop .inv .1 .few; small = loop .inv .1 .small }, refl, omega (arith, part-length (loop .i * start .args .side) (start .args .side) (start .args .kinds .now) (omega (arith, h))))
 
 loop-again : tie.Need-loop-again Inv-loop μ-loop
 loop-again c =
@@ -71,23 +65,23 @@ loop-again c =
     let ks = start .args .kinds .now in
     let sq = start .args .square .now in
     let m = maskBit (start .args .side) (start .args .mask) in
-    let h : loop .i * start .args .side + start .args .side ≤ length (start .args .square .now) = omega (arith, row-inside (c .before .before .before .before .before .before .before .before .before .before .before .before .loop .i) (c .before .before .before .before .before .before .before .before .before .before .before .before .before .before .before .before .before .before .before .args .side) (c .before .before .before .before .before .before .before .before .before .before .before .loop-test .taken), c .before .before .before .before .before .before .before .before .before .before .before .before .before .before .before .before .before .before .before .pre .3) in
+    let h : loop .i * start .args .side + start .args .side ≤ length (start .args .square .now) = omega (arith, row-inside (c .before .before .before .before .before .before .before .before .before .before .before .before .loop .i) (c .before .before .before .before .before .before .before .before .before .before .before .before .before .before .before .before .before .before .before .args .side) (c .before .before .before .before .before .before .before .before .before .before .before .loop-test .taken)) in
     let mask-row = c .before .before .before .before .before .before .before .before .mask-row .ensures in
     let read-row = c .before .before .read-row .ensures in
     let turn = rows-turn m ks sq (loop .i) (start .args .side) (start .pre .0 .kinds) h (λ k l. mask-row .1 k (omega arith) ∙ row-mask (start .args .mask) (loop .i) (start .args .side) k l) refl (read-row .1) (read-row .2) (walk-again refl refl refl (loop .inv .3)) in
-    (mask-row .0, read-row .0, omega (arith, c .before .before .before .before .before .before .before .before .before .before .before .loop-test .taken), turn)
+    (mask-row .0, read-row .0, omega arith, turn)
 
 returns : tie.Need-returns Inv-loop μ-loop
 returns c =
     let start = c .before .before .before .before .before .before .before .before in
     let loop = c .before .loop in
-    let e : loop .i ≡ start .args .side = omega (arith, loop .inv .2, c .loop-test .left) in
-    rows-done (maskBit (start .args .side) (start .args .mask)) (start .args .kinds .now) (start .args .square .now) (loop .i * start .args .side) (omega (arith, start .pre .3, ap (λ (n : ℕ). n * start .args .side) e)) (loop .inv .1) (loop .inv .3)
+    let e : loop .i ≡ start .args .side = omega arith in
+    rows-done (maskBit (start .args .side) (start .args .mask)) (start .args .kinds .now) (start .args .square .now) (loop .i * start .args .side) (omega (arith, ap (λ (n : ℕ). n * start .args .side) e)) (loop .inv .1) (loop .inv .3)
 
 pub read-rows-spec : {M : Type 1} → statement M
 read-rows-spec =
     tie.close (tie.spec Inv-loop μ-loop (λ c. omega arith) (λ c. omega arith) (λ c. refl) (λ c κs. (omega arith, refl)) loop-holds
     (λ c. sym (c .before .before .loop .inv .0 .size)) (λ c. sym (c .before .before .before .before .before .columns .ensures .size))
     mask-row-requires mul-at add-end (λ c. omega arith) (λ c. omega arith) part-read-row-end (λ c. omega arith) (λ c. omega arith)
-    part-read-row-end-2 slice-aggregate-read-row read-row-requires add-i loop-less loop-again
+    part-read-row-end-2 slice-aggregate-read-row read-row-requires (λ c. omega arith) (λ c. omega arith) loop-again
     (λ c. c .before .loop .inv .3 .words .size) returns)

@@ -21,9 +21,6 @@ abbrev μ-loop : tie.MeasureT-loop
 loop-holds : tie.Need-loop-holds Inv-loop μ-loop
 loop-holds c = (each-start _ _, omega arith)
 
-array-write-s : tie.Need-array-write-s Inv-loop μ-loop
-array-write-s c = omega (arith, c .before .before .loop .inv .0 .size, c .before .before .before .kept .ensures .few)
-
 loop-again : tie.Need-loop-again Inv-loop μ-loop
 loop-again c = let loop = c .before .before .loop in (each-next _ _ _ _ _ (loop .inv .0) (omega arith) (c .byte-at .ensures), omega arith)
 
@@ -40,5 +37,5 @@ returns c =
 
 pub bytes-spec : {M : Type 1} → statement M
 bytes-spec =
-    tie.close (tie.spec Inv-loop μ-loop (λ c κs. search needs) loop-holds (λ c κs. search needs) array-write-s (λ c. search needs)
+    tie.close (tie.spec Inv-loop μ-loop (λ c κs. search needs) loop-holds (λ c κs. search needs) (λ c. omega arith) (λ c. search needs)
     (λ c. search needs) loop-again returns)

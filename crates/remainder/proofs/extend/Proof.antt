@@ -17,12 +17,6 @@ abbrev μ-loop : tie.MeasureT-loop
 loop-holds : tie.Need-loop-holds Inv-loop μ-loop
 loop-holds c = (extended-start _ _ _ _, omega arith)
 
-row-at-requires : tie.Need-row-at-requires Inv-loop μ-loop
-row-at-requires c κs = let size = c .before .before .loop .inv .0 .size in (omega arith, omega arith)
-
-put-row-requires : tie.Need-put-row-requires Inv-loop μ-loop
-put-row-requires c κs = let size = c .before .before .before .before .before .loop .inv .0 .size in (omega arith, omega arith)
-
 loop-again : tie.Need-loop-again Inv-loop μ-loop
 loop-again c =
     let put = c .before .before .put-row in
@@ -39,6 +33,6 @@ returns c =
 
 pub extend-spec : {M : Type 1} → statement M
 extend-spec =
-    tie.close (tie.spec Inv-loop μ-loop loop-holds (λ c. search needs) row-at-requires (λ c. search needs) (λ c. search needs)
-    (λ c κs. search needs) put-row-requires (λ c. search needs) (λ c. search needs) loop-again (λ c. c .before .loop .inv .0 .size)
-    returns)
+    tie.close (tie.spec Inv-loop μ-loop loop-holds (λ c. search needs) (λ c κs. (omega arith, omega arith)) (λ c. search needs)
+    (λ c. search needs) (λ c κs. search needs) (λ c κs. (omega arith, omega arith)) (λ c. search needs) (λ c. search needs) loop-again
+    (λ c. c .before .loop .inv .0 .size) returns)

@@ -21,7 +21,7 @@ extend-requires : tie.Need-extend-requires Inv-loop μ-loop
 extend-requires c κs =
     let loop = c .before .before .loop in
     let one = bit-of (loop .b) (omega arith) in
-    (omega (arith, loop .inv .0 .size), omega (arith, one .0, one .1))
+    (omega arith, omega arith)
 
 loop-again : tie.Need-loop-again Inv-loop μ-loop
 loop-again c =

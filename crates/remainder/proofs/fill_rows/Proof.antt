@@ -20,10 +20,7 @@ loop-holds c = (filled-start _ _ (c .before .pre .0) (c .before .pre .1), omega 
 fill-byte-requires : tie.Need-fill-byte-requires Inv-loop μ-loop
 fill-byte-requires c κs =
     let inv = c .before .before .loop .inv .0 in
-    (omega (arith, inv .size), omega arith, inv .free _ (omega arith), inv .free _ (omega arith))
-
-shifted-requires : tie.Need-shifted-requires Inv-loop μ-loop
-shifted-requires c κs = (omega (arith, c .before .before .before .fill-byte .ensures .size, c .before .before .before .before .before .before .loop .inv .0 .size), omega arith)
+    (omega arith, omega arith, inv .free _ (omega arith), inv .free _ (omega arith))
 
 loop-again : tie.Need-loop-again Inv-loop μ-loop
 loop-again c =
@@ -38,5 +35,5 @@ returns c = let loop = c .before .loop in filled-end _ _ _ _ (loop .inv .0) (loo
 
 pub fill-rows-spec : {M : Type 1} → statement M
 fill-rows-spec =
-    tie.close (tie.spec Inv-loop μ-loop loop-holds fill-byte-requires shifted-requires (λ c. search needs) (λ c. search needs)
-    loop-again same-length returns)
+    tie.close (tie.spec Inv-loop μ-loop loop-holds fill-byte-requires (λ c κs. (omega arith, omega arith)) (λ c. search needs)
+    (λ c. search needs) loop-again same-length returns)

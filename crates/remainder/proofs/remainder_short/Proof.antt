@@ -20,12 +20,12 @@ loop-holds : tie.Need-loop-holds Inv-loop μ-loop
 loop-holds c = (omega arith, left-none _ _)
 
 shifted-requires : tie.Need-shifted-requires Inv-loop μ-loop
-shifted-requires c κs = (omega (arith, c .before .before .before .before .before .before .fill-byte .ensures .size), c .wide .ensures .1)
+shifted-requires c κs = (omega arith, c .wide .ensures .1)
 
 loop-again : tie.Need-loop-again Inv-loop μ-loop
 loop-again c =
     let loop = c .before .before .before .before .before .loop in
-    (omega arith, left-byte _ _ _ _ _ _ (loop .inv .1) (omega arith) (omega (arith, c .before .wide .ensures .0)) (c .shifted .ensures))
+    (omega arith, left-byte _ _ _ _ _ _ (loop .inv .1) (omega arith) (omega arith) (c .shifted .ensures))
 
 returns : tie.Need-returns Inv-loop μ-loop
 returns c =

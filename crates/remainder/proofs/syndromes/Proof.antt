@@ -9,7 +9,7 @@ use Rattle.remainder.proofs.syndromes.Statement.{statement}
 use Rattle.remainder.proofs.syndromes.Tie as tie
 
 slice-aggregate-syndromes : tie.Need-slice-aggregate-syndromes
-slice-aggregate-syndromes c = sym (length-take-le _ _ (omega (arith, c .before .kept .ensures .few, c .before .before .bytes .ensures .0)))
+slice-aggregate-syndromes c = sym (length-take-le _ _ (omega arith))
 
 returns : tie.Need-returns
 returns c =

@@ -16,7 +16,7 @@ read-open-rows-requires : tie.Need-read-open-rows-requires
 read-open-rows-requires c κs =
     let start = c .before .before .before in
     let l = length-take-le (start .args .total) (start .args .out .now) (start .pre .1 .0) in
-    (start .pre .0 .0, start .pre .0 .1, start .pre .0 .2, start .pre .0 .3, start .pre .0 .4, omega (arith, l, start .pre .1 .1))
+    (start .pre .0 .0, start .pre .0 .1, start .pre .0 .2, start .pre .0 .3, start .pre .0 .4, omega (arith, l))
 
 returns : tie.Need-returns
 returns c =

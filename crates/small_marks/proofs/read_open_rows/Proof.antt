@@ -35,29 +35,17 @@ loop-holds c =
           (rows-begun all (start .args .out .now) refl refl refl (start .pre .5)),
     )
 
-margin-requires : tie.Need-margin-requires Inv-loop μ-loop
-margin-requires c κs = omega (arith, c .loop-test .taken, c .before .before .before .before .before .pre .1)
-
 mul-at : tie.Need-mul-at Inv-loop μ-loop
-mul-at c = omega (arith, row-inside (c .before .before .loop .i) (sideOf (c .before .before .before .before .before .before .args .version)) (c .before .loop-test .taken), c .before .before .before .before .before .before .pre .3, c .before .before .before .before .before .before .pre .1)
+mul-at c = omega (arith, row-inside (c .before .before .loop .i) (sideOf (c .before .before .before .before .before .before .args .version)) (c .before .loop-test .taken))
 
 add-end : tie.Need-add-end Inv-loop μ-loop
-add-end c = omega (arith, row-inside (c .before .before .loop .i) (sideOf (c .before .before .before .before .before .before .args .version)) (c .before .loop-test .taken), c .before .before .before .before .before .before .pre .3, c .before .before .before .before .before .before .pre .1)
-
-add-row : tie.Need-add-row Inv-loop μ-loop
-add-row c = omega (arith, c .before .before .before .before .before .before .pre .2, c .before .loop-test .taken, c .before .before .before .before .before .before .pre .1)
-
-mul-row-2 : tie.Need-mul-row-2 Inv-loop μ-loop
-mul-row-2 c = omega (arith, c .before .before .before .before .before .before .pre .2, c .before .loop-test .taken, c .before .before .before .before .before .before .pre .1)
-
-array-read-row : tie.Need-array-read-row Inv-loop μ-loop
-array-read-row c = omega (arith, c .before .before .before .open-rows .ensures .size, c .before .before .before .before .before .before .pre .2, c .before .loop-test .taken, c .before .before .before .before .before .before .pre .1)
+add-end c = omega (arith, row-inside (c .before .before .loop .i) (sideOf (c .before .before .before .before .before .before .args .version)) (c .before .loop-test .taken))
 
 part-read-span-end : tie.Need-part-read-span-end Inv-loop μ-loop
-part-read-span-end c = omega (arith, row-inside (c .before .before .before .loop .i) (sideOf (c .before .before .before .before .before .before .before .args .version)) (c .before .before .loop-test .taken), c .before .before .before .before .before .before .before .pre .3, c .before .before .before .before .before .before .before .pre .1)
+part-read-span-end c = omega (arith, row-inside (c .before .before .before .loop .i) (sideOf (c .before .before .before .before .before .before .before .args .version)) (c .before .before .loop-test .taken))
 
 sub-read-span-2 : tie.Need-sub-read-span-2 Inv-loop μ-loop
-sub-read-span-2 c = omega (arith, margin-few (c .before .before .margin .ensures), c .before .before .before .before .before .before .before .before .pre .0)
+sub-read-span-2 c = omega (arith, margin-few (c .before .before .margin .ensures))
 
 read-span-requires : tie.Need-read-span-requires Inv-loop μ-loop
 read-span-requires c κs =
@@ -65,15 +53,9 @@ read-span-requires c κs =
     let loop = c .before .before .before .before .loop in
     let few = margin-few (c .before .before .margin .ensures) in
     let v = start .args .version in
-    let h : loop .i * sideOf v + sideOf v ≤ length (start .args .square .now) = omega (arith, row-inside (loop .i) (sideOf v) (c .before .before .before .loop-test .taken), start .pre .3) in
+    let h : loop .i * sideOf v + sideOf v ≤ length (start .args .square .now) = omega (arith, row-inside (loop .i) (sideOf v) (c .before .before .before .loop-test .taken)) in
     let l = part-length (loop .i * sideOf v) (sideOf v) (start .args .square .now) h in
-    (masked (start .args .square .now) (loop .i * sideOf v) (sideOf v) (start .pre .4) (low-small 27 _) (omega (arith, start .pre .1)) h, record { few = loop .inv .0 .few; small = loop .inv .0 .small }, omega (arith, few), omega (arith, few), omega (arith, l), omega (arith, l, start .pre .1))
-
-add-i : tie.Need-add-i Inv-loop μ-loop
-add-i c = omega (arith, c .before .before .before .before .before .before .loop-test .taken, c .before .before .before .before .before .before .before .before .before .before .before .pre .1)
-
-loop-less : tie.Need-loop-less Inv-loop μ-loop
-loop-less c = omega (arith, c .before .before .before .before .before .before .loop-test .taken)
+    (masked (start .args .square .now) (loop .i * sideOf v) (sideOf v) (start .pre .4) (low-small 27 _) (omega arith) h, record { few = loop .inv .0 .few; small = loop .inv .0 .small }, omega (arith, few), omega (arith, few), omega (arith, l), omega (arith, l))
 
 loop-again : tie.Need-loop-again Inv-loop μ-loop
 loop-again c =
@@ -83,19 +65,19 @@ loop-again c =
     let taken = c .before .before .before .before .before .before .loop-test .taken in
     let span = c .before .before .read-span .ensures in
     let rows = c .before .before .before .before .before .before .before .before .open-rows .ensures in
-    let turn = open-turn (start .args .mask) (layoutOf v) (start .args .square .now) (loop .i) (sideOf v) (omega (arith, start .pre .0)) (open-layout v (start .pre .1)) (start .pre .3) taken (c .before .before .before .before .before .margin .ensures) (λ k lo hi. rows .is (start .args .mask) (loop .i) k (start .pre .2) (omega (arith, taken, start .pre .1)) (omega (arith, start .pre .1))) refl (span .1) (span .2) (walk-again refl refl refl (loop .inv .2)) in
+    let turn = open-turn (start .args .mask) (layoutOf v) (start .args .square .now) (loop .i) (sideOf v) (omega arith) (open-layout v (start .pre .1)) (start .pre .3) taken (c .before .before .before .before .before .margin .ensures) (λ k lo hi. rows .is (start .args .mask) (loop .i) k (start .pre .2) (omega (arith, taken)) (omega arith)) refl (span .1) (span .2) (walk-again refl refl refl (loop .inv .2)) in
     (span .0, omega (arith, taken), turn)
 
 returns : tie.Need-returns Inv-loop μ-loop
 returns c =
     let start = c .before .before .before .before .before in
     let loop = c .before .loop in
-    let e : loop .i ≡ sideOf (start .args .version) = omega (arith, loop .inv .1, c .loop-test .left) in
-    rows-done (maskBit (sideOf (start .args .version)) (start .args .mask)) (layoutOf (start .args .version)) (start .args .square .now) (loop .i * sideOf (start .args .version)) (omega (arith, start .pre .3, ap (λ (n : ℕ). n * sideOf (start .args .version)) e)) (loop .inv .0) (loop .inv .2)
+    let e : loop .i ≡ sideOf (start .args .version) = omega arith in
+    rows-done (maskBit (sideOf (start .args .version)) (start .args .mask)) (layoutOf (start .args .version)) (start .args .square .now) (loop .i * sideOf (start .args .version)) (omega (arith, ap (λ (n : ℕ). n * sideOf (start .args .version)) e)) (loop .inv .0) (loop .inv .2)
 
 pub read-open-rows-spec : {M : Type 1} → statement M
 read-open-rows-spec =
-    tie.close (tie.spec Inv-loop μ-loop (λ c. omega arith) (λ c. omega arith) open-rows-requires loop-holds margin-requires mul-at
-    add-end (λ c. omega (arith, c .before .before .before .before .before .before .pre .2)) add-row mul-row-2 array-read-row
-    (λ c. search needs) (λ c. omega arith) (λ c. omega arith) part-read-span-end sub-read-span-2 read-span-requires add-i loop-less
-    loop-again (λ c. c .before .loop .inv .2 .words .size) returns)
+    tie.close (tie.spec Inv-loop μ-loop (λ c. omega arith) (λ c. omega arith) open-rows-requires loop-holds (λ c κs. omega arith) mul-at
+    add-end (λ c. omega (arith, c .before .before .before .before .before .before .pre .2)) (λ c. omega arith) (λ c. omega arith)
+    (λ c. omega arith) (λ c. search needs) (λ c. omega arith) (λ c. omega arith) part-read-span-end sub-read-span-2 read-span-requires
+    (λ c. omega arith) (λ c. omega arith) loop-again (λ c. c .before .loop .inv .2 .words .size) returns)

@@ -20,19 +20,12 @@ abbrev μ-loop : tie.MeasureT-loop
 loop-holds : tie.Need-loop-holds Inv-loop μ-loop
 loop-holds c = let start = c .before .before in (start .pre .1, omega arith, start .pre .2, spans-none, refl)
 
-add-if1 : tie.Need-add-if1 Inv-loop μ-loop
-add-if1 c = omega (arith, c .before .loop .inv .2, c .before .before .before .before .pre .4, c .before .before .before .before .pre .5)
-
 unmasked-requires : tie.Need-unmasked-requires Inv-loop μ-loop
-unmasked-requires c κs = let start = c .before .before .before .before .before .before in (start .pre .0, omega (arith, c .before .if1 .taken, start .pre .4), start .pre .5)
+unmasked-requires c κs = let start = c .before .before .before .before .before .before in (start .pre .0, omega arith, start .pre .5)
 
 push-requires : tie.Need-push-requires Inv-loop μ-loop
 push-requires c κs =
-    let start = c .before .before .before .before .before .before .before in
-    let loop = c .before .before .before .before .loop in (loop .inv .0, omega arith, c .unmasked .ensures .1, omega (arith, loop .inv .2, start .pre .4, start .pre .5))
-
-loop-less : tie.Need-loop-less Inv-loop μ-loop
-loop-less c = omega (arith, c .before .before .push .ensures .1, c .before .before .before .before .before .if1 .taken)
+    let loop = c .before .before .before .before .loop in (loop .inv .0, omega arith, c .unmasked .ensures .1, omega arith)
 
 loop-again : tie.Need-loop-again Inv-loop μ-loop
 loop-again c =
@@ -42,17 +35,17 @@ loop-again c =
     let taken = c .before .before .before .before .before .if1 .taken in
     let lo = loop .inv .1 in
     let on = push .ensures .1 in
-    (push .ensures .0, omega (arith, lo, on), omega (arith, on, taken), spans-on lo (omega (arith, on)) (loop .inv .3) (spans-push (start .pre .0) 8 _ (omega (arith, taken, start .pre .4)) (c .before .before .before .unmasked .ensures .0) on (push .ensures .2)), push .kept .0 ∙ loop .inv .4)
+    (push .ensures .0, omega (arith, lo, on), omega (arith, on, taken), spans-on lo (omega (arith, on)) (loop .inv .3) (spans-push (start .pre .0) 8 _ (omega (arith, taken)) (c .before .before .before .unmasked .ensures .0) on (push .ensures .2)), push .kept .0 ∙ loop .inv .4)
 
 unmasked-requires-2 : tie.Need-unmasked-requires-2 Inv-loop μ-loop
-unmasked-requires-2 c κs = let start = c .before .before .before .before .before .before .before in (start .pre .0, omega (arith, start .pre .3, start .pre .4), start .pre .5)
+unmasked-requires-2 c κs = let start = c .before .before .before .before .before .before .before in (start .pre .0, omega arith, start .pre .5)
 
 push-requires-2 : tie.Need-push-requires-2 Inv-loop μ-loop
 push-requires-2 c κs =
     let start = c .before .before .before .before .before .before .before .before .before in
     let loop = c .before .before .before .before .before .before .loop in
     let w = start .args .to - loop .r .column in
-    (loop .inv .0, omega (arith, c .before .before .before .before .if1 .left), subst (λ (x : ℕ). x < 2 ^ w) (sym (c .lowest .ensures)) (mod-lt _ (pow-pos w)), omega (arith, loop .inv .2, start .pre .4, start .pre .5))
+    (loop .inv .0, omega arith, subst (λ (x : ℕ). x < 2 ^ w) (sym (c .lowest .ensures)) (mod-lt _ (pow-pos w)), omega arith)
 
 same-length : tie.Need-same-length Inv-loop μ-loop
 same-length c = c .before .before .push2 .kept .0 ∙ c .before .before .before .before .before .before .before .before .before .loop .inv .4
@@ -65,13 +58,13 @@ returns c =
     let to = start .args .to in
     let most = loop .inv .2 in
     let w = start .args .to - loop .r .column in
-    let e : push .result .column ≡ start .args .to = omega (arith, push .ensures .1, most) in
+    let e : push .result .column ≡ start .args .to = omega (arith, most) in
     let left = c .before .before .before .before .before .before .before .if1 .left in
-    let x = lowest-is (start .pre .0) (to - 8) w (loop .r .column) (omega (arith, left)) (omega (arith, most, start .pre .3)) (c .before .before .before .before .unmasked2 .ensures .0) (c .before .before .before .lowest .ensures) in
-    (push .ensures .0, e, spans-on (loop .inv .1) (omega (arith, e, most)) (loop .inv .3) (spans-push (start .pre .0) w _ (omega (arith, most, start .pre .4)) x (push .ensures .1) (push .ensures .2)))
+    let x = lowest-is (start .pre .0) (to - 8) w (loop .r .column) (omega (arith, left)) (omega (arith, most)) (c .before .before .before .before .unmasked2 .ensures .0) (c .before .before .before .lowest .ensures) in
+    (push .ensures .0, e, spans-on (loop .inv .1) (omega (arith, e, most)) (loop .inv .3) (spans-push (start .pre .0) w _ (omega (arith, most)) x (push .ensures .1) (push .ensures .2)))
 
 pub read-span-spec : {M : Type 1} → statement M
 read-span-spec =
-    tie.close (tie.spec Inv-loop μ-loop loop-holds add-if1 unmasked-requires push-requires loop-less loop-again
+    tie.close (tie.spec Inv-loop μ-loop loop-holds (λ c. omega arith) unmasked-requires push-requires (λ c. omega arith) loop-again
     (λ c. c .before .before .before .loop .inv .2) (λ c. c .before .before .before .before .before .before .before .pre .3)
     unmasked-requires-2 (λ c κs. omega (arith, c .before .before .before .if1 .left)) push-requires-2 same-length returns)

@@ -5,7 +5,7 @@ use Rattle.small_marks.proofs.unmasked.Statement.{statement}
 use Rattle.small_marks.proofs.unmasked.Tie as tie
 
 returns : tie.Need-returns
-returns c = let start = c .before .before .before in narrow-is (start .args .mask) (start .args .at) (start .pre .0) (omega (arith, start .pre .1, start .pre .2)) (c .before .eight .ensures) (c .gather .ensures)
+returns c = let start = c .before .before .before in narrow-is (start .args .mask) (start .args .at) (start .pre .0) (omega arith) (c .before .eight .ensures) (c .gather .ensures)
 
 pub unmasked-spec : {M : Type 1} → statement M
 unmasked-spec = tie.close (tie.spec (λ c κs. search needs) (λ c κs. search needs) (λ c. search needs) (λ c. search needs) returns)

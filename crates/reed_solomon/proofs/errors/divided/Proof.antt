@@ -20,7 +20,7 @@ loop-holds c = (dividing-start _ _ _ _ _, omega arith, omega arith)
 loop-again : tie.Need-loop-again Inv-loop μ-loop
 loop-again c =
     let loop = c .before .before .before .before .before .before .loop in
-    (dividing-two _ _ _ _ _ _ _ _ _ _ _ _ (loop .inv .0) (c .next-two .ensures), omega (arith, loop .inv .1), omega (arith, loop .inv .1))
+    (dividing-two _ _ _ _ _ _ _ _ _ _ _ _ (loop .inv .0) (c .next-two .ensures), omega arith, omega arith)
 
 returns : tie.Need-returns Inv-loop μ-loop
 returns c = dividing-end _ _ _ _ _ _ _ _ _ (c .before .before .loop .inv .0) (c .before .before .loop .inv .2) (omega arith)
@@ -28,7 +28,7 @@ returns c = dividing-end _ _ _ _ _ _ _ _ _ (c .before .before .loop .inv .0) (c 
 returns-2 : tie.Need-returns-2 Inv-loop μ-loop
 returns-2 c =
     let loop = c .before .before .before .before .before .loop in
-    dividing-last _ _ _ _ _ _ _ _ _ _ _ (loop .inv .0) (omega (arith, loop .inv .1)) (c .last .ensures .0) (c .last .ensures .1)
+    dividing-last _ _ _ _ _ _ _ _ _ _ _ (loop .inv .0) (omega arith) (c .last .ensures .0) (c .last .ensures .1)
 
 pub divided-spec : {M : Type 1} → statement M
 divided-spec =

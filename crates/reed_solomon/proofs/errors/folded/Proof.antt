@@ -7,7 +7,7 @@ use Rattle.reed_solomon.proofs.errors.folded.Statement.{statement}
 use Rattle.reed_solomon.proofs.errors.folded.Tie as tie
 
 returns : tie.Need-returns
-returns c = (omega (arith, c .if1 .taken), record { is = inl refl })
+returns c = (omega arith, record { is = inl refl })
 
 pub folded-spec : {M : Type 1} → statement M
 folded-spec = tie.close (tie.spec returns (λ c κs. search needs) (λ c. search needs))

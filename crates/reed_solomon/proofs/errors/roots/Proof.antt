@@ -25,13 +25,7 @@ loop-holds c =
 step-requires : tie.Need-step-requires Inv-loop μ-loop
 step-requires c κs =
     let start = c .before .before .before .before .before in
-    (start .pre .0, (start .pre .1 .0, omega (arith, c .before .before .loop .inv .0 .size)))
-
-put-requires : tie.Need-put-requires Inv-loop μ-loop
-put-requires c κs =
-    let start = c .before .before .before .before .before .before .before .before in
-    let loop = c .before .before .before .before .before .loop in
-    omega (arith, loop .inv .1 .size, loop .inv .2, start .pre .1 .3, start .pre .1 .4)
+    (start .pre .0, (start .pre .1 .0, omega arith))
 
 loop-again : tie.Need-loop-again Inv-loop μ-loop
 loop-again c =
@@ -40,8 +34,8 @@ loop-again c =
     let loop = c .before .before .before .before .before .before .before .before .loop in
     let step = c .before .before .before .before .before .step in (
       terms-next _ P _ _ (start .pre .1 .2) _ 4 _ _ (loop .inv .0) (step .ensures .1),
-      values-next _ P _ _ (start .pre .1 .2) _ _ _ _ _ _ _ _ _ (loop .inv .0) (step .ensures .0) (omega (arith, loop .inv .2, start .pre .1 .3, start .pre .1 .4)) (loop .inv .1) (c .before .before .put .ensures),
-      omega (arith, loop .inv .2),
+      values-next _ P _ _ (start .pre .1 .2) _ _ _ _ _ _ _ _ _ (loop .inv .0) (step .ensures .0) (omega arith) (loop .inv .1) (c .before .before .put .ensures),
+      omega arith,
     )
 
 returns : tie.Need-returns Inv-loop μ-loop
@@ -51,5 +45,5 @@ returns c =
 
 pub roots-spec : {M : Type 1} → statement M
 roots-spec =
-    tie.close (tie.spec Inv-loop μ-loop loop-holds (λ c. sym (c .before .before .loop .inv .0 .size)) step-requires put-requires
-    (λ c. search needs) (λ c. search needs) loop-again (λ c. c .before .loop .inv .1 .size) returns)
+    tie.close (tie.spec Inv-loop μ-loop loop-holds (λ c. sym (c .before .before .loop .inv .0 .size)) step-requires
+    (λ c κs. omega arith) (λ c. search needs) (λ c. search needs) loop-again (λ c. c .before .loop .inv .1 .size) returns)

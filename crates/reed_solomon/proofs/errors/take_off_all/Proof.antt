@@ -22,7 +22,7 @@ loop-holds c =
 take-off-requires : tie.Need-take-off-requires Inv-loop μ-loop
 take-off-requires c κs =
     let start = c .before .before .before .before .before .before in
-    (start .pre .0, (omega (arith, c .before .before .before .loop .inv .0 .size), omega arith, start .pre .1 .3))
+    (start .pre .0, (omega arith, omega arith, start .pre .1 .3))
 
 loop-again : tie.Need-loop-again Inv-loop μ-loop
 loop-again c =

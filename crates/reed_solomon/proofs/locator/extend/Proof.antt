@@ -16,33 +16,30 @@ returns-2 : tie.Need-returns-2
 returns-2 c =
     let start = c .before .before .before .before .before .before .before .before .before .before .before .before .before .before in
     let discrepancy = c .before .before .before .before .before .before .before .before .before .discrepancy in
-    let if1 = c .before .before .before .before .before .before .before .before .if1 in
     let div = c .before .before .before .before .before .before .before .div in
     let if2 = c .before .before .before .before .before .if2 in
     register-stayed _ (the-field _ (start .pre .0)) _ _ _ _ _ _ _ (start .pre .1 .1 .1) _ _ _ _ (discrepancy .ensures)
-    (omega (arith, if1 .left)) (omega arith) (div .ensures) (c .before .before .add-moved .ensures) (omega arith)
-    (omega (arith, start .pre .1 .1 .1 .behind, start .pre .1 .1 .1 .state .before, if2 .taken)) (if2 .taken)
+    (omega arith) (omega arith) (div .ensures) (c .before .before .add-moved .ensures) (omega arith)
+    (omega arith) (if2 .taken)
 
 grow-requires : tie.Need-grow-requires
 grow-requires c κs =
     let start = c .before .before .before .before .before .before .before .before .before .before .before in (
       start .pre .0,
-      (start .pre .1 .1 .1 .size-f, start .pre .1 .1 .1 .size-g, omega arith, omega (arith, start .pre .1 .1 .1 .behind, start .pre .1 .1 .1 .within), omega arith),
+      (start .pre .1 .1 .1 .size-f, start .pre .1 .1 .1 .size-g, omega arith, omega arith, omega arith),
     )
 
 returns-3 : tie.Need-returns-3
 returns-3 c =
     let start = c .before .before .before .before .before .before .before .before .before .before .before .before .before .before .before .before in
     let discrepancy = c .before .before .before .before .before .before .before .before .before .before .before .discrepancy in
-    let if1 = c .before .before .before .before .before .before .before .before .before .before .if1 in
     let div = c .before .before .before .before .before .before .before .before .before .div in
-    let if2 = c .before .before .before .before .before .before .before .if2 in
     let grow = c .before .before .before .before .grow in
     register-grown _ (the-field _ (start .pre .0)) _ _ _ _ _ _ _ (start .pre .1 .1 .1) _ _ _ _ (discrepancy .ensures)
-    (omega (arith, if1 .left)) (omega arith) (div .ensures) (grow .ensures .0)
-    (omega (arith, start .pre .1 .1 .1 .within, if2 .left))
-    (omega (arith, start .pre .1 .1 .1 .behind, start .pre .1 .1 .1 .state .before, if2 .left))
-    _ (grow .ensures .1) (omega (arith, if2 .left))
+    (omega arith) (omega arith) (div .ensures) (grow .ensures .0)
+    (omega arith)
+    (omega arith)
+    _ (grow .ensures .1) (omega arith)
 
 pub extend-spec : {M : Type 1} → statement M
 extend-spec =

@@ -22,8 +22,7 @@ loop-holds c = let start = c .before .before in (running-start _ _ _ _ _ (start 
 advance-two-requires : tie.Need-advance-two-requires Inv-loop μ-loop
 advance-two-requires c κs =
     let start = c .before .before .before .before .before .before .before in
-    let loop = c .before .before .before .before .loop in
-    (start .pre .0, (start .pre .1 .0, omega (arith, loop .inv .0 .size)))
+    (start .pre .0, (start .pre .1 .0, omega arith))
 
 loop-again : tie.Need-loop-again Inv-loop μ-loop
 loop-again c =
@@ -44,8 +43,7 @@ returns c = running-end _ _ _ _ _ _ (c .before .before .loop .inv .0) (omega ari
 advance-requires : tie.Need-advance-requires Inv-loop μ-loop
 advance-requires c κs =
     let start = c .before .before .before .before .before .before .before in
-    let loop = c .before .before .before .before .loop in
-    (start .pre .0, (start .pre .1 .0, omega (arith, loop .inv .0 .size)))
+    (start .pre .0, (start .pre .1 .0, omega arith))
 
 same-length-2 : tie.Need-same-length-2 Inv-loop μ-loop
 same-length-2 c =
