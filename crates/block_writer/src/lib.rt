@@ -45,7 +45,8 @@ fn write_one(stream: &mut [u8], to: usize, data: &[u8], from: usize, b: Batch)
 
 // The blocks of a batch, the first at `to`, of the data from `from` on.
 fn write_batch(stream: &mut [u8], to: usize, data: &[u8], from: usize, b: Batch)
-    requires { ⌜ (b .info ≤ 255) × (b .parity ≤ 255) × T (batchHolds (b .count) (b .info) (b .parity)) × Room writing (blocksIn b) to from (now «data») (now stream) ⌝ }
+    requires { ⌜ (b .info ≤ 255) × (b .parity ≤ 255) × T (batchHolds (b .count) (b .info) (b .parity))
+        × Room writing (blocksIn b) to from (now «data») (now stream) ⌝ }
     ensures { λ _. ⌜ now (stream .exit) ≡ poured writing (blocksIn b) to from (now («data» .entry)) (now (stream .entry)) ⌝ }
 {
     if blockwise::is_one_short(b) {
@@ -57,17 +58,19 @@ fn write_batch(stream: &mut [u8], to: usize, data: &[u8], from: usize, b: Batch)
 
 // The stream of data codewords: each block's data followed by their parity.
 pub fn write_blocks(stream: &mut [u8], data: &[u8], row: &[u8])
-    requires { ⌜ (length (now row) ≡ 9) × T (rowHolds (now row) (rowLength (now row))) × (rowLength (now row) ≤ length (now stream)) × (totalData (shapes (now row)) ≤ length (now «data»)) ⌝ }
-    ensures { λ _. ⌜ now (stream .exit) ≡ streamOf (shapes (now (row .entry))) (now («data» .entry)) ++ drop (rowLength (now (row .entry))) (now (stream .entry)) ⌝ }
+    requires { ⌜ (length (now row) ≡ 9) × T (rowHolds (now row) (rowLength (now row)))
+        × (rowLength (now row) ≤ length (now stream)) × (totalData (shapes (now row)) ≤ length (now «data»)) ⌝ }
+    ensures { λ _. let r = now (row .entry) in
+        ⌜ now (stream .exit) ≡ streamOf (shapes r) (now («data» .entry)) ++ drop (rowLength r) (now (stream .entry)) ⌝ }
 {
     let mut n: usize = 0;
-    let mut at: usize = 0;
+    let mut from: usize = 0;
     let mut k: usize = 0;
     while k < 3 {
         let b = blockwise::batch_of(row, k);
-        write_batch(stream, n, data, at, b);
+        write_batch(stream, n, data, from, b);
         n += b.count * (b.info + b.parity);
-        at += b.count * b.info;
+        from += b.count * b.info;
         k += 1;
     }
 }

@@ -1,21 +1,20 @@
 -- What the blocks of a row are answered with, and the stream that is left. Assumes nothing.
 use mathlib.Core.Path.{_≡_, refl, sym, ap, ap₂, _∙_}
 use mathlib.Core.Logic.{_⊎_, inl, inr}
-use mathlib.Core.Bool.{cond}
-use mathlib.Core.List.{List, [], _∷_, _++_, append-assoc}
-use Prim.Native.Nat.{ℕ, zero, suc, _+_, _≤_}
+use mathlib.Core.List.{List, _++_}
+use Prim.Native.Nat.{ℕ, zero, suc, _≤_}
 use native.Mathlib.Omega.{arith}
-use lib.Dec.{T, eqb}
+use lib.Dec.{T}
 use lib.ListN.{length, take, drop}
-use lib.Seq.{drop-drop, length-take-le}
-use Rattle.corrector.specs.Correct.{Outcome, correctOf}
-use Rattle.blocks.specs.Blocks.{rowLength, rowHolds, Shape, size, shapes, totalSize, cut, joined}
+use lib.Seq.{length-take-le}
+use Rattle.corrector.specs.Correct.{Outcome}
+use Rattle.blocks.specs.Blocks.{rowLength, rowHolds, shapes, joined}
 use Rattle.blocks.proofs.Rows.{row-sound, total-shapes}
 use Rattle.blockwise.specs.declared.Blocks.{Blocks}
-use Rattle.blockwise.specs.Blockwise.{outcomes, refusalOf, countOf, blocksOf, corrected, leftOf, numberOf, correctionsOf}
+use Rattle.blockwise.specs.Blockwise.{refusalOf, countOf, blocksOf, corrected, leftOf, numberOf, correctionsOf}
 use Rattle.blockwise.specs.Inner.{Pass, Corrects}
 use Rattle.blockwise.proofs.Rule.{corrected-front}
-use Rattle.blockwise.proofs.Corrects.{first, first-zero, told, passed-is}
+use Rattle.blockwise.proofs.Corrects.{told, passed-is}
 use Rattle.blockwise.proofs.Theorems.{zero-or-six, left-accepted}
 
 told-number : (k n : ℕ) → (k ≡ 0) ⊎ (k ≡ 6) → numberOf (told k n) ≡ k

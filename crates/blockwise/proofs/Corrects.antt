@@ -4,7 +4,7 @@ use mathlib.Core.Logic.{_⊎_, inl, inr, _≢_}
 use mathlib.Core.Bool.{Bool, true, false, cond}
 use mathlib.Core.Option.{Option, none, some}
 use mathlib.Core.List.{List, [], _∷_, _++_, append-assoc, append-nil}
-use Prim.Native.Nat.{ℕ, zero, suc, _+_, _-_, _≤_, _<_, zero-le}
+use Prim.Native.Nat.{ℕ, zero, suc, _+_, _-_, _≤_, zero-le}
 use native.Mathlib.Nat.{add-zero, add-assoc}
 use native.Mathlib.Omega.{arith}
 use lib.Dec.{eqb, eqb·suc-zero}
@@ -28,33 +28,17 @@ use Rattle.blockwise.proofs.Splice.{part-back, opened, spliced-front, s
 
 -- ---- one block
 
--- it keeps its length
-settled-length : (w : List ℕ) (p : ℕ) (o : Option (List ℕ)) → nearest 0x163 1 p w ≡ o → length (settled w o .block) ≡ length w
-unfolding settled refused
-settled-length w p none e = refl
-settled-length w p (some v) e = some-near 0x163 1 p w v e .size
-
-pub block-length : (p : ℕ) (w : List ℕ) → length (correctOf 0x163 1 p w .block) ≡ length w
-unfolding correctOf refused
-block-length p w = go (unfit p w)
+-- it keeps its length, has no more corrections than codewords, and is as it was if it is refused
+block-facts : (p : ℕ) (w : List ℕ)
+    → let o = correctOf 0x163 1 p w in (length (o .block) ≡ length w) × (o .count ≤ length w) × (o .number ≢ 0 → o .block ≡ w)
+unfolding correctOf settled refused
+block-facts p w = go (unfit p w) (nearest 0x163 1 p w) refl
   where
-    go : (t : Bool) → length (orOutcome t (refused 5 w) (settled w (nearest 0x163 1 p w)) .block) ≡ length w
-    go true = refl
-    go false = settled-length w p (nearest 0x163 1 p w) refl
-
--- no more corrections than codewords
-settled-count : (w : List ℕ) (o : Option (List ℕ)) → settled w o .count ≤ length w
-unfolding settled refused
-settled-count w none = zero-le
-settled-count w (some v) = distance-le w v
-
-block-count : (p : ℕ) (w : List ℕ) → correctOf 0x163 1 p w .count ≤ length w
-unfolding correctOf refused
-block-count p w = go (unfit p w)
-  where
-    go : (t : Bool) → orOutcome t (refused 5 w) (settled w (nearest 0x163 1 p w)) .count ≤ length w
-    go true = zero-le
-    go false = settled-count w (nearest 0x163 1 p w)
+    go : (t : Bool) (v : Option (List ℕ)) → nearest 0x163 1 p w ≡ v
+        → let o = orOutcome t (refused 5 w) (settled w v) in (length (o .block) ≡ length w) × (o .count ≤ length w) × (o .number ≢ 0 → o .block ≡ w)
+    go true v e = (refl, zero-le, λ d. refl)
+    go false none e = (refl, zero-le, λ d. refl)
+    go false (some v) e = (some-near 0x163 1 p w v e .size, distance-le w v, λ d. absurd (d refl))
 
 -- ---- all blocks
 
@@ -63,13 +47,13 @@ unfolding outcomes blocksOf
 blocks-shaped [] [] h = tt
 blocks-shaped [] (w ∷ ws) h = absurd h
 blocks-shaped (b ∷ bs) [] h = absurd h
-blocks-shaped (b ∷ bs) (w ∷ ws) h = (block-length (b .parity) w ∙ h .0, blocks-shaped bs ws (h .1))
+blocks-shaped (b ∷ bs) (w ∷ ws) h = (block-facts (b .parity) w .0 ∙ h .0, blocks-shaped bs ws (h .1))
 
 pub count-le : (bs : List Shape) (s : List ℕ) → countOf (corrected bs s) ≤ totalSize bs
 unfolding outcomes cut countOf totalSize
 count-le [] s = zero-le
 count-le (b ∷ bs) s =
-    omega (arith, block-count (b .parity) (take (size b) s), length-take (size b) s, count-le bs (drop (size b) s))
+    omega (arith, block-facts (b .parity) (take (size b) s) .1, length-take (size b) s, count-le bs (drop (size b) s))
 
 pub joined-size : (bs : List Shape) (t : List ℕ) → totalSize bs ≤ length t → length (joined (blocksOf (corrected bs t))) ≡ totalSize bs
 joined-size bs t h = length-joined bs (blocksOf (corrected bs t)) (blocks-shaped bs (cut bs t) (cut-shaped bs t h))
@@ -89,42 +73,35 @@ first-zero (suc n) r e = absurd (omega (arith, ap (λ (t : Bool). cond t r (suc 
 
 -- ---- the stream that is left
 
-pub left-accepted : (bs : List Shape) (s : List ℕ) → refusalOf (corrected bs s) ≡ 0 → leftOf bs s ≡ joined (blocksOf (corrected bs s)) ++ drop (totalSize bs) s
+left-behind : (bs cs : List Shape) (s : List ℕ) → refusalOf (corrected bs s) ≡ 0
+    → leftOf (bs ++ cs) s ≡ joined (blocksOf (corrected bs s)) ++ leftOf cs (drop (totalSize bs) s)
 unfolding leftOf outcomes cut refusalOf blocksOf joined totalSize
-left-accepted [] s e = refl
-left-accepted (b ∷ bs) s e =
+left-behind [] cs s e = refl
+left-behind (b ∷ bs) cs s e =
     let o = correctOf 0x163 1 (b .parity) (take (size b) s) in
     let t = drop (size b) s in
+    let us = joined (blocksOf (corrected bs t)) in
     let z = first-zero (o .number) (refusalOf (corrected bs t)) e in
-    ap (λ (n : ℕ). o .block ++ cond (eqb n 0) (leftOf bs t) t) (z .0)
-    ∙ ap (λ (l : List ℕ). o .block ++ l) (left-accepted bs t (z .1) ∙ ap (λ (l : List ℕ). joined (blocksOf (corrected bs t)) ++ l) (drop-drop (totalSize bs) (size b) s))
-    ∙ sym (append-assoc (o .block) (joined (blocksOf (corrected bs t))) (drop (size b + totalSize bs) s))
+    ap (λ (n : ℕ). o .block ++ cond (eqb n 0) (leftOf (bs ++ cs) t) t) (z .0)
+    ∙ ap (λ (l : List ℕ). o .block ++ l) (left-behind bs cs t (z .1) ∙ ap (λ (l : List ℕ). us ++ leftOf cs l) (drop-drop (totalSize bs) (size b) s))
+    ∙ sym (append-assoc (o .block) us (leftOf cs (drop (size b + totalSize bs) s)))
 
--- a block that is refused is as it was
-refused-kept : (p : ℕ) (w : List ℕ) → correctOf 0x163 1 p w .number ≢ 0 → correctOf 0x163 1 p w .block ≡ w
-unfolding correctOf settled refused
-refused-kept p w = go (unfit p w) (nearest 0x163 1 p w)
-  where
-    go : (t : Bool) (o : Option (List ℕ)) → orOutcome t (refused 5 w) (settled w o) .number ≢ 0 → orOutcome t (refused 5 w) (settled w o) .block ≡ w
-    go true o d = refl
-    go false none d = refl
-    go false (some v) d = absurd (d refl)
+pub left-accepted : (bs : List Shape) (s : List ℕ) → refusalOf (corrected bs s) ≡ 0
+    → leftOf bs s ≡ joined (blocksOf (corrected bs s)) ++ drop (totalSize bs) s
+unfolding leftOf
+left-accepted bs s e = ap (λ (l : List Shape). leftOf l s) (sym (append-nil bs)) ∙ left-behind bs [] s e
 
 pub left-refused : (bs cs : List Shape) (b : Shape) (s : List ℕ) → refusalOf (corrected bs s) ≡ 0
     → correctOf 0x163 1 (b .parity) (take (size b) (drop (totalSize bs) s)) .number ≢ 0
     → leftOf (bs ++ (b ∷ cs)) s ≡ joined (blocksOf (corrected bs s)) ++ drop (totalSize bs) s
-unfolding leftOf outcomes cut refusalOf blocksOf joined totalSize
-left-refused [] cs b s e d =
-    let o = correctOf 0x163 1 (b .parity) (take (size b) s) in
-    ap₂ (λ (l : List ℕ) (x : Bool). l ++ cond x (leftOf cs (drop (size b) s)) (drop (size b) s)) (refused-kept (b .parity) (take (size b) s) d) (ne-eqb (o .number) 0 d)
-    ∙ take-append-drop (size b) s
-left-refused (c ∷ bs) cs b s e d =
-    let o = correctOf 0x163 1 (c .parity) (take (size c) s) in
-    let t = drop (size c) s in
-    let z = first-zero (o .number) (refusalOf (corrected bs t)) e in
-    ap (λ (n : ℕ). o .block ++ cond (eqb n 0) (leftOf (bs ++ (b ∷ cs)) t) t) (z .0)
-    ∙ ap (λ (l : List ℕ). o .block ++ l) (left-refused bs cs b t (z .1) (rw drop-drop d) ∙ ap (λ (l : List ℕ). joined (blocksOf (corrected bs t)) ++ l) (drop-drop (totalSize bs) (size c) s))
-    ∙ sym (append-assoc (o .block) (joined (blocksOf (corrected bs t))) (drop (size c + totalSize bs) s))
+unfolding leftOf
+left-refused bs cs b s e d =
+    let t = drop (totalSize bs) s in
+    let w = take (size b) t in
+    left-behind bs (b ∷ cs) s e
+    ∙ ap₂ (λ (l : List ℕ) (x : Bool). joined (blocksOf (corrected bs s)) ++ (l ++ cond x (leftOf cs (drop (size b) t)) (drop (size b) t)))
+    (block-facts (b .parity) w .2 d) (ne-eqb (correctOf 0x163 1 (b .parity) w .number) 0 d)
+    ∙ ap (λ (l : List ℕ). joined (blocksOf (corrected bs s)) ++ l) (take-append-drop (size b) t)
 
 -- ---- one pass behind another
 
@@ -145,7 +122,7 @@ follow (Corrected m) s f = plus m (f s)
 follow Refused s f = record { answer = Refused; stream = s }
 
 onward-follow : (n c : ℕ) (s : List ℕ) (r : Blocks) (t : List ℕ) (f : List ℕ → Pass)
-    → onward n c s (follow r t f) ≡ follow (onward n c s (record { answer = r; stream = t }) .answer) (onward n c s (record { answer = r; stream = t }) .stream) f
+    → let q = onward n c s (record { answer = r; stream = t }) in onward n c s (follow r t f) ≡ follow (q .answer) (q .stream) f
 onward-follow (suc n) c s r t f = refl
 onward-follow zero c s Refused t f = refl
 onward-follow zero c s (Corrected m) t f = λ i. record { answer = more-more c m (f t .answer) i; stream = f t .stream }
@@ -159,9 +136,10 @@ passed-append (b ∷ bs) cs a s =
     let o = outcomeAt b a s in
     let s₁ = leftAt b a s in
     let q = passed bs (a + size b) s₁ in
+    let u = onward (o .number) (o .count) s₁ q in
     ap (onward (o .number) (o .count) s₁) (passed-append bs cs (a + size b) s₁)
     ∙ onward-follow (o .number) (o .count) s₁ (q .answer) (q .stream) (passed cs (a + size b + totalSize bs))
-    ∙ ap (λ (k : ℕ). follow (onward (o .number) (o .count) s₁ q .answer) (onward (o .number) (o .count) s₁ q .stream) (passed cs k)) (add-assoc a (size b) (totalSize bs))
+    ∙ ap (λ (k : ℕ). follow (u .answer) (u .stream) (passed cs k)) (add-assoc a (size b) (totalSize bs))
 
 -- ---- what a pass comes to
 
@@ -189,10 +167,12 @@ passed-is (b ∷ bs) a s h =
     let o = outcomeAt b a s in
     let s₁ = leftAt b a s in
     let t = drop (size b) (drop a s) in
-    let n : length (o .block) ≡ size b = block-length (b .parity) (take (size b) (drop a s)) ∙ length-take-le (size b) (drop a s) (omega (arith, length-drop a s)) in
+    let n : length (o .block) ≡ size b =
+    block-facts (b .parity) (take (size b) (drop a s)) .0 ∙ length-take-le (size b) (drop a s) (omega (arith, length-drop a s)) in
     let room : a + size b ≤ length s = omega arith in
     let e : drop (a + size b) s₁ ≡ t = spliced-behind a (size b) (o .block) s n room ∙ sym (drop-drop (size b) a s) in
-    let f : s₁ ≡ (take a s ++ o .block) ++ t = opened a (size b) (o .block) s n room ∙ ap (λ (l : List ℕ). (take a s ++ o .block) ++ l) (sym (drop-drop (size b) a s)) in
+    let f : s₁ ≡ (take a s ++ o .block) ++ t =
+    opened a (size b) (o .block) s n room ∙ ap (λ (l : List ℕ). (take a s ++ o .block) ++ l) (sym (drop-drop (size b) a s)) in
     ap₂ (λ (u : List ℕ) (q : Pass). onward (o .number) (o .count) u q) f
     (passed-is bs (a + size b) s₁ (omega (arith, spliced-length a (size b) (o .block) s n room))
     ∙ ap₂ (λ (p u : List ℕ). record { answer = told (refusalOf (corrected bs u)) (countOf (corrected bs u)); stream = p ++ leftOf bs u })
@@ -268,13 +248,14 @@ one-corrects d p a e s xs c r h f g = record {
   is =
       ap₂ (λ (x : Blocks) (y : List ℕ). record { answer = x; stream = y }) f (part-back a (d + p) e s xs h)
       ∙ go c
-      ∙ ap (λ (o : Outcome). onward (o .number) (o .count) (spliced a (d + p) (o .block) s) (record { answer = Corrected 0; stream = spliced a (d + p) (o .block) s }))
+      ∙ ap after
       (g ∙ (let n : e - a ≡ d + p = omega arith in ap (λ (k : ℕ). correctOf 0x163 1 p (take k (drop a s))) n));
 }
   where
-    go : (c : Correction) → record { answer = answerOf c; stream = spliced a (d + p) xs s }
-        ≡ onward (outcome c xs .number) (outcome c xs .count) (spliced a (d + p) (outcome c xs .block) s)
-        (record { answer = Corrected 0; stream = spliced a (d + p) (outcome c xs .block) s })
+    after : Outcome → Pass
+    after o = let s₁ = spliced a (d + p) (o .block) s in onward (o .number) (o .count) s₁ (record { answer = Corrected 0; stream = s₁ })
+
+    go : (c : Correction) → record { answer = answerOf c; stream = spliced a (d + p) xs s } ≡ after (outcome c xs)
     go (Correction.Corrected n) = ap (λ (k : ℕ). record { answer = Corrected k; stream = spliced a (d + p) xs s }) (sym (add-zero n))
     go Correction.Unfit = refl
     go Correction.OutOfReach = refl

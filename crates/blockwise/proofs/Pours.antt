@@ -1,6 +1,6 @@
 -- Something of each block of one list put in its place in another: data gathered, and blocks written. Assumes nothing.
 use mathlib.Core.Path.{_≡_, refl, sym, ap, ap₂, subst, _∙_}
-use mathlib.Core.List.{List, [], _∷_, _++_, append-assoc}
+use mathlib.Core.List.{List, [], _∷_, _++_}
 use Prim.Native.Nat.{ℕ, _+_, _-_, _*_, _≤_, _<_}
 use native.Mathlib.Nat.{add-zero, add-assoc}
 use native.Mathlib.Omega.{arith}
@@ -15,7 +15,7 @@ use Rattle.blocks.proofs.Rows.{Sound, total-shapes}
 use Rattle.blockwise.specs.Blockwise.{encoded, streamOf}
 use Rattle.blockwise.specs.declared.Batch.{Batch}
 use Rattle.blockwise.specs.Inner.{batchOf, blocksIn, behind, spliced, Way, gathering, writing, sum, poured, Room}
-use Rattle.blockwise.proofs.Splice.{part-back, spliced-front, spliced-behind, spliced-more, spliced-length}
+use Rattle.blockwise.proofs.Splice.{part-back, spliced-behind, spliced-more, spliced-length}
 use Rattle.blockwise.proofs.Rule.{behind-next, batch-next, sum-append, sum-batch, sum-size, sum-info}
 use Rattle.blockwise.proofs.Settle.{Coded}
 use Rattle.blockwise.proofs.Written.{encoded-coded}
@@ -128,7 +128,8 @@ poured-is w (b ∷ bs) a f t s F h =
     let n = w .fills b in
     let xs = w .makes b (drop f t) in
     let room : a + n ≤ length s = omega arith in
-    poured-is w bs (a + n) (f + w .takes b) t (spliced a n xs s) (subst (Fills w bs) (drop-drop (w .takes b) f t) (F .1)) (omega (arith, spliced-length a n xs s (F .0) room))
+    poured-is w bs (a + n) (f + w .takes b) t (spliced a n xs s) (subst (Fills w bs) (drop-drop (w .takes b) f t) (F .1))
+    (omega (arith, spliced-length a n xs s (F .0) room))
     ∙ spliced-more a n xs s (F .0) room (sum (w .fills) bs) (made w bs (drop (f + w .takes b) t))
     ∙ ap (λ (l : List ℕ). spliced a (n + sum (w .fills) bs) (xs ++ made w bs l) s) (sym (drop-drop (w .takes b) f t))
 

@@ -78,14 +78,16 @@ module _ (bs : List Shape) (sound : Sound bs) where
       | inl x ↦ absurd (omega (arith, e, lost-refused bs (cut bs s) sound shaped x))
       | inr x ↦ (let q = each-settled bs (cut bs s) (x .0) sound shaped (x .1) in
           subst
-          (λ (vs : List (List ℕ)). ((j : ℕ) → j < length bs → nearest 0x163 1 (parityAt bs j) (blockAt (cut bs s) j) ≡ some (blockAt vs j)) × (countOf (corrected bs s) ≡ differences (cut bs s) vs))
+          (λ (vs : List (List ℕ)). ((j : ℕ) → j < length bs → nearest 0x163 1 (parityAt bs j) (blockAt (cut bs s) j) ≡ some (blockAt vs j))
+          × (countOf (corrected bs s) ≡ differences (cut bs s) vs))
           (sym (q .1)) (x .1 .are, q .2))
     ]
 
     -- No block has two codewords in reach.
     pub no-block-has-two : (j : ℕ) → j < length bs → (u v : List ℕ) → Near 0x163 1 (parityAt bs j) (blockAt (cut bs s) j) u
         → Near 0x163 1 (parityAt bs j) (blockAt (cut bs s) j) v → u ≡ v
-    no-block-has-two j l u v = near-one 0x163 1 (parityAt bs j) (blockAt (cut bs s) j) (passes 0x163 passes-163) (block-small bs (cut bs s) sound shaped j l) u v
+    no-block-has-two j l u v =
+        near-one 0x163 1 (parityAt bs j) (blockAt (cut bs s) j) (passes 0x163 passes-163) (block-small bs (cut bs s) sound shaped j l) u v
 
     -- The blocks as they are left, joined, are a stream with these blocks.
     pub cut-corrected : cut bs (joined (blocksOf (corrected bs s))) ≡ blocksOf (corrected bs s)
@@ -124,5 +126,6 @@ module _ (bs : List Shape) (sound : Sound bs) where
         × (countOf (corrected bs s) ≡ differences (cut bs s) (cut bs (streamOf bs ds)))
     in-reach s size near =
         let h = cut-shaped bs s (omega arith) in
-        let q = each-settled bs (cut bs s) (cut bs (streamOf bs ds)) sound h (coded-each bs (cut bs s) (cut bs (streamOf bs ds)) sound h (written-blocks .2) near) in
+        let vs = cut bs (streamOf bs ds) in
+        let q = each-settled bs (cut bs s) vs sound h (coded-each bs (cut bs s) vs sound h (written-blocks .2) near) in
         (q .0, q .1, ap (dataParts bs) (q .1) ∙ written-blocks .3, q .2)

@@ -20,9 +20,9 @@ batchOf r k = record { count = getD r (3 * k) 0; info = getD r (3 * k + 1) 0; pa
 
 pub record Reads (r : List ℕ) (k : ℕ) (b : Batch) : Type 0 where
   pub is : b ≡ batchOf r k
-  pub count : b .count ≤ 255
   pub info : b .info ≤ 255
   pub parity : b .parity ≤ 255
+  pub «data» : b .count * b .info ≤ 65025
 
 -- the blocks of a batch
 abbrev pub blocksIn : Batch → List Shape

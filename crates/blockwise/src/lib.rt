@@ -116,7 +116,14 @@ fn correct_batch(stream: &mut [u8], from: usize, b: Batch) -> Blocks
 // All blocks of the stream, first to last, each set to its codeword in reach; the first that has none ends it.
 pub fn correct_blocks(stream: &mut [u8], row: &[u8]) -> Blocks
     requires { ⌜ (length (now row) ≡ 9) × T (rowHolds (now row) (rowLength (now row))) × (rowLength (now row) ≤ length (now stream)) ⌝ }
-    ensures { λ r. ⌜ (numberOf r ≡ refusalOf (corrected (shapes (now (row .entry))) (take (rowLength (now (row .entry))) (now (stream .entry))))) × (numberOf r ≡ 0 → (correctionsOf r ≡ countOf (corrected (shapes (now (row .entry))) (take (rowLength (now (row .entry))) (now (stream .entry))))) × (now (stream .exit) ≡ joined (blocksOf (corrected (shapes (now (row .entry))) (take (rowLength (now (row .entry))) (now (stream .entry))))) ++ drop (rowLength (now (row .entry))) (now (stream .entry)))) × (now (stream .exit) ≡ leftOf (shapes (now (row .entry))) (now (stream .entry))) ⌝ }
+    ensures { λ r.
+        let bs = shapes (now (row .entry)) in
+        let n = rowLength (now (row .entry)) in
+        let s = now (stream .entry) in
+        ⌜ (numberOf r ≡ refusalOf (corrected bs (take n s)))
+        × (numberOf r ≡ 0 → (correctionsOf r ≡ countOf (corrected bs (take n s)))
+        × (now (stream .exit) ≡ joined (blocksOf (corrected bs (take n s))) ++ drop n s))
+        × (now (stream .exit) ≡ leftOf bs s) ⌝ }
 {
     let mut total: usize = 0;
     let mut at: usize = 0;
@@ -176,16 +183,18 @@ pub fn data_length(row: &[u8]) -> usize
 // The data parts of all blocks of the stream, joined in block order at the front of out; the answer is their number.
 pub fn gather_data(out: &mut [u8], stream: &[u8], row: &[u8]) -> usize
     requires { ⌜ (length (now row) ≡ 9) × (rowLength (now row) ≤ length (now stream)) × (totalData (shapes (now row)) ≤ length (now out)) ⌝ }
-    ensures { λ r. ⌜ (r ≡ totalData (shapes (now (row .entry)))) × (now (out .exit) ≡ dataParts (shapes (now (row .entry))) (cut (shapes (now (row .entry))) (now (stream .entry))) ++ drop r (now (out .entry))) ⌝ }
+    ensures { λ r.
+        let bs = shapes (now (row .entry)) in
+        ⌜ (r ≡ totalData bs) × (now (out .exit) ≡ dataParts bs (cut bs (now (stream .entry))) ++ drop r (now (out .entry))) ⌝ }
 {
     let mut n: usize = 0;
-    let mut at: usize = 0;
+    let mut from: usize = 0;
     let mut k: usize = 0;
     while k < 3 {
         let b = batch_of(row, k);
-        gather_batch(out, n, stream, at, b);
+        gather_batch(out, n, stream, from, b);
         n += b.count * b.info;
-        at += b.count * (b.info + b.parity);
+        from += b.count * (b.info + b.parity);
         k += 1;
     }
     n

@@ -1,5 +1,4 @@
 -- `write_batch` meets its contract: with a table or without. Assumes nothing.
-use mathlib.Core.Path.{ap}
 use native.Mathlib.Omega.{arith}
 use borrow.Author.Needs.{needs}
 use Rattle.blockwise.proofs.Rule.{batch-fit, only-is}

@@ -12,10 +12,10 @@ use Rattle.block_writer.proofs.write_blocks.Statement.{statement}
 use Rattle.block_writer.proofs.write_blocks.Tie as tie
 
 abbrev Inv-loop : tie.InvT-loop
-Inv-loop stream₀ «data» row n₀ at₀ k₀ stream n at k = Pouring writing (shapes row) 0 0 «data» stream₀ (behind k row) n at stream
+Inv-loop stream₀ «data» row n₀ from₀ k₀ stream n from k = Pouring writing (shapes row) 0 0 «data» stream₀ (behind k row) n from stream
 
 abbrev μ-loop : tie.MeasureT-loop
-μ-loop stream₀ «data» row n₀ at₀ k₀ stream n at k = 3 - k
+μ-loop stream₀ «data» row n₀ from₀ k₀ stream n from k = 3 - k
 
 loop-holds : tie.Need-loop-holds Inv-loop μ-loop
 unfolding behind
@@ -35,11 +35,12 @@ next : (c : tie.After-struct-known Inv-loop μ-loop) →
     let b = c .before .before .before .before .before .batch-of .result in
     let loop = c .before .before .before .before .before .before .before .loop in
     Pouring writing (shapes (start .args .row .now)) 0 0 (start .args .«data» .now) (start .args .stream .now) (behind (loop .k + 1) (start .args .row .now))
-    (loop .n + b .count * (b .info + b .parity)) (loop .at + b .count * b .info) (c .before .before .before .write-batch .last .0)
+    (loop .n + b .count * (b .info + b .parity)) (loop .from + b .count * b .info) (c .before .before .before .write-batch .last .0)
 next c =
     let batch-of = c .before .before .before .before .before .batch-of in
     let write-batch = c .before .before .before .write-batch in
-    batch-poured _ _ (c .before .before .before .before .before .before .before .loop .inv) (c .before .before .before .before .before .before .loop-test .taken)
+    let turn = c .before .before .before .before .before .before in
+    batch-poured _ _ (turn .before .loop .inv) (turn .loop-test .taken)
     (batch-of .result) (batch-of .ensures .is) (write-batch .ensures) (write-batch .kept .0)
 
 returns : tie.Need-returns Inv-loop μ-loop
@@ -47,11 +48,13 @@ returns c =
     let start = c .before .before .before .before .before in
     let bytes = c .before .before .before .shared-slice-known .given in
     pouring-end (c .before .loop .inv) (behind-all (start .args .row .now) _ (c .loop-test .left))
-    ∙ written-row (start .args .row .now) (start .args .«data» .now) (start .args .stream .now) (row-sound _ _ (start .pre .1)) (λ i. omega (arith, bytes i)) (start .pre .2) (start .pre .3)
+    ∙ written-row (start .args .row .now) (start .args .«data» .now) (start .args .stream .now) (row-sound _ _ (start .pre .1))
+    (λ i. omega (arith, bytes i)) (start .pre .2) (start .pre .3)
 
 pub write-blocks-spec : {M : Type 1} → statement M
 write-blocks-spec =
     tie.close (tie.spec Inv-loop μ-loop loop-holds (λ c κs. search needs) write-batch-requires
     (λ c. omega (arith, c .before .before .before .before .before .batch-of .ensures)) (λ c. omega (arith, next (c .before) .room .into))
-    (λ c. omega (arith, next (c .before) .room .into)) (λ c. omega (arith, next (c .before .before) .room .out)) (λ c. omega (arith, next (c .before .before) .room .out))
-    (λ c. search needs) (λ c. search needs) (λ c. next (c .before .before)) (λ c. c .before .loop .inv .size) returns)
+    (λ c. omega (arith, next (c .before) .room .into)) (λ c. omega (arith, next (c .before .before) .room .out))
+    (λ c. omega (arith, next (c .before .before) .room .out)) (λ c. search needs) (λ c. search needs) (λ c. next (c .before .before))
+    (λ c. c .before .loop .inv .size) returns)

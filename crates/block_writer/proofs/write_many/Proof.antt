@@ -1,6 +1,6 @@
 -- `write_many` meets its contract: one block more in each turn. Assumes nothing.
 use mathlib.Core.Path.{refl, sym, _∙_}
-use Prim.Native.Nat.{_+_, _-_, _≤_, _<_}
+use Prim.Native.Nat.{_+_, _≤_}
 use native.Mathlib.Omega.{arith}
 use lib.ListN.{length}
 use Rattle.reed_solomon.proofs.Massey.{zeros}
@@ -36,39 +36,37 @@ place c = one-room _ _ _ (c .before .loop .inv) (c .loop-test .taken)
 
 write-with-requires : tie.Need-write-with-requires Inv-loop μ-loop
 write-with-requires c κs =
-    let start = c .before .before .before .before .before .before .before .before .before .before .before .before .before .before .before .before in
+    let turn = c .before .before .before .before .before .before .before in
+    let start = turn .before .before .before .before .before .before .before .before .before in
     let b = start .args .b in
-    let loop = c .before .before .before .before .before .before .before .before .loop in
+    let into = turn .before .loop .into in
     let copy = c .before .before .before .before .copy in
-    let fit = batch-fit _ _ _ (start .pre .0) (omega (arith, c .before .before .before .before .before .before .before .before .before .before .before .before .if1 .left)) in
-    let n = part-length (loop .into) (loop .into + (b .info + b .parity)) (b .info + b .parity) (copy .last .0) refl
-    (omega (arith, place (c .before .before .before .before .before .before .before) .0, copy .kept .0)) in (
-      omega (arith, n),
-      omega (arith, n, fit .2),
-      prepared-as (c .before .before .before .before .before .before .before .before .before .before .prepare .ensures) (omega (arith, n)),
-      fit .0,
-    )
+    let fit = batch-fit _ _ _ (start .pre .0) (omega (arith, turn .before .before .before .before .before .if1 .left)) in
+    let n = part-length into (into + (b .info + b .parity)) (b .info + b .parity) (copy .last .0) refl (omega (arith, place turn .0, copy .kept .0)) in
+    (omega (arith, n), omega (arith, n, fit .2), prepared-as (turn .before .before .before .prepare .ensures) (omega (arith, n)), fit .0)
 
 loop-again : tie.Need-loop-again Inv-loop μ-loop
 loop-again c =
-    let start = c .before .before .before .before .before .before .before .before .before .before .before .before .before .before .before .before .before .before .before .before in
-    let b = start .args .b in
     let turn = c .before .before .before .before .before .before .before .before .before .before .before in
+    let start = turn .before .before .before .before .before .before .before .before .before in
+    let b = start .args .b in
     let loop = turn .before .loop in
+    let end = loop .into + (b .info + b .parity) in
     let copy = c .before .before .before .before .before .before .before .before .copy in
     let write-with = c .before .before .before .write-with in
     one-next _ _ _ (loop .inv) (turn .loop-test .taken)
-    (one-written (b .info) (b .parity) (loop .into) (loop .into + (b .info + b .parity)) (loop .at) (start .args .«data» .now) (loop .stream) _ _ refl
-    (place turn .0) (place turn .1) (copy .ensures) (write-with .ensures))
-    (part-kept (loop .into) (loop .into + (b .info + b .parity)) (copy .last .0) (write-with .last .1 .0) (omega arith) (omega (arith, place turn .0, copy .kept .0)) (write-with .kept .1 .0)
-    ∙ copy .kept .0)
+    (one-written (b .info) (b .parity) (loop .into) end (loop .at) (start .args .«data» .now) (loop .stream) _ _ refl (place turn .0) (place turn .1)
+    (copy .ensures) (write-with .ensures))
+    (part-kept (loop .into) end (copy .last .0) (write-with .last .1 .0) (omega arith) (omega (arith, place turn .0, copy .kept .0))
+    (write-with .kept .1 .0) ∙ copy .kept .0)
 
 pub write-many-spec : {M : Type 1} → statement M
 write-many-spec =
     tie.close (tie.spec Inv-loop μ-loop returns (λ c. search needs) prepare-requires
     (λ c. pouring-start (c .before .before .before .before .before .before .before .pre .1)) (λ c. omega (arith, place (c .before)))
     (λ c. omega (arith, place (c .before))) (λ c κs. let p = place (c .before .before) in (omega (arith, p .0), p .1))
-    (λ c. sym (c .before .before .before .before .before .before .before .before .before .prepare .ensures .size)) (λ c. search needs) (λ c. search needs)
-    (λ c. omega (arith, place (c .before .before .before .before .before .before), c .before .before .before .copy .kept .0)) write-with-requires
-    (λ c. omega (arith, place (c .before .before .before .before .before .before .before .before .before .before .before))) (λ c. search needs) (λ c. search needs) loop-again
+    (λ c. sym (c .before .before .before .before .before .before .before .before .before .prepare .ensures .size)) (λ c. search needs)
+    (λ c. search needs) (λ c. omega (arith, place (c .before .before .before .before .before .before), c .before .before .before .copy .kept .0))
+    write-with-requires (λ c. omega (arith, place (c .before .before .before .before .before .before .before .before .before .before .before)))
+    (λ c. search needs) (λ c. search needs) loop-again
     (λ c. c .before .loop .inv .size) (λ c. pouring-end (c .before .loop .inv) (batch-none _ _ _ (c .loop-test .left))))

@@ -8,7 +8,8 @@ use Rattle.block_writer.proofs.write_one.Tie as tie
 returns : tie.Need-returns
 returns c =
     let start = c .before .before .before .before .before .before .before .before .before .before .before in
-    one-written (start .args .b .info) (start .args .b .parity) (start .args .to) _ (start .args .from) (start .args .«data» .now) (start .args .stream .now) _ _ refl
+    let b = start .args .b in
+    one-written (b .info) (b .parity) (start .args .to) _ (start .args .from) (start .args .«data» .now) (start .args .stream .now) _ _ refl
     (start .pre .2) (start .pre .3) (c .before .before .before .before .before .before .copy .ensures) (c .before .before .write-short .ensures)
 
 pub write-one-spec : {M : Type 1} → statement M

@@ -38,17 +38,18 @@ next : (c : tie.After-known-told Inv-loop μ-loop) →
 next c =
     let batch-of = c .before .before .before .before .before .before .before .batch-of in
     let correct-batch = c .before .before .before .before .before .correct-batch in
-    passing-next (c .before .before .before .before .before .before .before .before .before .loop .inv) _ _
-    (behind-next _ _ (c .before .before .before .before .before .before .before .before .loop-test .taken) (batch-of .result) (batch-of .ensures .is)) _ _
+    let turn = c .before .before .before .before .before .before .before .before in
+    passing-next (turn .before .loop .inv) _ _ (behind-next _ _ (turn .loop-test .taken) (batch-of .result) (batch-of .ensures .is)) _ _
     (correct-batch .ensures) (c .before .r .given .1) (correct-batch .kept .0)
     (omega (arith, total-batch (batch-of .result .count) (batch-of .result .info) (batch-of .result .parity)))
 
 returns : tie.Need-returns Inv-loop μ-loop
 returns c =
     let start = c .before .before .before .before .before .before .before .before .before .before .before in
+    let turn = c .before .before .before .before .before .before .before in
     row-answered _ _ _ _ (start .pre .1) (start .pre .2)
-    (passing-stop (c .before .before .before .before .before .before .before .before .loop .inv) _ _
-    (behind-next _ _ (c .before .before .before .before .before .before .before .loop-test .taken) _ (c .before .before .before .before .before .before .batch-of .ensures .is))
+    (passing-stop (turn .before .loop .inv) _ _
+    (behind-next _ _ (turn .loop-test .taken) _ (c .before .before .before .before .before .before .batch-of .ensures .is))
     (c .before .before .before .before .correct-batch .ensures) (c .enum-told .given .1))
 
 returns-2 : tie.Need-returns-2 Inv-loop μ-loop

@@ -1,8 +1,7 @@
 -- `correct_many` meets its contract: one block more in each turn. Assumes nothing.
 use mathlib.Core.Path.{refl, sym}
-use Prim.Native.Nat.{_+_, _-_, _≤_}
+use Prim.Native.Nat.{_+_, _-_}
 use native.Mathlib.Omega.{arith}
-use lib.ListN.{length}
 use Rattle.reed_solomon.proofs.Massey.{zeros}
 use Rattle.blocks.specs.Blocks.{batch}
 use Rattle.blocks.proofs.Rows.{total-batch}
@@ -41,15 +40,16 @@ next : (c : tie.After-known-told Inv-loop μ-loop) →
     (loop .n + c .before .r .given .0 .0) (c .before .before .before .before .before .correct-block .last .1 .0)
 next c =
     let b = c .before .before .before .before .before .before .before .before .before .before .before .before .before .before .before .before .args .b in
-    let loop = c .before .before .before .before .before .before .before .before .before .loop in
+    let turn = c .before .before .before .before .before .before .before .before in
     let correct-block = c .before .before .before .before .before .correct-block in
-    passing-next (loop .inv) (batch 1 (b .info) (b .parity)) _ (batch-next _ _ _ (c .before .before .before .before .before .before .before .before .loop-test .taken)) _ _
+    passing-next (turn .before .loop .inv) (batch 1 (b .info) (b .parity)) _ (batch-next _ _ _ (turn .loop-test .taken)) _ _
     (correct-block .ensures) (c .before .r .given .1) (correct-block .kept .1 .0) (omega (arith, total-batch 1 (b .info) (b .parity)))
 
 returns-2 : tie.Need-returns-2 Inv-loop μ-loop
 returns-2 c =
-    let loop = c .before .before .before .before .before .before .before .before .loop in
-    passing-stop (loop .inv) _ _ (batch-next _ _ _ (c .before .before .before .before .before .before .before .loop-test .taken)) (c .before .before .before .before .correct-block .ensures) (c .enum-told .given .1)
+    let turn = c .before .before .before .before .before .before .before in
+    passing-stop (turn .before .loop .inv) _ _ (batch-next _ _ _ (turn .loop-test .taken))
+    (c .before .before .before .before .correct-block .ensures) (c .enum-told .given .1)
 
 pub correct-many-spec : {M : Type 1} → statement M
 correct-many-spec =

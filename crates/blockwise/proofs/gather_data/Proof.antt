@@ -1,6 +1,6 @@
 -- `gather_data` meets its contract: the data of one batch more in each turn. Assumes nothing.
 use mathlib.Core.Path.{_∙_}
-use Prim.Native.Nat.{_+_, _-_, _*_, _≤_}
+use Prim.Native.Nat.{_+_, _-_, _*_}
 use native.Mathlib.Omega.{arith}
 use Rattle.blocks.specs.Blocks.{shapes}
 use Rattle.blockwise.specs.Inner.{behind, gathering}
@@ -11,10 +11,10 @@ use Rattle.blockwise.proofs.gather_data.Statement.{statement}
 use Rattle.blockwise.proofs.gather_data.Tie as tie
 
 abbrev Inv-loop : tie.InvT-loop
-Inv-loop out₀ stream row n₀ at₀ k₀ out n at k = Pouring gathering (shapes row) 0 0 stream out₀ (behind k row) n at out
+Inv-loop out₀ stream row n₀ from₀ k₀ out n from k = Pouring gathering (shapes row) 0 0 stream out₀ (behind k row) n from out
 
 abbrev μ-loop : tie.MeasureT-loop
-μ-loop out₀ stream row n₀ at₀ k₀ out n at k = 3 - k
+μ-loop out₀ stream row n₀ from₀ k₀ out n from k = 3 - k
 
 loop-holds : tie.Need-loop-holds Inv-loop μ-loop
 unfolding behind
@@ -29,11 +29,12 @@ next : (c : tie.After-struct-known Inv-loop μ-loop) →
     let b = c .before .before .before .before .before .batch-of .result in
     let loop = c .before .before .before .before .before .before .before .loop in
     Pouring gathering (shapes (start .args .row .now)) 0 0 (start .args .stream .now) (start .args .out .now) (behind (loop .k + 1) (start .args .row .now))
-    (loop .n + b .count * b .info) (loop .at + b .count * (b .info + b .parity)) (c .before .before .before .gather-batch .last .0)
+    (loop .n + b .count * b .info) (loop .from + b .count * (b .info + b .parity)) (c .before .before .before .gather-batch .last .0)
 next c =
     let batch-of = c .before .before .before .before .before .batch-of in
     let gather-batch = c .before .before .before .gather-batch in
-    batch-poured _ _ (c .before .before .before .before .before .before .before .loop .inv) (c .before .before .before .before .before .before .loop-test .taken)
+    let turn = c .before .before .before .before .before .before in
+    batch-poured _ _ (turn .before .loop .inv) (turn .loop-test .taken)
     (batch-of .result) (batch-of .ensures .is) (gather-batch .ensures) (gather-batch .kept .0)
 
 returns : tie.Need-returns Inv-loop μ-loop
