@@ -133,7 +133,7 @@ sound-append : {bs cs : List Shape} → Sound bs → Sound cs → Sound (bs ++ c
 sound-append none q = q
 sound-append (more a b c p) q = more a b c (sound-append p q)
 
-sound-batch : (n d p : ℕ) → T (batchHolds n d p) → Sound (batch n d p)
+pub sound-batch : (n d p : ℕ) → T (batchHolds n d p) → Sound (batch n d p)
 unfolding batchHolds batch
 sound-batch zero d p t = none
 sound-batch (suc n) d p t = all (suc n)
@@ -176,20 +176,28 @@ total-shapes r =
     (total-append (batch (getD r 3 0) (getD r 4 0) (getD r 5 0)) _ ∙ ap₂ _+_ (total-batch (getD r 3 0) (getD r 4 0) (getD r 5 0)) (total-batch (getD r 6 0) (getD r 7 0) (getD r 8 0)))
     ∙ omega arith
 
+-- the rule of a row says this of its batches, and of its blocks
+pub row-rules : (r : List ℕ) (total : ℕ) → T (rowHolds r total)
+    → T (batchHolds (getD r 0 0) (getD r 1 0) (getD r 2 0)) × T (batchHolds (getD r 3 0) (getD r 4 0) (getD r 5 0))
+    × T (batchHolds (getD r 6 0) (getD r 7 0) (getD r 8 0)) × (rowLength r ≡ total)
+unfolding rowHolds
+row-rules r total t =
+    let q = four (batchHolds (getD r 0 0) (getD r 1 0) (getD r 2 0)) (batchHolds (getD r 3 0) (getD r 4 0) (getD r 5 0))
+    (batchHolds (getD r 6 0) (getD r 7 0) (getD r 8 0)) (eqb (rowLength r) total) t in
+    (q .0, q .1, q .2, eqb→eq (rowLength r) total (q .3))
+
+pub row-sound : (r : List ℕ) (total : ℕ) → T (rowHolds r total) → Sound (shapes r)
+unfolding shapes
+row-sound r total t =
+    let q = row-rules r total t in
+    sound-append (sound-batch (getD r 0 0) (getD r 1 0) (getD r 2 0) (q .0))
+    (sound-append (sound-batch (getD r 3 0) (getD r 4 0) (getD r 5 0) (q .1)) (sound-batch (getD r 6 0) (getD r 7 0) (getD r 8 0) (q .2)))
+
 module _ (v level : ℕ) (lo : 1 ≤ v) (hi : v ≤ 84) (le : level ≤ 3) where
-  r : List ℕ
-  r = rowOf v level
-
-  holds : T (batchHolds (getD r 0 0) (getD r 1 0) (getD r 2 0)) × T (batchHolds (getD r 3 0) (getD r 4 0) (getD r 5 0)) × T (batchHolds (getD r 6 0) (getD r 7 0) (getD r 8 0)) × T (eqb (rowLength r) (totalOf v))
-  unfolding r rowHolds
-  holds = four (batchHolds (getD r 0 0) (getD r 1 0) (getD r 2 0)) (batchHolds (getD r 3 0) (getD r 4 0) (getD r 5 0)) (batchHolds (getD r 6 0) (getD r 7 0) (getD r 8 0)) (eqb (rowLength r) (totalOf v)) (row-holds v level lo hi le)
-
   pub shapes-total : totalSize (shapesOf v level) ≡ totalOf v
-  unfolding r shapesOf
-  shapes-total = total-shapes (rowOf v level) ∙ eqb→eq (rowLength (rowOf v level)) (totalOf v) (holds .3)
+  unfolding shapesOf
+  shapes-total = total-shapes (rowOf v level) ∙ row-rules (rowOf v level) (totalOf v) (row-holds v level lo hi le) .3
 
   pub shapes-sound : Sound (shapesOf v level)
-  unfolding r shapesOf shapes
-  shapes-sound =
-      sound-append (sound-batch (getD r 0 0) (getD r 1 0) (getD r 2 0) (holds .0))
-      (sound-append (sound-batch (getD r 3 0) (getD r 4 0) (getD r 5 0) (holds .1)) (sound-batch (getD r 6 0) (getD r 7 0) (getD r 8 0) (holds .2)))
+  unfolding shapesOf
+  shapes-sound = row-sound (rowOf v level) (totalOf v) (row-holds v level lo hi le)

@@ -1,59 +1,44 @@
--- Blocks corrected one after the other: what one more block, or one more batch, does. Assumes nothing.
+-- Blocks corrected one after the other: what one block more, or one batch more, does, and what all come to. Assumes nothing.
 use mathlib.Core.Path.{_≡_, refl, sym, ap, ap₂, _∙_}
-use mathlib.Core.Logic.{_⊎_, inl, inr}
+use mathlib.Core.Logic.{_⊎_, inl, inr, _≢_}
 use mathlib.Core.Bool.{Bool, true, false, cond}
 use mathlib.Core.Option.{Option, none, some}
 use mathlib.Core.List.{List, [], _∷_, _++_, append-assoc, append-nil}
-use Prim.Native.Nat.{ℕ, zero, suc, _+_, _-_, _≤_, _<_, zero-le}
-use native.Mathlib.Nat.{add-zero}
+use Prim.Native.Nat.{ℕ, zero, suc, _+_, _-_, _≤_, zero-le}
+use native.Mathlib.Nat.{add-zero, add-assoc}
 use native.Mathlib.Omega.{arith}
 use lib.Dec.{eqb, eqb·suc-zero}
+use borrow.Author.Tests.{ne-eqb}
 use lib.ListN.{length, take, drop, length-take, length-drop, take-append-drop}
 use lib.Seq.{drop-drop, length-take-le}
 use Rattle.reed_solomon.specs.Block.{nearest, unfit}
 use Rattle.reed_solomon.proofs.Nearest.{some-near}
-use Rattle.reed_solomon.proofs.Fit.{fit}
 use Rattle.corrector.specs.Correct.{Outcome, refused, settled, orOutcome, correctOf, outcome}
 use Rattle.corrector.specs.declared.Correction.{Correction}
-use Rattle.corrector.specs.declared.Correction.the-variants.{Corrected, Unfit, OutOfReach}
-use Rattle.corrector.proofs.Settle.{fit-settled}
+use Rattle.corrector.specs.declared.Correction.the-variants as Correction
 use Rattle.parity.proofs.Followed.{distance-le}
 use Rattle.blocks.specs.Blocks.{Shape, size, totalSize, batch, cut, joined}
 use Rattle.blocks.proofs.Rows.{total-append}
 use Rattle.blocks.proofs.Cuts.{Shaped, cut-shaped, length-joined}
-use Rattle.blockwise.specs.Blockwise.{outcomes, refusalOf, countOf, blocksOf, corrected}
-use Rattle.blockwise.specs.Inner.{spliced, Done, Corrects, answerOf}
-use Rattle.blockwise.proofs.Splice.{part-back, spliced-behind, spliced-more}
+use Rattle.blockwise.specs.declared.Blocks.{Blocks}
+use Rattle.blockwise.specs.declared.Blocks.the-variants.{Corrected, Refused}
+use Rattle.blockwise.specs.Blockwise.{outcomes, refusalOf, countOf, blocksOf, corrected, leftOf, correctionsOf}
+use Rattle.blockwise.specs.Inner.{spliced, Pass, answerOf, more, plus, onward, outcomeAt, leftAt, passed, Corrects}
+use Rattle.blockwise.proofs.Splice.{part-back, opened, spliced-front, spliced-behind, spliced-length}
 
 -- ---- one block
 
--- it keeps its length
-settled-length : (w : List ℕ) (p : ℕ) (o : Option (List ℕ)) → nearest 0x163 1 p w ≡ o → length (settled w o .block) ≡ length w
-unfolding settled refused
-settled-length w p none e = refl
-settled-length w p (some v) e = some-near 0x163 1 p w v e .size
-
-pub block-length : (p : ℕ) (w : List ℕ) → length (correctOf 0x163 1 p w .block) ≡ length w
-unfolding correctOf refused
-block-length p w = go (unfit p w)
+-- it keeps its length, has no more corrections than codewords, and is as it was if it is refused
+block-facts : (p : ℕ) (w : List ℕ)
+    → let o = correctOf 0x163 1 p w in (length (o .block) ≡ length w) × (o .count ≤ length w) × (o .number ≢ 0 → o .block ≡ w)
+unfolding correctOf settled refused
+block-facts p w = go (unfit p w) (nearest 0x163 1 p w) refl
   where
-    go : (t : Bool) → length (orOutcome t (refused 5 w) (settled w (nearest 0x163 1 p w)) .block) ≡ length w
-    go true = refl
-    go false = settled-length w p (nearest 0x163 1 p w) refl
-
--- no more corrections than codewords
-settled-count : (w : List ℕ) (o : Option (List ℕ)) → settled w o .count ≤ length w
-unfolding settled refused
-settled-count w none = zero-le
-settled-count w (some v) = distance-le w v
-
-block-count : (p : ℕ) (w : List ℕ) → correctOf 0x163 1 p w .count ≤ length w
-unfolding correctOf refused
-block-count p w = go (unfit p w)
-  where
-    go : (t : Bool) → orOutcome t (refused 5 w) (settled w (nearest 0x163 1 p w)) .count ≤ length w
-    go true = zero-le
-    go false = settled-count w (nearest 0x163 1 p w)
+    go : (t : Bool) (v : Option (List ℕ)) → nearest 0x163 1 p w ≡ v
+        → let o = orOutcome t (refused 5 w) (settled w v) in (length (o .block) ≡ length w) × (o .count ≤ length w) × (o .number ≢ 0 → o .block ≡ w)
+    go true v e = (refl, zero-le, λ d. refl)
+    go false none e = (refl, zero-le, λ d. refl)
+    go false (some v) e = (some-near 0x163 1 p w v e .size, distance-le w v, λ d. absurd (d refl))
 
 -- ---- all blocks
 
@@ -62,161 +47,215 @@ unfolding outcomes blocksOf
 blocks-shaped [] [] h = tt
 blocks-shaped [] (w ∷ ws) h = absurd h
 blocks-shaped (b ∷ bs) [] h = absurd h
-blocks-shaped (b ∷ bs) (w ∷ ws) h = (block-length (b .parity) w ∙ h .0, blocks-shaped bs ws (h .1))
+blocks-shaped (b ∷ bs) (w ∷ ws) h = (block-facts (b .parity) w .0 ∙ h .0, blocks-shaped bs ws (h .1))
 
 pub count-le : (bs : List Shape) (s : List ℕ) → countOf (corrected bs s) ≤ totalSize bs
 unfolding outcomes cut countOf totalSize
 count-le [] s = zero-le
 count-le (b ∷ bs) s =
-    omega (arith, block-count (b .parity) (take (size b) s), length-take (size b) s, count-le bs (drop (size b) s))
-
-pub corrected-append : (bs cs : List Shape) (s : List ℕ) → corrected (bs ++ cs) s ≡ corrected bs s ++ corrected cs (drop (totalSize bs) s)
-unfolding outcomes cut totalSize
-corrected-append [] cs s = refl
-corrected-append (b ∷ bs) cs s =
-    ap (λ (os : List Outcome). correctOf 0x163 1 (b .parity) (take (size b) s) ∷ os)
-    (corrected-append bs cs (drop (size b) s) ∙ ap (λ (t : List ℕ). corrected bs (drop (size b) s) ++ corrected cs t) (drop-drop (totalSize bs) (size b) s))
-
-pub count-append : (os qs : List Outcome) → countOf (os ++ qs) ≡ countOf os + countOf qs
-unfolding countOf
-count-append [] qs = omega arith
-count-append (o ∷ os) qs = omega (arith, count-append os qs)
-
-pub blocks-append : (os qs : List Outcome) → blocksOf (os ++ qs) ≡ blocksOf os ++ blocksOf qs
-unfolding blocksOf
-blocks-append [] qs = refl
-blocks-append (o ∷ os) qs = ap (λ (ws : List (List ℕ)). o .block ∷ ws) (blocks-append os qs)
-
-pub joined-append : (us vs : List (List ℕ)) → joined (us ++ vs) ≡ joined us ++ joined vs
-unfolding joined
-joined-append [] vs = refl
-joined-append (u ∷ us) vs = ap (λ (l : List ℕ). u ++ l) (joined-append us vs) ∙ sym (append-assoc u (joined us) (joined vs))
-
--- ---- refusals
-
--- a number, or, if it is 0, the refusal behind it
-abbrev pub first : ℕ → ℕ → ℕ
-first n r = cond (eqb n 0) r n
-
-first-suc : (n r : ℕ) → first (suc n) r ≡ suc n
-first-suc n r = ap (λ (t : Bool). cond t r (suc n)) (eqb·suc-zero n)
-
-pub first-zero : (n r : ℕ) → first n r ≡ 0 → (n ≡ 0) × (r ≡ 0)
-first-zero zero r e = (refl, e)
-first-zero (suc n) r e = absurd (omega (arith, first-suc n r, e))
-
-first-same : (n r q m : ℕ) → first n r ≡ suc m → (r ≡ suc m → q ≡ suc m) → first n q ≡ suc m
-first-same zero r q m e f = f e
-first-same (suc n) r q m e f = first-suc n q ∙ sym (first-suc n r) ∙ e
-
-pub refusal-through : (os qs : List Outcome) → refusalOf os ≡ 0 → refusalOf (os ++ qs) ≡ refusalOf qs
-unfolding refusalOf
-refusal-through [] qs e = refl
-refusal-through (o ∷ os) qs e =
-    let z = first-zero (o .number) (refusalOf os) e in
-    ap (λ (n : ℕ). first n (refusalOf (os ++ qs))) (z .0) ∙ refusal-through os qs (z .1)
-
-pub refusal-first : (os qs : List Outcome) → refusalOf os ≡ 6 → refusalOf (os ++ qs) ≡ 6
-unfolding refusalOf
-refusal-first [] qs e = absurd (omega (arith, e))
-refusal-first (o ∷ os) qs e = first-same (o .number) (refusalOf os) (refusalOf (os ++ qs)) 5 e (refusal-first os qs)
-
--- ---- blocks behind blocks that are done
-
-pub done-none : (a : ℕ) (s : List ℕ) → Done [] a s s 0
-unfolding outcomes cut refusalOf countOf blocksOf joined totalSize spliced
-done-none a s = record { accepted = refl; count = refl; stream = whole }
-  where
-    whole : s ≡ take a s ++ drop (a + 0) s
-    whole = sym (ap (λ (k : ℕ). take a s ++ drop k s) (add-zero a) ∙ take-append-drop a s)
+    omega (arith, block-facts (b .parity) (take (size b) s) .1, length-take (size b) s, count-le bs (drop (size b) s))
 
 pub joined-size : (bs : List Shape) (t : List ℕ) → totalSize bs ≤ length t → length (joined (blocksOf (corrected bs t))) ≡ totalSize bs
 joined-size bs t h = length-joined bs (blocksOf (corrected bs t)) (blocks-shaped bs (cut bs t) (cut-shaped bs t h))
-
-module _ (bs : List Shape) (a : ℕ) (s s₁ : List ℕ) (n : ℕ) (D : Done bs a s s₁ n) (room : a + totalSize bs ≤ length s) (cs : List Shape) where
-  sized : length (joined (blocksOf (corrected bs (drop a s)))) ≡ totalSize bs
-  sized = joined-size bs (drop a s) (omega (arith, length-drop a s))
-
-  whole : corrected (bs ++ cs) (drop a s) ≡ corrected bs (drop a s) ++ corrected cs (drop (a + totalSize bs) s₁)
-  whole =
-      corrected-append bs cs (drop a s)
-      ∙ ap (λ (t : List ℕ). corrected bs (drop a s) ++ corrected cs t)
-      (drop-drop (totalSize bs) a s
-      ∙ sym (ap (drop (a + totalSize bs)) (D .stream) ∙ spliced-behind a (totalSize bs) (joined (blocksOf (corrected bs (drop a s)))) s sized room))
-
-  pub refused-behind : refusalOf (corrected cs (drop (a + totalSize bs) s₁)) ≡ 6 → refusalOf (corrected (bs ++ cs) (drop a s)) ≡ 6
-  refused-behind e = ap refusalOf whole ∙ refusal-through (corrected bs (drop a s)) (corrected cs (drop (a + totalSize bs) s₁)) (D .accepted) ∙ e
-
-  pub done-behind : (s₂ : List ℕ) (m : ℕ) → Done cs (a + totalSize bs) s₁ s₂ m → Done (bs ++ cs) a s s₂ (n + m)
-  done-behind s₂ m E =
-      let os = corrected bs (drop a s) in
-      let qs = corrected cs (drop (a + totalSize bs) s₁) in
-      record {
-        accepted = ap refusalOf whole ∙ refusal-through os qs (D .accepted) ∙ E .accepted;
-        count = ap₂ _+_ (D .count) (E .count) ∙ sym (ap countOf whole ∙ count-append os qs);
-        stream =
-            E .stream
-            ∙ ap (spliced (a + totalSize bs) (totalSize cs) (joined (blocksOf qs))) (D .stream)
-            ∙ spliced-more a (totalSize bs) (joined (blocksOf os)) s sized room (totalSize cs) (joined (blocksOf qs))
-            ∙ ap₂ (λ (k : ℕ) (xs : List ℕ). spliced a k xs s) (sym (total-append bs cs))
-            (sym (ap (λ (l : List Outcome). joined (blocksOf l)) whole ∙ ap joined (blocks-append os qs) ∙ joined-append (blocksOf os) (blocksOf qs)));
-      }
-
-pub refused-before : (bs cs : List Shape) (t : List ℕ) → refusalOf (corrected bs t) ≡ 6 → refusalOf (corrected (bs ++ cs) t) ≡ 6
-refused-before bs cs t e = ap refusalOf (corrected-append bs cs t) ∙ refusal-first (corrected bs t) (corrected cs (drop (totalSize bs) t)) e
-
--- ---- one block, as the corrector leaves it
 
 pub settled-number : (w : List ℕ) (o : Option (List ℕ)) → (settled w o .number ≡ 0) ⊎ (settled w o .number ≡ 6)
 unfolding settled refused
 settled-number w none = inr refl
 settled-number w (some v) = inl refl
 
-module _ (info p a e : ℕ) (s : List ℕ) (end : e ≡ a + (info + p)) (room : e ≤ length s) where
-  abbrev lent : List ℕ
-  lent = take (e - a) (drop a s)
+-- a number, or, if it is 0, the refusal behind it
+abbrev pub first : ℕ → ℕ → ℕ
+first n r = cond (eqb n 0) r n
 
-  its : lent ≡ take (info + p) (drop a s)
-  its = let n : e - a ≡ info + p = omega arith in ap (λ (k : ℕ). take k (drop a s)) n
+pub first-zero : (n r : ℕ) → first n r ≡ 0 → (n ≡ 0) × (r ≡ 0)
+first-zero zero r e = (refl, e)
+first-zero (suc n) r e = absurd (omega (arith, ap (λ (t : Bool). cond t r (suc n)) (eqb·suc-zero n), e))
 
-  same : (o : Outcome) → o ≡ correctOf 0x163 1 p lent → corrected (batch 1 info p) (drop a s) ≡ o ∷ []
-  unfolding batch cut outcomes
-  same o h = sym (ap (λ (q : Outcome). q ∷ []) (h ∙ ap (correctOf 0x163 1 p) its))
+-- ---- the stream that is left
 
-  one-done : (n : ℕ) (xs : List ℕ) → record { number = 0; count = n; block = xs } ≡ correctOf 0x163 1 p lent
-      → Done (batch 1 info p) a s (take a s ++ (xs ++ drop (e - a) (drop a s))) n
-  unfolding refusalOf countOf blocksOf joined totalSize batch
-  one-done n xs h =
-      let q = same (record { number = 0; count = n; block = xs }) h in
-      let k : info + p ≡ info + p + 0 = omega arith in
-      record {
-        accepted = ap refusalOf q;
-        count = sym (ap countOf q ∙ add-zero n);
-        stream =
-            part-back a (info + p) e s xs end
-            ∙ ap₂ (λ (m : ℕ) (ys : List ℕ). spliced a m ys s) k (sym (ap (λ (l : List Outcome). joined (blocksOf l)) q ∙ append-nil xs));
-      }
+left-behind : (bs cs : List Shape) (s : List ℕ) → refusalOf (corrected bs s) ≡ 0
+    → leftOf (bs ++ cs) s ≡ joined (blocksOf (corrected bs s)) ++ leftOf cs (drop (totalSize bs) s)
+unfolding leftOf outcomes cut refusalOf blocksOf joined totalSize
+left-behind [] cs s e = refl
+left-behind (b ∷ bs) cs s e =
+    let o = correctOf 0x163 1 (b .parity) (take (size b) s) in
+    let t = drop (size b) s in
+    let us = joined (blocksOf (corrected bs t)) in
+    let z = first-zero (o .number) (refusalOf (corrected bs t)) e in
+    ap (λ (n : ℕ). o .block ++ cond (eqb n 0) (leftOf (bs ++ cs) t) t) (z .0)
+    ∙ ap (λ (l : List ℕ). o .block ++ l) (left-behind bs cs t (z .1) ∙ ap (λ (l : List ℕ). us ++ leftOf cs l) (drop-drop (totalSize bs) (size b) s))
+    ∙ sym (append-assoc (o .block) us (leftOf cs (drop (size b + totalSize bs) s)))
 
-  one-refused : (xs : List ℕ) → refused 6 xs ≡ correctOf 0x163 1 p lent → refusalOf (corrected (batch 1 info p) (drop a s)) ≡ 6
-  unfolding refusalOf refused
-  one-refused xs h = ap refusalOf (same (refused 6 xs) h)
+pub left-accepted : (bs : List Shape) (s : List ℕ) → refusalOf (corrected bs s) ≡ 0
+    → leftOf bs s ≡ joined (blocksOf (corrected bs s)) ++ drop (totalSize bs) s
+unfolding leftOf
+left-accepted bs s e = ap (λ (l : List Shape). leftOf l s) (sym (append-nil bs)) ∙ left-behind bs [] s e
 
-  -- the corrector never finds it unfit
-  one-fit : 0 < info → 0 < p → info + p ≤ 255 → (xs : List ℕ) → refused 5 xs ≡ correctOf 0x163 1 p lent → ⊥
-  unfolding refused
-  one-fit i q small xs h =
-      let l : length lent ≡ info + p = ap length its ∙ length-take-le (info + p) (drop a s) (omega (arith, length-drop a s)) in
-      let f = fit-settled 0x163 1 p lent (fit p lent (λ z. omega arith) (omega arith) (omega arith)) in
-      let five : settled lent (nearest 0x163 1 p lent) .number ≡ 5 = ap (λ (o : Outcome). o .number) (f ∙ sym h) in
-      elim (settled-number lent (nearest 0x163 1 p lent)) [ inl z ↦ omega (arith, five, z) | inr z ↦ omega (arith, five, z) ]
+pub left-refused : (bs cs : List Shape) (b : Shape) (s : List ℕ) → refusalOf (corrected bs s) ≡ 0
+    → correctOf 0x163 1 (b .parity) (take (size b) (drop (totalSize bs) s)) .number ≢ 0
+    → leftOf (bs ++ (b ∷ cs)) s ≡ joined (blocksOf (corrected bs s)) ++ drop (totalSize bs) s
+unfolding leftOf
+left-refused bs cs b s e d =
+    let t = drop (totalSize bs) s in
+    let w = take (size b) t in
+    left-behind bs (b ∷ cs) s e
+    ∙ ap₂ (λ (l : List ℕ) (x : Bool). joined (blocksOf (corrected bs s)) ++ (l ++ cond x (leftOf cs (drop (size b) t)) (drop (size b) t)))
+    (block-facts (b .parity) w .2 d) (ne-eqb (correctOf 0x163 1 (b .parity) w .number) 0 d)
+    ∙ ap (λ (l : List ℕ). joined (blocksOf (corrected bs s)) ++ l) (take-append-drop (size b) t)
 
-  -- one case of the corrector's answer after the other, where the parity q is that of the block
-  pub one-corrects : 0 < info → 0 < p → info + p ≤ 255 → (c : Correction) (xs : List ℕ) (q : ℕ) → outcome c xs ≡ correctOf 0x163 1 q lent → q ≡ p
-      → Corrects (batch 1 info p) a s (take a s ++ (xs ++ drop (e - a) (drop a s))) (answerOf c)
-  unfolding outcome answerOf
-  one-corrects i o small c xs q h f = go c (h ∙ ap (λ (x : ℕ). correctOf 0x163 1 x lent) f)
-    where
-      go : (c : Correction) → outcome c xs ≡ correctOf 0x163 1 p lent → Corrects (batch 1 info p) a s (take a s ++ (xs ++ drop (e - a) (drop a s))) (answerOf c)
-      go (Corrected n) h = one-done n xs h
-      go Unfit h = absurd (one-fit i o small xs h)
-      go OutOfReach h = one-refused xs h
+-- ---- one pass behind another
+
+more-zero : (r : Blocks) → more 0 r ≡ r
+more-zero (Corrected m) = let e : 0 + m ≡ m = omega arith in ap Corrected e
+more-zero Refused = refl
+
+more-more : (n m : ℕ) (r : Blocks) → more n (more m r) ≡ more (n + m) r
+more-more n m (Corrected k) = let e : n + (m + k) ≡ n + m + k = omega arith in ap Corrected e
+more-more n m Refused = refl
+
+plus-zero : (q : Pass) → plus 0 q ≡ q
+plus-zero q = λ i. record { answer = more-zero (q .answer) i; stream = q .stream }
+
+-- an answer that leaves a stream, and what is done with it then
+abbrev follow : Blocks → List ℕ → (List ℕ → Pass) → Pass
+follow (Corrected m) s f = plus m (f s)
+follow Refused s f = record { answer = Refused; stream = s }
+
+onward-follow : (n c : ℕ) (s : List ℕ) (r : Blocks) (t : List ℕ) (f : List ℕ → Pass)
+    → let q = onward n c s (record { answer = r; stream = t }) in onward n c s (follow r t f) ≡ follow (q .answer) (q .stream) f
+onward-follow (suc n) c s r t f = refl
+onward-follow zero c s Refused t f = refl
+onward-follow zero c s (Corrected m) t f = λ i. record { answer = more-more c m (f t .answer) i; stream = f t .stream }
+
+passed-append : (bs cs : List Shape) (a : ℕ) (s : List ℕ)
+    → passed (bs ++ cs) a s ≡ follow (passed bs a s .answer) (passed bs a s .stream) (passed cs (a + totalSize bs))
+unfolding passed totalSize
+passed-append [] cs a s =
+    sym (plus-zero (passed cs a s)) ∙ ap (λ (k : ℕ). plus 0 (passed cs k s)) (sym (add-zero a))
+passed-append (b ∷ bs) cs a s =
+    let o = outcomeAt b a s in
+    let s₁ = leftAt b a s in
+    let q = passed bs (a + size b) s₁ in
+    let u = onward (o .number) (o .count) s₁ q in
+    ap (onward (o .number) (o .count) s₁) (passed-append bs cs (a + size b) s₁)
+    ∙ onward-follow (o .number) (o .count) s₁ (q .answer) (q .stream) (passed cs (a + size b + totalSize bs))
+    ∙ ap (λ (k : ℕ). follow (u .answer) (u .stream) (passed cs k)) (add-assoc a (size b) (totalSize bs))
+
+-- ---- what a pass comes to
+
+abbrev pub told : ℕ → ℕ → Blocks
+told zero n = Corrected n
+told (suc k) n = Refused
+
+onward-told : (n c k m : ℕ) (pre w u t : List ℕ)
+    → onward n c ((pre ++ w) ++ t) (record { answer = told k m; stream = (pre ++ w) ++ u })
+    ≡ record { answer = told (first n k) (c + m); stream = pre ++ (w ++ cond (eqb n 0) u t) }
+onward-told zero c zero m pre w u t = λ i. record { answer = Corrected (c + m); stream = append-assoc pre w u i }
+onward-told zero c (suc k) m pre w u t = λ i. record { answer = Refused; stream = append-assoc pre w u i }
+onward-told (suc n) c k m pre w u t =
+    (λ i. record { answer = Refused; stream = append-assoc pre w t i })
+    ∙ ap (λ (x : Bool). record { answer = told (cond x k (suc n)) (c + m); stream = pre ++ (w ++ cond x u t) }) (sym (eqb·suc-zero n))
+
+pub passed-is : (bs : List Shape) (a : ℕ) (s : List ℕ) → a + totalSize bs ≤ length s
+    → passed bs a s ≡ record {
+      answer = told (refusalOf (corrected bs (drop a s))) (countOf (corrected bs (drop a s)));
+      stream = take a s ++ leftOf bs (drop a s);
+    }
+unfolding passed outcomes cut refusalOf countOf leftOf totalSize
+passed-is [] a s h = ap (λ (l : List ℕ). record { answer = Corrected 0; stream = l }) (sym (take-append-drop a s))
+passed-is (b ∷ bs) a s h =
+    let o = outcomeAt b a s in
+    let s₁ = leftAt b a s in
+    let t = drop (size b) (drop a s) in
+    let n : length (o .block) ≡ size b =
+    block-facts (b .parity) (take (size b) (drop a s)) .0 ∙ length-take-le (size b) (drop a s) (omega (arith, length-drop a s)) in
+    let room : a + size b ≤ length s = omega arith in
+    let e : drop (a + size b) s₁ ≡ t = spliced-behind a (size b) (o .block) s n room ∙ sym (drop-drop (size b) a s) in
+    let f : s₁ ≡ (take a s ++ o .block) ++ t =
+    opened a (size b) (o .block) s n room ∙ ap (λ (l : List ℕ). (take a s ++ o .block) ++ l) (sym (drop-drop (size b) a s)) in
+    ap₂ (λ (u : List ℕ) (q : Pass). onward (o .number) (o .count) u q) f
+    (passed-is bs (a + size b) s₁ (omega (arith, spliced-length a (size b) (o .block) s n room))
+    ∙ ap₂ (λ (p u : List ℕ). record { answer = told (refusalOf (corrected bs u)) (countOf (corrected bs u)); stream = p ++ leftOf bs u })
+    (spliced-front a (size b) (o .block) s n room) e)
+    ∙ onward-told (o .number) (o .count) (refusalOf (corrected bs t)) (countOf (corrected bs t)) (take a s) (o .block) (leftOf bs t) t
+
+told-le : (k n : ℕ) → correctionsOf (told k n) ≤ n
+unfolding correctionsOf
+told-le zero n = omega arith
+told-le (suc k) n = zero-le
+
+-- no more corrections than codewords
+pub corrects-le : {bs : List Shape} {a : ℕ} {s s′ : List ℕ} {r : Blocks} → Corrects bs a s s′ r → a + totalSize bs ≤ length s → correctionsOf r ≤ totalSize bs
+corrects-le {bs} {a} {s} {s′} {r} C h =
+    omega (
+      arith,
+      ap (λ (q : Pass). correctionsOf (q .answer)) (C .is ∙ passed-is bs a s h),
+      told-le (refusalOf (corrected bs (drop a s))) (countOf (corrected bs (drop a s))),
+      count-le bs (drop a s),
+    )
+
+-- ---- a loop over blocks
+
+-- Where a pass over bs from a on stands: rest is left to do from a′ on, after n corrections.
+pub record Passing (bs : List Shape) (a : ℕ) (s : List ℕ) (rest : List Shape) (a′ n : ℕ) (s′ : List ℕ) : Type 0 where
+  pub same : passed bs a s ≡ plus n (passed rest a′ s′)
+  pub size : length s′ ≡ length s
+  pub room : a′ + totalSize rest ≤ length s
+  pub few : n ≤ a′
+
+pub passing-start : (bs : List Shape) (a : ℕ) (s : List ℕ) → a + totalSize bs ≤ length s → Passing bs a s bs a 0 s
+passing-start bs a s h = record { same = sym (plus-zero (passed bs a s)); size = refl; room = h; few = zero-le }
+
+module _ {bs : List Shape} {a : ℕ} {s : List ℕ} {rest : List Shape} {a′ n : ℕ} {s′ : List ℕ} (P : Passing bs a s rest a′ n s′)
+    (cs ds : List Shape) (e : rest ≡ cs ++ ds) where
+  pub passing-room : a′ + totalSize cs + totalSize ds ≤ length s
+  passing-room = omega (arith, P .room, ap totalSize e, total-append cs ds)
+
+  whole : {s″ : List ℕ} {r : Blocks} → Corrects cs a′ s′ s″ r → passed bs a s ≡ plus n (follow r s″ (passed ds (a′ + totalSize cs)))
+  whole C =
+      P .same
+      ∙ ap (plus n) (ap (λ (l : List Shape). passed l a′ s′) e ∙ passed-append cs ds a′ s′
+      ∙ ap (λ (q : Pass). follow (q .answer) (q .stream) (passed ds (a′ + totalSize cs))) (sym (C .is)))
+
+  pub passing-next : {s″ : List ℕ} {r : Blocks} (m a″ : ℕ) → Corrects cs a′ s′ s″ r → r ≡ Corrected m → length s″ ≡ length s′
+      → a″ ≡ a′ + totalSize cs → Passing bs a s ds a″ (n + m) s″
+  unfolding correctionsOf
+  passing-next {s″} {r} m a″ C f k l = record {
+    same =
+        whole C ∙ ap₂ (λ (x : Blocks) (y : ℕ). plus n (follow x s″ (passed ds y))) f (sym l)
+        ∙ (λ i. record { answer = more-more n m (passed ds a″ s″ .answer) i; stream = passed ds a″ s″ .stream });
+    size = k ∙ P .size;
+    room = omega (arith, passing-room);
+    few = omega (arith, P .few, ap correctionsOf f, corrects-le C (omega (arith, passing-room, P .size)));
+  }
+
+  pub passing-stop : {s″ : List ℕ} {r : Blocks} → Corrects cs a′ s′ s″ r → r ≡ Refused → Corrects bs a s s″ Refused
+  passing-stop {s″} C f = record { is = sym (whole C ∙ ap (λ (x : Blocks). plus n (follow x s″ (passed ds (a′ + totalSize cs)))) f) }
+
+pub passing-end : {bs : List Shape} {a : ℕ} {s : List ℕ} {rest : List Shape} {a′ n : ℕ} {s′ : List ℕ} → Passing bs a s rest a′ n s′ → rest ≡ []
+    → Corrects bs a s s′ (Corrected n)
+unfolding passed
+passing-end {a′ = a′} {n = n} {s′ = s′} P e = record {
+  is = sym (P .same ∙ ap (λ (l : List Shape). plus n (passed l a′ s′)) e ∙ ap (λ (k : ℕ). record { answer = Corrected k; stream = s′ }) (add-zero n));
+}
+
+-- ---- one block, as the corrector leaves it
+
+pub one-corrects : (d p a e : ℕ) (s xs : List ℕ) (c : Correction) (r : Blocks) → e ≡ a + (d + p) → r ≡ answerOf c
+    → outcome c xs ≡ correctOf 0x163 1 p (take (e - a) (drop a s)) → Corrects (batch 1 d p) a s (take a s ++ (xs ++ drop (e - a) (drop a s))) r
+unfolding passed batch answerOf outcome refused
+one-corrects d p a e s xs c r h f g = record {
+  is =
+      ap₂ (λ (x : Blocks) (y : List ℕ). record { answer = x; stream = y }) f (part-back a (d + p) e s xs h)
+      ∙ go c
+      ∙ ap after
+      (g ∙ (let n : e - a ≡ d + p = omega arith in ap (λ (k : ℕ). correctOf 0x163 1 p (take k (drop a s))) n));
+}
+  where
+    after : Outcome → Pass
+    after o = let s₁ = spliced a (d + p) (o .block) s in onward (o .number) (o .count) s₁ (record { answer = Corrected 0; stream = s₁ })
+
+    go : (c : Correction) → record { answer = answerOf c; stream = spliced a (d + p) xs s } ≡ after (outcome c xs)
+    go (Correction.Corrected n) = ap (λ (k : ℕ). record { answer = Corrected k; stream = spliced a (d + p) xs s }) (sym (add-zero n))
+    go Correction.Unfit = refl
+    go Correction.OutOfReach = refl

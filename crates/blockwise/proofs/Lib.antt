@@ -1,7 +1,8 @@
 pub mod Splice
+pub mod Rule
 pub mod Corrects
-pub mod Batches
-pub mod Makes
+pub mod Pours
 pub mod Settle
 pub mod Written
 pub mod Theorems
+pub mod Answers

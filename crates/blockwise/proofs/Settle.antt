@@ -76,7 +76,8 @@ either [] (w ∷ ws) h = absurd h
 either (b ∷ bs) [] h = absurd h
 either (b ∷ bs) (w ∷ ws) h = go (nearest 0x163 1 (b .parity) w) refl (either bs ws (h .1))
   where
-    each : (v : List ℕ) (vs : List (List ℕ)) → nearest 0x163 1 (b .parity) w ≡ some v → Each bs ws vs → (j : ℕ) → j < suc (length bs) → found (b ∷ bs) (w ∷ ws) j ≡ some (blockAt (v ∷ vs) j)
+    each : (v : List ℕ) (vs : List (List ℕ)) → nearest 0x163 1 (b .parity) w ≡ some v → Each bs ws vs
+        → (j : ℕ) → j < suc (length bs) → found (b ∷ bs) (w ∷ ws) j ≡ some (blockAt (v ∷ vs) j)
     each v vs e E zero l = e
     each v vs e E (suc j) l = E .are j (omega arith)
 

@@ -15,13 +15,30 @@ part-back a n e s xs h =
     let m : a + (e - a) ≡ a + n = omega arith in
     ap (λ (l : List ℕ). take a s ++ (xs ++ l)) (drop-drop (e - a) a s ∙ ap (λ (k : ℕ). drop k s) m)
 
+pub part-kept : (a e : ℕ) (s ys : List ℕ) → a ≤ e → e ≤ length s → length ys ≡ length (take (e - a) (drop a s))
+    → length (take a s ++ (ys ++ drop (e - a) (drop a s))) ≡ length s
+part-kept a e s ys h l k =
+    length-append (take a s) (ys ++ drop (e - a) (drop a s))
+    ∙ omega (
+      arith,
+      k,
+      length-append ys (drop (e - a) (drop a s)),
+      length-take-le a s (omega arith),
+      length-drop (e - a) (drop a s),
+      length-drop a s,
+      length-take-le (e - a) (drop a s) (omega (arith, length-drop a s)),
+    )
+
 module _ (a n : ℕ) (xs s : List ℕ) (size : length xs ≡ n) (room : a + n ≤ length s) where
   front-length : length (take a s ++ xs) ≡ a + n
   front-length = length-append (take a s) xs ∙ ap₂ _+_ (length-take-le a s (omega arith)) size
 
-  opened : spliced a n xs s ≡ (take a s ++ xs) ++ drop (a + n) s
+  pub opened : spliced a n xs s ≡ (take a s ++ xs) ++ drop (a + n) s
   unfolding spliced
   opened = sym (append-assoc (take a s) xs (drop (a + n) s))
+
+  pub spliced-length : length (spliced a n xs s) ≡ length s
+  spliced-length = ap length opened ∙ length-append (take a s ++ xs) (drop (a + n) s) ∙ omega (arith, front-length, length-drop (a + n) s)
 
   pub spliced-front : take (a + n) (spliced a n xs s) ≡ take a s ++ xs
   spliced-front = ap (take (a + n)) opened ∙ take-at (take a s ++ xs) (drop (a + n) s) (a + n) front-length

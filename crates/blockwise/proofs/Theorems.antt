@@ -1,28 +1,40 @@
 -- What a customer may quote of blocks that are corrected and made one after the other. Each holds for any blocks that hold the rule of a
 -- row: data, parity, and at most 255 codewords. Assumes nothing.
 use mathlib.Core.Path.{_≡_, sym, ap, subst, _∙_}
-use mathlib.Core.Logic.{_⊎_, inl, inr}
+use mathlib.Core.Logic.{_⊎_, inl, inr, _≢_}
 use mathlib.Core.Option.{none, some}
-use mathlib.Core.List.{List, _++_}
+use mathlib.Core.List.{List, _∷_, _++_}
 use Prim.Native.Nat.{ℕ, _/_, _≤_, _<_}
 use native.Mathlib.Omega.{arith}
 use lib.Dec.{T}
-use lib.ListN.{length}
+use lib.ListN.{length, take, drop}
 use Rattle.reed_solomon.specs.Block.{distance, nearest}
 use Rattle.reed_solomon.proofs.Search.{Bytes}
-use Rattle.blocks.specs.Blocks.{rowLength, rowHolds, Shape, totalSize, totalData, cut, joined, dataParts, cutData}
+use Rattle.corrector.specs.Correct.{correctOf}
+use Rattle.blocks.specs.Blocks.{rowLength, rowHolds, Shape, size, totalSize, totalData, cut, joined, dataParts, cutData}
 use Rattle.blocks.proofs.Rows.{Sound}
 use Rattle.blocks.proofs.Cuts.{Shaped, cut-shaped, cut-joined, length-joined, data-back}
-use Rattle.blockwise.specs.Blockwise.{refusalOf, countOf, blocksOf, corrected, dataOf, encoded, streamOf, differences, blockAt, parityAt}
+use Rattle.blockwise.specs.Blockwise.{refusalOf, countOf, blocksOf, corrected, leftOf, dataOf, encoded, streamOf, differences, blockAt, parityAt}
 use Rattle.blockwise.proofs.Corrects.{blocks-shaped, joined-size}
-use Rattle.blockwise.proofs.Batches as batches
-use Rattle.blockwise.proofs.Batches.{cut-front}
+use Rattle.blockwise.proofs.Corrects as corrects
+use Rattle.blockwise.proofs.Rule as rule
+use Rattle.blockwise.proofs.Rule.{cut-front}
 use Rattle.blockwise.proofs.Settle.{Coded, lost-refused, each-settled, either, coded-shaped, coded-each}
 use Rattle.blockwise.proofs.Written.{encoded-coded, joined-bytes}
 
 -- The length of a row that holds the rule for a total is that total, so that the row holds it for its own length.
 pub row-holds-own : (r : List ℕ) (total : ℕ) → T (rowHolds r total) → (rowLength r ≡ total) × T (rowHolds r (rowLength r))
-row-holds-own = batches.row-holds-own
+row-holds-own = rule.row-holds-own
+
+-- The stream that is left where no block is refused: each block as it was corrected, and what is behind them as it was.
+pub left-accepted : (bs : List Shape) (s : List ℕ) → refusalOf (corrected bs s) ≡ 0 → leftOf bs s ≡ joined (blocksOf (corrected bs s)) ++ drop (totalSize bs) s
+left-accepted = corrects.left-accepted
+
+-- Where the first of the blocks to be refused is b: those before it as they were corrected, and b and what is behind it as they were.
+pub left-refused : (bs cs : List Shape) (b : Shape) (s : List ℕ) → refusalOf (corrected bs s) ≡ 0
+    → correctOf 0x163 1 (b .parity) (take (size b) (drop (totalSize bs) s)) .number ≢ 0
+    → leftOf (bs ++ (b ∷ cs)) s ≡ joined (blocksOf (corrected bs s)) ++ drop (totalSize bs) s
+left-refused = corrects.left-refused
 
 module _ (bs : List Shape) (sound : Sound bs) where
   -- ---- any stream
@@ -63,7 +75,8 @@ module _ (bs : List Shape) (sound : Sound bs) where
       | inl x ↦ absurd (omega (arith, e, lost-refused bs (cut bs s) sound shaped x))
       | inr x ↦ (let q = each-settled bs (cut bs s) (x .0) sound shaped (x .1) in
           subst
-          (λ (vs : List (List ℕ)). ((j : ℕ) → j < length bs → nearest 0x163 1 (parityAt bs j) (blockAt (cut bs s) j) ≡ some (blockAt vs j)) × (countOf (corrected bs s) ≡ differences (cut bs s) vs))
+          (λ (vs : List (List ℕ)). ((j : ℕ) → j < length bs → nearest 0x163 1 (parityAt bs j) (blockAt (cut bs s) j) ≡ some (blockAt vs j))
+          × (countOf (corrected bs s) ≡ differences (cut bs s) vs))
           (sym (q .1)) (x .1 .are, q .2))
     ]
 
@@ -104,5 +117,6 @@ module _ (bs : List Shape) (sound : Sound bs) where
         × (countOf (corrected bs s) ≡ differences (cut bs s) (cut bs (streamOf bs ds)))
     in-reach s size near =
         let h = cut-shaped bs s (omega arith) in
-        let q = each-settled bs (cut bs s) (cut bs (streamOf bs ds)) sound h (coded-each bs (cut bs s) (cut bs (streamOf bs ds)) sound h (written-blocks .2) near) in
+        let vs = cut bs (streamOf bs ds) in
+        let q = each-settled bs (cut bs s) vs sound h (coded-each bs (cut bs s) vs sound h (written-blocks .2) near) in
         (q .0, q .1, ap (dataParts bs) (q .1) ∙ written-blocks .3, q .2)

@@ -23,15 +23,17 @@ drop-bytes k xs b i = omega (arith, getD-drop k xs i 0, b (k + i))
 
 -- one block
 block-written : (b : Shape) (d : List ℕ) → size b ≤ 255 → Bytes d → length d ≡ b .info
-    → ((length (withParity d (parityOf 0x163 1 (b .parity) d)) ≡ size b) × Bytes (withParity d (parityOf 0x163 1 (b .parity) d)) × T (isCodeword 0x163 1 (b .parity) (withParity d (parityOf 0x163 1 (b .parity) d))))
-    × (take (b .info) (withParity d (parityOf 0x163 1 (b .parity) d)) ≡ d)
+    → let w = withParity d (parityOf 0x163 1 (b .parity) d) in
+    ((length w ≡ size b) × Bytes w × T (isCodeword 0x163 1 (b .parity) w)) × (take (b .info) w ≡ d)
 unfolding withParity
 block-written b d small bytes l =
     let r = has-parity 0x163 passes-163 1 (b .parity) d bytes (omega arith) in
     subst
     (λ (w : List ℕ). ((length w ≡ size b) × Bytes w × T (isCodeword 0x163 1 (b .parity) w)) × (take (b .info) w ≡ d))
-    (sym (ap (withParity d) (r .1)))
-    ((length-append d (r .0) ∙ ap₂ _+_ l (r .2), append-bytes d (r .0) bytes (r .3), parity-makes-codeword 0x163 passes-163 1 (b .parity) d (r .0) (r .1)), take-at d (r .0) (b .info) l)
+    (sym (ap (withParity d) (r .1))) (
+      (length-append d (r .0) ∙ ap₂ _+_ l (r .2), append-bytes d (r .0) bytes (r .3), parity-makes-codeword 0x163 passes-163 1 (b .parity) d (r .0) (r .1)),
+      take-at d (r .0) (b .info) l,
+    )
 
 -- all of them
 pub encoded-coded : (bs : List Shape) (ds : List ℕ) → Sound bs → Bytes ds → totalData bs ≤ length ds

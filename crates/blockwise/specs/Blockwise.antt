@@ -1,14 +1,14 @@
 -- SPECIFICATION 7.5 and 11.3: each block of a stream corrected by itself, first to last, and each block of data given its parity. The
 -- field is that of 163 hex, the first root α^1.
 use mathlib.Core.Bool.{cond}
-use mathlib.Core.List.{List, [], _∷_, map}
+use mathlib.Core.List.{List, [], _∷_, _++_, map}
 use Prim.Native.Nat.{ℕ, _+_}
 use lib.Dec.{eqb}
-use lib.ListN.{getD}
+use lib.ListN.{take, drop, getD}
 use Rattle.reed_solomon.specs.Block.{distance, parityOf}
 use Rattle.corrector.specs.Correct.{Outcome, correctOf}
 use Rattle.parity.specs.Encode.{withParity}
-use Rattle.blocks.specs.Blocks.{Shape, cut, joined, dataParts, cutData}
+use Rattle.blocks.specs.Blocks.{Shape, size, cut, joined, dataParts, cutData}
 use Rattle.blockwise.specs.declared.Blocks.{Blocks}
 use Rattle.blockwise.specs.declared.Blocks.the-variants.{Corrected, Refused}
 
@@ -36,6 +36,13 @@ blocksOf (o ∷ os) = o .block ∷ blocksOf os
 -- the blocks of a stream, corrected
 abbrev pub corrected : List Shape → List ℕ → List Outcome
 corrected bs stream = outcomes bs (cut bs stream)
+
+-- the stream as it is left: each block as Correct a block leaves it, up to the first that is refused; what is behind that is as it was
+unfoldable pub leftOf : List Shape → List ℕ → List ℕ
+leftOf [] s = s
+leftOf (b ∷ bs) s =
+    correctOf 0x163 1 (b .parity) (take (size b) s) .block
+    ++ cond (eqb (correctOf 0x163 1 (b .parity) (take (size b) s) .number) 0) (leftOf bs (drop (size b) s)) (drop (size b) s)
 
 -- the data parts of the corrected blocks, joined in block order
 abbrev pub dataOf : List Shape → List ℕ → List ℕ

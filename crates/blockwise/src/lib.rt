@@ -3,13 +3,13 @@
 ghost use mathlib.Core.Path.{_≡_};
 ghost use mathlib.Core.Bool.{true};
 ghost use mathlib.Core.List.{_++_};
-ghost use Prim.Native.Nat.{_+_, _*_, _≤_, _<_};
+ghost use Prim.Native.Nat.{_+_, _≤_, _<_};
 ghost use lib.Dec.{T};
-ghost use lib.ListN.{length, take, drop, getD};
+ghost use lib.ListN.{length, take, drop};
 ghost use Rattle.remainder.specs.Words.{Prepared};
-ghost use Rattle.blocks.specs.Blocks.{batchHolds, rowLength, rowHolds, batch, shapes, totalSize, totalData, cut, joined, dataParts};
-ghost use Rattle.blockwise.specs.Blockwise.{corrected, refusalOf, countOf, blocksOf, numberOf, correctionsOf};
-ghost use Rattle.blockwise.specs.Inner.{batchAt, batches, spliced, answerOf, Corrects, Gathers};
+ghost use Rattle.blocks.specs.Blocks.{rowLength, rowHolds, batch, shapes, totalSize, totalData, cut, joined, dataParts};
+ghost use Rattle.blockwise.specs.Blockwise.{corrected, refusalOf, countOf, blocksOf, leftOf, numberOf, correctionsOf};
+ghost use Rattle.blockwise.specs.Inner.{Reads, blocksIn, spliced, answerOf, Corrects, gathering, poured, Room};
 use corrector::Correction;
 
 // What became of the blocks: the count of all corrections, or refusal 6 (SPECIFICATION 2.7).
@@ -18,23 +18,34 @@ pub enum Blocks {
     Refused,
 }
 
-// The number at the place n of a row.
-pub fn number(row: &[u8], n: usize) -> usize
-    requires { ⌜ (length (now row) ≡ 9) × (n < 9) ⌝ }
-    ensures { λ r. ⌜ (r ≡ getD (now (row .entry)) n 0) × (r ≤ 255) ⌝ }
-{
-    row[n] as usize
+// A batch of a row: so many blocks, each with so many data codewords, then so many of parity.
+pub struct Batch {
+    pub count: usize,
+    pub info: usize,
+    pub parity: usize,
 }
 
-// Whether batch k of the row is one short block: a table for it would cost more than it saves.
-pub fn is_one_short(row: &[u8], k: usize) -> bool
+// Batch k of the row.
+pub fn batch_of(row: &[u8], k: usize) -> Batch
     requires { ⌜ (length (now row) ≡ 9) × (k < 3) ⌝ }
-    ensures { λ b. ⌜ (b ≡ true → getD (now (row .entry)) (3 * k) 0 ≡ 1) ⌝ }
+    ensures { λ b. ⌜ Reads (now (row .entry)) k b ⌝ }
 {
-    if number(row, 3 * k) != 1 {
+    Batch {
+        count: row[3 * k] as usize,
+        info: row[3 * k + 1] as usize,
+        parity: row[3 * k + 2] as usize,
+    }
+}
+
+// Whether a batch is one short block: a table for it would cost more than it saves.
+pub fn is_one_short(b: Batch) -> bool
+    requires { ⌜ (b .info ≤ 255) × (b .parity ≤ 255) ⌝ }
+    ensures { λ r. ⌜ (r ≡ true → b .count ≡ 1) ⌝ }
+{
+    if b.count != 1 {
         return false;
     }
-    number(row, 3 * k + 1) + number(row, 3 * k + 2) < 64
+    b.info + b.parity < 64
 }
 
 // The corrector's answer for a block as the answer for blocks. No block of a row is unfit.
@@ -49,126 +60,85 @@ fn answer(c: Correction) -> Blocks
 }
 
 // One block, lent to the corrector as a part of the stream from its place on.
-fn correct_block(rows: &[u64], stream: &mut [u8], from: usize, info: usize, parity: usize) -> Blocks
-    requires { ⌜ Prepared parity (now rows) × (0 < info) × (0 < parity) × (info + parity ≤ 255) × (from + (info + parity) ≤ length (now stream)) ⌝ }
-    ensures { λ r. ⌜ Corrects (batch 1 info parity) from (now (stream .entry)) (now (stream .exit)) r ⌝ }
+fn correct_block(rows: &[u64], stream: &mut [u8], from: usize, b: Batch) -> Blocks
+    requires { ⌜ Prepared (b .parity) (now rows) × (from + (b .info + b .parity) ≤ length (now stream)) ⌝ }
+    ensures { λ r. ⌜ Corrects (batch 1 (b .info) (b .parity)) from (now (stream .entry)) (now (stream .exit)) r ⌝ }
 {
-    let to = from + (info + parity);
-    answer(corrector::correct_with(rows, &mut stream[from..to], parity))
+    let to = from + (b.info + b.parity);
+    answer(corrector::correct_with(rows, &mut stream[from..to], b.parity))
 }
 
-// The blocks of batch k of the row, whose first begins at `from`. The corrector's table is made once for all of them.
-fn correct_many(stream: &mut [u8], from: usize, row: &[u8], k: usize) -> Blocks
-    requires { ⌜ (length (now row) ≡ 9) × (k < 3) × T (batchHolds (getD (now row) (3 * k) 0) (getD (now row) (3 * k + 1) 0) (getD (now row) (3 * k + 2) 0)) × (from + totalSize (batchAt (now row) k) ≤ length (now stream)) ⌝ }
-    ensures { λ r. ⌜ Corrects (batchAt (now (row .entry)) k) from (now (stream .entry)) (now (stream .exit)) r ⌝ }
+// The blocks of a batch, whose first begins at `from`. The corrector's table is made once for all of them.
+fn correct_many(stream: &mut [u8], from: usize, b: Batch) -> Blocks
+    requires { ⌜ from + totalSize (blocksIn b) ≤ length (now stream) ⌝ }
+    ensures { λ r. ⌜ Corrects (blocksIn b) from (now (stream .entry)) (now (stream .exit)) r ⌝ }
 {
-    let count = number(row, 3 * k);
-    if count == 0 {
+    if b.count == 0 {
         return Blocks::Corrected(0);
     }
-    let info = number(row, 3 * k + 1);
-    let parity = number(row, 3 * k + 2);
     let mut rows = [0u64; 512];
-    remainder::prepare(&mut rows, parity);
+    remainder::prepare(&mut rows, b.parity);
     let mut n: usize = 0;
     let mut at = from;
-    let mut i: usize = 0;
-    while i < count {
-        let r = correct_block(&rows, stream, at, info, parity);
+    let mut left = b.count;
+    while 0 < left {
+        let r = correct_block(&rows, stream, at, b);
         let Blocks::Corrected(m) = r else {
             return Blocks::Refused;
         };
         n += m;
-        at += info + parity;
-        i += 1;
+        at += b.info + b.parity;
+        left -= 1;
     }
     Blocks::Corrected(n)
 }
 
-// The only block of batch k of the row, which is short.
-fn correct_one(stream: &mut [u8], from: usize, row: &[u8], k: usize) -> Blocks
-    requires { ⌜ (length (now row) ≡ 9) × (k < 3) × T (batchHolds (getD (now row) (3 * k) 0) (getD (now row) (3 * k + 1) 0) (getD (now row) (3 * k + 2) 0)) × (from + totalSize (batchAt (now row) k) ≤ length (now stream)) × (getD (now row) (3 * k) 0 ≡ 1) ⌝ }
-    ensures { λ r. ⌜ Corrects (batchAt (now (row .entry)) k) from (now (stream .entry)) (now (stream .exit)) r ⌝ }
+// The only block of a batch, which is short.
+fn correct_one(stream: &mut [u8], from: usize, b: Batch) -> Blocks
+    requires { ⌜ from + (b .info + b .parity) ≤ length (now stream) ⌝ }
+    ensures { λ r. ⌜ Corrects (batch 1 (b .info) (b .parity)) from (now (stream .entry)) (now (stream .exit)) r ⌝ }
 {
-    let info = number(row, 3 * k + 1);
-    let parity = number(row, 3 * k + 2);
-    let to = from + (info + parity);
-    answer(corrector::correct_short(&mut stream[from..to], parity))
+    let to = from + (b.info + b.parity);
+    answer(corrector::correct_short(&mut stream[from..to], b.parity))
 }
 
-// The blocks of batch k of the row, whose first begins at `from`.
-fn correct_batch(stream: &mut [u8], from: usize, row: &[u8], k: usize) -> Blocks
-    requires { ⌜ (length (now row) ≡ 9) × (k < 3) × T (batchHolds (getD (now row) (3 * k) 0) (getD (now row) (3 * k + 1) 0) (getD (now row) (3 * k + 2) 0)) × (from + totalSize (batchAt (now row) k) ≤ length (now stream)) ⌝ }
-    ensures { λ r. ⌜ Corrects (batchAt (now (row .entry)) k) from (now (stream .entry)) (now (stream .exit)) r ⌝ }
+// The blocks of a batch, whose first begins at `from`.
+fn correct_batch(stream: &mut [u8], from: usize, b: Batch) -> Blocks
+    requires { ⌜ (b .info ≤ 255) × (b .parity ≤ 255) × (from + totalSize (blocksIn b) ≤ length (now stream)) ⌝ }
+    ensures { λ r. ⌜ Corrects (blocksIn b) from (now (stream .entry)) (now (stream .exit)) r ⌝ }
 {
-    if is_one_short(row, k) {
-        return correct_one(stream, from, row, k);
+    if is_one_short(b) {
+        return correct_one(stream, from, b);
     }
-    correct_many(stream, from, row, k)
-}
-
-// How many codewords batch k of the row has.
-fn batch_length(row: &[u8], k: usize) -> usize
-    requires { ⌜ (length (now row) ≡ 9) × (k < 3) ⌝ }
-    ensures { λ r. ⌜ (r ≡ totalSize (batchAt (now (row .entry)) k)) × (r ≤ 130050) ⌝ }
-{
-    number(row, 3 * k) * (number(row, 3 * k + 1) + number(row, 3 * k + 2))
+    correct_many(stream, from, b)
 }
 
 // All blocks of the stream, first to last, each set to its codeword in reach; the first that has none ends it.
 pub fn correct_blocks(stream: &mut [u8], row: &[u8]) -> Blocks
     requires { ⌜ (length (now row) ≡ 9) × T (rowHolds (now row) (rowLength (now row))) × (rowLength (now row) ≤ length (now stream)) ⌝ }
-    ensures { λ r. ⌜ (numberOf r ≡ refusalOf (corrected (shapes (now (row .entry))) (take (rowLength (now (row .entry))) (now (stream .entry))))) × (numberOf r ≡ 0 → (correctionsOf r ≡ countOf (corrected (shapes (now (row .entry))) (take (rowLength (now (row .entry))) (now (stream .entry))))) × (now (stream .exit) ≡ joined (blocksOf (corrected (shapes (now (row .entry))) (take (rowLength (now (row .entry))) (now (stream .entry))))) ++ drop (rowLength (now (row .entry))) (now (stream .entry)))) ⌝ }
+    ensures { λ r.
+        let bs = shapes (now (row .entry)) in
+        let n = rowLength (now (row .entry)) in
+        let s = now (stream .entry) in
+        ⌜ (numberOf r ≡ refusalOf (corrected bs (take n s)))
+        × (numberOf r ≡ 0 → (correctionsOf r ≡ countOf (corrected bs (take n s)))
+        × (now (stream .exit) ≡ joined (blocksOf (corrected bs (take n s))) ++ drop n s))
+        × (now (stream .exit) ≡ leftOf bs s) ⌝ }
 {
     let mut total: usize = 0;
     let mut at: usize = 0;
     let mut k: usize = 0;
     while k < 3 {
-        let r = correct_batch(stream, at, row, k);
+        let b = batch_of(row, k);
+        let r = correct_batch(stream, at, b);
         let Blocks::Corrected(n) = r else {
             return Blocks::Refused;
         };
         total += n;
-        at += batch_length(row, k);
+        at += b.count * (b.info + b.parity);
         k += 1;
     }
     Blocks::Corrected(total)
-}
-
-// How many data codewords batch k of the row has.
-fn batch_data(row: &[u8], k: usize) -> usize
-    requires { ⌜ (length (now row) ≡ 9) × (k < 3) ⌝ }
-    ensures { λ r. ⌜ (r ≡ totalData (batchAt (now (row .entry)) k)) × (r ≤ 130050) ⌝ }
-{
-    number(row, 3 * k) * number(row, 3 * k + 1)
-}
-
-// Where batch k of the row begins in the stream.
-pub fn length_before(row: &[u8], k: usize) -> usize
-    requires { ⌜ (length (now row) ≡ 9) × (k ≤ 3) ⌝ }
-    ensures { λ r. ⌜ r ≡ totalSize (batches k (now (row .entry))) ⌝ }
-{
-    let mut n: usize = 0;
-    let mut i: usize = 0;
-    while i < k {
-        n += batch_length(row, i);
-        i += 1;
-    }
-    n
-}
-
-// Where it begins in the data.
-pub fn data_before(row: &[u8], k: usize) -> usize
-    requires { ⌜ (length (now row) ≡ 9) × (k ≤ 3) ⌝ }
-    ensures { λ r. ⌜ r ≡ totalData (batches k (now (row .entry))) ⌝ }
-{
-    let mut n: usize = 0;
-    let mut i: usize = 0;
-    while i < k {
-        n += batch_data(row, i);
-        i += 1;
-    }
-    n
 }
 
 // n bytes of src, from the place `from` on, written to dst from the place `to` on.
@@ -183,22 +153,19 @@ pub fn copy(dst: &mut [u8], to: usize, src: &[u8], from: usize, n: usize)
     }
 }
 
-// The data parts of batch k of the row.
-fn gather_batch(out: &mut [u8], stream: &[u8], row: &[u8], k: usize)
-    requires { ⌜ (length (now row) ≡ 9) × (k < 3) × (rowLength (now row) ≤ length (now stream)) × (totalData (shapes (now row)) ≤ length (now out)) ⌝ }
-    ensures { λ _. ⌜ Gathers (batchAt (now (row .entry)) k) (totalData (batches k (now (row .entry)))) (drop (totalSize (batches k (now (row .entry)))) (now (stream .entry))) (now (out .entry)) (now (out .exit)) ⌝ }
+// The data parts of a batch whose first block begins at `from`, joined from `to` on.
+fn gather_batch(out: &mut [u8], to: usize, stream: &[u8], from: usize, b: Batch)
+    requires { ⌜ Room gathering (blocksIn b) to from (now stream) (now out) ⌝ }
+    ensures { λ _. ⌜ now (out .exit) ≡ poured gathering (blocksIn b) to from (now (stream .entry)) (now (out .entry)) ⌝ }
 {
-    let count = number(row, 3 * k);
-    let info = number(row, 3 * k + 1);
-    let parity = number(row, 3 * k + 2);
-    let mut at = data_before(row, k);
-    let mut from = length_before(row, k);
-    let mut i: usize = 0;
-    while i < count {
-        copy(out, at, stream, from, info);
-        at += info;
-        from += info + parity;
-        i += 1;
+    let mut into = to;
+    let mut at = from;
+    let mut left = b.count;
+    while 0 < left {
+        copy(out, into, stream, at, b.info);
+        into += b.info;
+        at += b.info + b.parity;
+        left -= 1;
     }
 }
 
@@ -207,18 +174,28 @@ pub fn data_length(row: &[u8]) -> usize
     requires { ⌜ length (now row) ≡ 9 ⌝ }
     ensures { λ r. ⌜ r ≡ totalData (shapes (now (row .entry))) ⌝ }
 {
-    data_before(row, 3)
+    let a = batch_of(row, 0);
+    let b = batch_of(row, 1);
+    let c = batch_of(row, 2);
+    a.count * a.info + (b.count * b.info + c.count * c.info)
 }
 
 // The data parts of all blocks of the stream, joined in block order at the front of out; the answer is their number.
 pub fn gather_data(out: &mut [u8], stream: &[u8], row: &[u8]) -> usize
     requires { ⌜ (length (now row) ≡ 9) × (rowLength (now row) ≤ length (now stream)) × (totalData (shapes (now row)) ≤ length (now out)) ⌝ }
-    ensures { λ r. ⌜ (r ≡ totalData (shapes (now (row .entry)))) × (now (out .exit) ≡ dataParts (shapes (now (row .entry))) (cut (shapes (now (row .entry))) (now (stream .entry))) ++ drop r (now (out .entry))) ⌝ }
+    ensures { λ r.
+        let bs = shapes (now (row .entry)) in
+        ⌜ (r ≡ totalData bs) × (now (out .exit) ≡ dataParts bs (cut bs (now (stream .entry))) ++ drop r (now (out .entry))) ⌝ }
 {
+    let mut n: usize = 0;
+    let mut from: usize = 0;
     let mut k: usize = 0;
     while k < 3 {
-        gather_batch(out, stream, row, k);
+        let b = batch_of(row, k);
+        gather_batch(out, n, stream, from, b);
+        n += b.count * b.info;
+        from += b.count * (b.info + b.parity);
         k += 1;
     }
-    data_before(row, 3)
+    n
 }

@@ -1,41 +1,60 @@
 -- `write_blocks` meets its contract: one batch more in each turn. Assumes nothing.
-use Prim.Native.Nat.{_-_, _≤_}
+use mathlib.Core.Path.{_∙_}
+use Prim.Native.Nat.{_+_, _-_, _*_}
 use native.Mathlib.Omega.{arith}
-use Rattle.blockwise.specs.Inner.{batches, Writes}
-use Rattle.blockwise.proofs.Makes.{writes-none, writes-batch, writes-row}
+use Rattle.blocks.specs.Blocks.{shapes}
+use Rattle.blocks.proofs.Rows.{row-sound}
+use Rattle.blockwise.specs.Inner.{behind, writing}
+use Rattle.blockwise.proofs.Rule.{row-batch, behind-all}
+use Rattle.blockwise.proofs.Pours.{Pouring, pouring-start, row-writes, batch-room, batch-poured, pouring-end, written-row}
 use borrow.Author.Needs.{needs}
 use Rattle.block_writer.proofs.write_blocks.Statement.{statement}
 use Rattle.block_writer.proofs.write_blocks.Tie as tie
 
 abbrev Inv-loop : tie.InvT-loop
-Inv-loop stream₀ «data» row k₀ stream k = (k ≤ 3) × Writes (batches k row) 0 «data» stream₀ stream
+Inv-loop stream₀ «data» row n₀ from₀ k₀ stream n from k = Pouring writing (shapes row) 0 0 «data» stream₀ (behind k row) n from stream
 
 abbrev μ-loop : tie.MeasureT-loop
-μ-loop stream₀ «data» row k₀ stream k = 3 - k
+μ-loop stream₀ «data» row n₀ from₀ k₀ stream n from k = 3 - k
 
 loop-holds : tie.Need-loop-holds Inv-loop μ-loop
-unfolding batches
-loop-holds c = (omega arith, writes-none _ _ _)
+unfolding behind
+loop-holds c = let start = c .before .before .before in pouring-start (row-writes _ _ _ (start .pre .2) (start .pre .3))
 
 write-batch-requires : tie.Need-write-batch-requires Inv-loop μ-loop
 write-batch-requires c κs =
-    let start = c .before .before .before .before .before .before in
-    (start .pre .0, c .before .loop-test .taken, start .pre .1, omega (arith, start .pre .2, c .before .before .loop .inv .1 .size), start .pre .3)
+    let start = c .before .before .before .before .before .before .before in
+    let loop = c .before .before .before .loop in
+    let few = c .before .before .loop-test .taken in
+    let batch = c .before .batch-of .ensures in
+    (batch .info, batch .parity, row-batch _ _ _ (start .pre .1) few _ (batch .is), batch-room _ _ (loop .inv) few _ (batch .is))
 
-loop-again : tie.Need-loop-again Inv-loop μ-loop
-loop-again c =
-    let start = c .before .before .before .before .before .before .before .before .before in
-    let loop = c .before .before .before .before .before .loop in
-    let loop-test = c .before .before .before .before .loop-test in
-    (omega arith, writes-batch (start .args .row .now) (loop .k) (loop-test .taken) (start .args .«data» .now) _ _ _ (start .pre .2) (loop .inv .1) (c .before .before .write-batch .ensures))
+-- the blocks of a turn's batch are written
+next : (c : tie.After-struct-known Inv-loop μ-loop) →
+    let start = c .before .before .before .before .before .before .before .before .before .before .before in
+    let b = c .before .before .before .before .before .batch-of .result in
+    let loop = c .before .before .before .before .before .before .before .loop in
+    Pouring writing (shapes (start .args .row .now)) 0 0 (start .args .«data» .now) (start .args .stream .now) (behind (loop .k + 1) (start .args .row .now))
+    (loop .n + b .count * (b .info + b .parity)) (loop .from + b .count * b .info) (c .before .before .before .write-batch .last .0)
+next c =
+    let batch-of = c .before .before .before .before .before .batch-of in
+    let write-batch = c .before .before .before .write-batch in
+    let turn = c .before .before .before .before .before .before in
+    batch-poured _ _ (turn .before .loop .inv) (turn .loop-test .taken)
+    (batch-of .result) (batch-of .ensures .is) (write-batch .ensures) (write-batch .kept .0)
 
 returns : tie.Need-returns Inv-loop μ-loop
 returns c =
     let start = c .before .before .before .before .before in
-    let loop = c .before .loop in
-    writes-row (start .args .row .now) (loop .k) (loop .inv .0) (omega arith) (start .args .«data» .now) _ _ (loop .inv .1)
+    let bytes = c .before .before .before .shared-slice-known .given in
+    pouring-end (c .before .loop .inv) (behind-all (start .args .row .now) _ (c .loop-test .left))
+    ∙ written-row (start .args .row .now) (start .args .«data» .now) (start .args .stream .now) (row-sound _ _ (start .pre .1))
+    (λ i. omega (arith, bytes i)) (start .pre .2) (start .pre .3)
 
 pub write-blocks-spec : {M : Type 1} → statement M
 write-blocks-spec =
-    tie.close (tie.spec Inv-loop μ-loop loop-holds write-batch-requires (λ c. search needs) (λ c. search needs) loop-again
-    (λ c. c .before .loop .inv .1 .size) returns)
+    tie.close (tie.spec Inv-loop μ-loop loop-holds (λ c κs. search needs) write-batch-requires
+    (λ c. omega (arith, c .before .before .before .before .before .batch-of .ensures)) (λ c. omega (arith, next (c .before) .room .into))
+    (λ c. omega (arith, next (c .before) .room .into)) (λ c. omega (arith, next (c .before .before) .room .out))
+    (λ c. omega (arith, next (c .before .before) .room .out)) (λ c. search needs) (λ c. search needs) (λ c. next (c .before .before))
+    (λ c. c .before .loop .inv .size) returns)

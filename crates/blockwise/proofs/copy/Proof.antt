@@ -31,7 +31,8 @@ returns : tie.Need-returns Inv-loop μ-loop
 returns c =
     let start = c .before .before in
     let loop = c .before .loop in
-    copy-end _ (start .args .src .now) (start .args .dst .now) (start .args .to) (start .args .from) (loop .i) (start .args .n) (loop .inv .2) (loop .inv .0) (omega arith)
+    copy-end _ (start .args .src .now) (start .args .dst .now) (start .args .to) (start .args .from)
+    (loop .i) (start .args .n) (loop .inv .2) (loop .inv .0) (omega arith)
 
 pub copy-spec : {M : Type 1} → statement M
 copy-spec =

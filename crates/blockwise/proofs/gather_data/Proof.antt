@@ -1,44 +1,52 @@
 -- `gather_data` meets its contract: the data of one batch more in each turn. Assumes nothing.
-use Prim.Native.Nat.{_-_, _≤_}
+use mathlib.Core.Path.{_∙_}
+use Prim.Native.Nat.{_+_, _-_, _*_}
 use native.Mathlib.Omega.{arith}
-use Rattle.blockwise.specs.Inner.{batches, Gathers}
-use Rattle.blockwise.proofs.Makes.{gathers-none, gathers-batch, gathers-row}
+use Rattle.blocks.specs.Blocks.{shapes}
+use Rattle.blockwise.specs.Inner.{behind, gathering}
+use Rattle.blockwise.proofs.Rule.{behind-all}
+use Rattle.blockwise.proofs.Pours.{Pouring, pouring-start, row-gathers, batch-room, batch-poured, pouring-end, pouring-place, gathered-row}
 use borrow.Author.Needs.{needs}
 use Rattle.blockwise.proofs.gather_data.Statement.{statement}
 use Rattle.blockwise.proofs.gather_data.Tie as tie
 
 abbrev Inv-loop : tie.InvT-loop
-Inv-loop out₀ stream row k₀ out k = (k ≤ 3) × Gathers (batches k row) 0 stream out₀ out
+Inv-loop out₀ stream row n₀ from₀ k₀ out n from k = Pouring gathering (shapes row) 0 0 stream out₀ (behind k row) n from out
 
 abbrev μ-loop : tie.MeasureT-loop
-μ-loop out₀ stream row k₀ out k = 3 - k
+μ-loop out₀ stream row n₀ from₀ k₀ out n from k = 3 - k
 
 loop-holds : tie.Need-loop-holds Inv-loop μ-loop
-unfolding batches
-loop-holds c = (omega arith, gathers-none _ _ _)
+unfolding behind
+loop-holds c = let start = c .before .before .before in pouring-start (row-gathers _ _ _ (start .pre .1) (start .pre .2))
 
 gather-batch-requires : tie.Need-gather-batch-requires Inv-loop μ-loop
-gather-batch-requires c κs =
-    let start = c .before .before .before .before .before .before in
-    (start .pre .0, c .before .loop-test .taken, start .pre .1, omega (arith, start .pre .2, c .before .before .loop .inv .1 .size))
+gather-batch-requires c κs = batch-room _ _ (c .before .before .before .loop .inv) (c .before .before .loop-test .taken) _ (c .before .batch-of .ensures .is)
 
-loop-again : tie.Need-loop-again Inv-loop μ-loop
-loop-again c =
-    let start = c .before .before .before .before .before .before .before .before .before in
-    let loop = c .before .before .before .before .before .loop in
-    let loop-test = c .before .before .before .before .loop-test in
-    (omega arith, gathers-batch (start .args .row .now) (loop .k) (loop-test .taken) (start .args .stream .now) _ _ _ (start .pre .2) (loop .inv .1) (c .before .before .gather-batch .ensures))
-
-data-before-requires : tie.Need-data-before-requires Inv-loop μ-loop
-data-before-requires c κs = (c .before .before .before .before .before .pre .0, omega arith)
+-- the data of a turn's batch are gathered
+next : (c : tie.After-struct-known Inv-loop μ-loop) →
+    let start = c .before .before .before .before .before .before .before .before .before .before .before in
+    let b = c .before .before .before .before .before .batch-of .result in
+    let loop = c .before .before .before .before .before .before .before .loop in
+    Pouring gathering (shapes (start .args .row .now)) 0 0 (start .args .stream .now) (start .args .out .now) (behind (loop .k + 1) (start .args .row .now))
+    (loop .n + b .count * b .info) (loop .from + b .count * (b .info + b .parity)) (c .before .before .before .gather-batch .last .0)
+next c =
+    let batch-of = c .before .before .before .before .before .batch-of in
+    let gather-batch = c .before .before .before .gather-batch in
+    let turn = c .before .before .before .before .before .before in
+    batch-poured _ _ (turn .before .loop .inv) (turn .loop-test .taken)
+    (batch-of .result) (batch-of .ensures .is) (gather-batch .ensures) (gather-batch .kept .0)
 
 returns : tie.Need-returns Inv-loop μ-loop
 returns c =
-    let start = c .before .before .before .before .before .before in
-    let loop = c .before .before .loop in
-    gathers-row (start .args .row .now) (loop .k) (loop .inv .0) (omega arith) (start .args .stream .now) _ _ _ (c .data-before .ensures) (loop .inv .1)
+    let start = c .before .before .before .before .before in
+    let all = behind-all (start .args .row .now) _ (c .loop-test .left) in
+    let q = gathered-row (start .args .row .now) _ _ _ (start .pre .1) (start .pre .2) (pouring-place (c .before .loop .inv) all) in
+    (q .0, pouring-end (c .before .loop .inv) all ∙ q .1)
 
 pub gather-data-spec : {M : Type 1} → statement M
 gather-data-spec =
-    tie.close (tie.spec Inv-loop μ-loop loop-holds gather-batch-requires (λ c. search needs) (λ c. search needs) loop-again
-    data-before-requires (λ c. c .before .before .loop .inv .1 .size) returns)
+    tie.close (tie.spec Inv-loop μ-loop loop-holds (λ c κs. search needs) gather-batch-requires (λ c. omega (arith, next c .room .into))
+    (λ c. omega (arith, next c .room .into)) (λ c. omega (arith, c .before .before .before .before .before .before .batch-of .ensures))
+    (λ c. omega (arith, next (c .before .before) .room .out)) (λ c. omega (arith, next (c .before .before) .room .out)) (λ c. search needs) (λ c. search needs)
+    (λ c. next (c .before .before)) (λ c. c .before .loop .inv .size) returns)

@@ -5,7 +5,4 @@ use Rattle.blockwise.proofs.is_one_short.Statement.{statement}
 use Rattle.blockwise.proofs.is_one_short.Tie as tie
 
 pub is-one-short-spec : {M : Type 1} → statement M
-is-one-short-spec =
-    tie.close (tie.spec (λ c. search needs) (λ c κs. search needs) (λ c. λ e. absurd (false≢true e)) (λ c. search needs)
-    (λ c. search needs) (λ c κs. search needs) (λ c. search needs) (λ c. search needs) (λ c κs. search needs) (λ c. search needs)
-    (λ c. search needs))
+is-one-short-spec = tie.close (tie.spec (λ c e. absurd (false≢true e)) (λ c. search needs) (λ c e. search needs))
