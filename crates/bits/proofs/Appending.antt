@@ -1,6 +1,6 @@
 -- Bits written behind others: the bits before, then those of a number, as the bits of four bytes.
 use mathlib.Core.Path.{_≡_, ap, _∙_, sym}
-use mathlib.Core.List.{List, _∷_, _++_, append-nil}
+use mathlib.Core.List.{List, [], _∷_, _++_, append-nil}
 use Prim.Native.Nat.{ℕ, zero, suc, _+_, _-_, _*_, _/_, _%_, _^_, _<_, _≤_}
 use native.Mathlib.Nat.{mod-lt, suc-mul, mul-le-mul-right, mul-assoc, add-mul}
 use native.Mathlib.Omega.{arith}

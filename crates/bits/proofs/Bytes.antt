@@ -1,6 +1,6 @@
 -- Bytes from bits and back: the bytes that bits come to have these bits, and the bits of bytes come to the bytes.
 use mathlib.Core.Path.{_≡_, refl, ap, _∙_, sym}
-use mathlib.Core.List.{List, _∷_}
+use mathlib.Core.List.{List, [], _∷_}
 use Prim.Native.Nat.{ℕ, zero, suc, _+_, _-_, _*_, _/_, _%_, _^_, _<_, _≤_}
 use native.Mathlib.Nat.{pow-succ', add-mul, mul-assoc, add-assoc, mod-eq-of-lt, mul-add-div-right, add-mul-mod-self-right, add-comm}
 use native.Mathlib.Omega.{arith}

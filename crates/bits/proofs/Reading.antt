@@ -1,6 +1,6 @@
 -- Laws of bits that are read: the bit at a position, how many are left, and how large a number of n bits is.
 use mathlib.Core.Path.{_≡_, refl}
-use mathlib.Core.List.{List, _∷_}
+use mathlib.Core.List.{List, [], _∷_}
 use Prim.Native.Nat.{ℕ, zero, suc, _+_, _-_, _*_, _/_, _%_, _^_, _<_, _≤_}
 use native.Mathlib.Nat.{zero-div, zero-mod, add-zero, zero-add, lt-of-lt-of-le, pow-suc}
 use native.Mathlib.Omega.{arith}

@@ -1,7 +1,7 @@
 -- Laws of words: what `read_bits` says of the words from a position on, and words that are written and read back.
 use mathlib.Core.Path.{_≡_, refl, ap, _∙_}
 use mathlib.Core.Bool.{Bool, true, false}
-use mathlib.Core.List.{List, _∷_, _++_, append-assoc}
+use mathlib.Core.List.{List, [], _∷_, _++_, append-assoc}
 use Prim.Native.Nat.{ℕ, zero, suc, _+_, _*_, _/_, _%_, _^_, _<_, _≤_}
 use native.Mathlib.Nat.{div-eq-of-lt, div-eq-sub-div, mod-one, pow-succ', add-mul, mul-assoc, add-assoc, mod-eq-of-lt, zero-mul, zero-add, mul-suc, add-zero}
 use native.Mathlib.Numerals.{add-one, one-add}

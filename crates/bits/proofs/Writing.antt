@@ -1,7 +1,7 @@
 -- Laws of writing: a flipped bit of a byte is a changed bit of the list, and what a turn of `write_bits` does.
 use mathlib.Core.Path.{_≡_, refl, ap, _∙_, sym}
 use mathlib.Core.Logic.{⊎-elim}
-use mathlib.Core.List.{List, _∷_, _++_}
+use mathlib.Core.List.{List, [], _∷_, _++_}
 use Prim.Native.Nat.{ℕ, zero, suc, _+_, _-_, _*_, _/_, _%_, _^_, _<_, _≤_}
 use native.Mathlib.Nat.{mul-mod-left, div-eq-of-lt, pow-suc, div-self, le-of-suc-le-suc, one-mul, not-suc-le-zero, eq-or-lt-of-le}
 use native.Mathlib.Omega.{arith}

@@ -1,6 +1,6 @@
 -- Document 01, "Segments" and "Codewords": bytes as bits, high bit first, the number that bits say, and bits cut into words of one width.
 use mathlib.Core.Bool.{cond}
-use mathlib.Core.List.{List, _∷_, _++_}
+use mathlib.Core.List.{List, [], _∷_, _++_}
 use Prim.Native.Nat.{ℕ, zero, suc, _+_, _*_, _/_, _%_, _^_}
 use lib.Dec.{leb}
 use lib.ListN.{length, take, drop}

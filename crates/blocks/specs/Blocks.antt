@@ -1,6 +1,6 @@
 -- Document 01, "Blocks" (000: `BLOCKS`): the rows of the block table, the rule of a row, and how a stream is cut into blocks.
 use mathlib.Core.Bool.{Bool, _&&_, _||_}
-use mathlib.Core.List.{List, _∷_, _++_}
+use mathlib.Core.List.{List, [], _∷_, _++_}
 use Prim.Native.Nat.{ℕ, zero, suc, _+_, _-_, _*_}
 use lib.Dec.{eqb, ltb, leb}
 use lib.ListN.{take, drop, getD}

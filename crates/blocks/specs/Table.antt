@@ -1,5 +1,5 @@
 -- Made by scripts/block_table antt of scripts/blocks.txt. Document 01, "Codewords" and "Blocks" (000: `TOTAL_CODEWORDS`, `BLOCKS`).
-use mathlib.Core.List.{List, _∷_}
+use mathlib.Core.List.{List, [], _∷_}
 use Prim.Native.Nat.{ℕ}
 
 -- codewords in all of versions 1 to 84

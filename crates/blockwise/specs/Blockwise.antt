@@ -1,7 +1,7 @@
 -- Document 01, "Blocks" and "Words of demand 3": each block of a stream corrected by itself, first to last, and each block of data given
 -- its parity. The field is that of 163 hex, the first root α^1.
 use mathlib.Core.Bool.{cond}
-use mathlib.Core.List.{List, _∷_, map}
+use mathlib.Core.List.{List, [], _∷_, map}
 use Prim.Native.Nat.{ℕ, _+_}
 use lib.Dec.{eqb}
 use lib.ListN.{getD}

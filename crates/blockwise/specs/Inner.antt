@@ -1,7 +1,7 @@
 -- What inner functions say of each other, and those of `block_writer`. Nobody has to believe it: the contracts of `correct_blocks`,
 -- `data_length`, `gather_data` and `write_blocks` do not cite it.
 use mathlib.Core.Path.{_≡_}
-use mathlib.Core.List.{List, _++_}
+use mathlib.Core.List.{List, [], _++_}
 use Prim.Native.Nat.{ℕ, zero, suc, _+_, _*_}
 use lib.ListN.{length, take, drop, getD}
 use Rattle.blocks.specs.Blocks.{Shape, batch, totalSize, totalData, cut, joined, dataParts, cutData}

@@ -1,6 +1,6 @@
 -- Bits stay bits and bytes stay bytes on the way from a square to its stream and back.
 use mathlib.Core.Path.{_≡_, sym, ap, subst, _∙_}
-use mathlib.Core.List.{List, _∷_}
+use mathlib.Core.List.{List, [], _∷_}
 use Prim.Native.Nat.{ℕ, zero, suc, _+_, _*_, _/_, _%_, _^_, _-_, _<_}
 use native.Mathlib.Nat.{pow-suc, pow-le-pow-right, mod-lt}
 use native.Mathlib.Omega.{arith}

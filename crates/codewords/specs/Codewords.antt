@@ -1,5 +1,5 @@
 -- Document 01, "Codewords" (000: `masked`, first half of `decode_data`): from a square to its stream of codewords, and back.
-use mathlib.Core.List.{List, _∷_, _++_, map}
+use mathlib.Core.List.{List, [], _∷_, _++_, map}
 use Prim.Native.Nat.{ℕ, zero, suc, _+_, _-_, _/_, _%_}
 use lib.Bits.{bitXor}
 use Rattle.bits.specs.Bits.{bitsOf, firstWords}

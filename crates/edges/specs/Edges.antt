@@ -1,6 +1,6 @@
 -- Document 01, "Edges": those marked P, in its order. Each is a definition that contracts cite, applied, and the value that 01 gives.
 use mathlib.Core.Bool.{Bool, true, _&&_}
-use mathlib.Core.List.{List, _∷_}
+use mathlib.Core.List.{List, [], _∷_}
 use Prim.Native.Nat.{ℕ}
 use lib.ListN.{getD, take, replicate}
 use Rattle.field.specs.Field.{power}

@@ -1,7 +1,7 @@
 -- Document 01, "Field and block": GF(256), its polynomial a parameter, α = 2. An element is a byte, a number below 256, and the sum
 -- of two is `bitXor`.
 use mathlib.Core.Bool.{Bool, true, false, cond, _&&_}
-use mathlib.Core.List.{List, _∷_}
+use mathlib.Core.List.{List, [], _∷_}
 use Prim.Native.Nat.{ℕ, zero, suc, _+_, _*_, _%_}
 use lib.Dec.{leb, ltb, eqb}
 use lib.ListN.{getD}

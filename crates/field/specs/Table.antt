@@ -1,6 +1,6 @@
 -- The table by which the code multiplies. It belongs to the code: nothing here says what a mark means.
 use mathlib.Core.Path.{_≡_}
-use mathlib.Core.List.{List, _∷_, _++_}
+use mathlib.Core.List.{List, [], _∷_, _++_}
 use Prim.Native.Nat.{ℕ, zero, suc, _+_}
 use lib.Dec.{T}
 use lib.ListN.{getD, replicate}

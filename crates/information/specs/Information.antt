@@ -1,6 +1,6 @@
 -- Document 01, "Information" (000: `info_positions`, `gf16_mul`, `info_bits`, `nearest_info`). A word has 34 bits, the first in bit 33.
 use mathlib.Core.Bool.{Bool, cond, not, _&&_, true, false}
-use mathlib.Core.List.{List, _∷_}
+use mathlib.Core.List.{List, [], _∷_}
 use Prim.Native.Nat.{ℕ, zero, suc, _+_, _-_, _*_, _/_, _%_, _^_}
 use lib.Dec.{ltb, leb, eqb}
 use lib.Bits.{bitXor}

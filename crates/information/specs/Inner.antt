@@ -1,7 +1,7 @@
 -- What only inner functions use. Nobody has to believe it.
 use mathlib.Core.Path.{_≡_}
 use mathlib.Core.Bool.{Bool}
-use mathlib.Core.List.{List, _∷_}
+use mathlib.Core.List.{List, [], _∷_}
 use Prim.Native.Nat.{ℕ, _<_}
 use Rattle.information.specs.Information.{bitsWritten}
 use Rattle.information.specs.declared.Best.{Best}

@@ -1,5 +1,5 @@
 -- Generators of Han Xin's codes, printed by scripts/generator_table antt: of parity 2, 4, .. 32, four words each.
-use mathlib.Core.List.{List, _∷_}
+use mathlib.Core.List.{List, [], _∷_}
 use Prim.Native.Nat.{ℕ}
 
 unfoldable pub generators : List ℕ

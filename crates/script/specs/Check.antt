@@ -1,7 +1,7 @@
 -- Document 01, "Operations and what they turn away", Write a square: what is asked of script and payload by themselves, with 11, 12
 -- and 8 in this order, each tested over the whole script.
 use mathlib.Core.Bool.{Bool, true, cond, _&&_}
-use mathlib.Core.List.{List, _∷_}
+use mathlib.Core.List.{List, [], _∷_}
 use Prim.Native.Nat.{ℕ, zero, suc, _+_, _*_, _%_}
 use lib.Dec.{ltb, eqb, leb}
 use lib.ListN.{length, getD, take, drop, replicate}

@@ -1,7 +1,7 @@
 -- Document 01, "Writer": each command in its mode, switches only where the next character needs one, shortest ECI; all later bits 0.
 -- And the number of bits, by 01's formulas.
 use mathlib.Core.Bool.{Bool, true, false, cond, not, _&&_, _||_}
-use mathlib.Core.List.{List, _∷_, _++_}
+use mathlib.Core.List.{List, [], _∷_, _++_}
 use Prim.Native.Nat.{ℕ, suc, _+_, _-_, _*_, _/_}
 use lib.Dec.{ltb, eqb, leb}
 use lib.ListN.{length, replicate}

@@ -1,6 +1,6 @@
 -- What the bits of an ECI's prefix say of the rest.
 use mathlib.Core.Path.{_≡_, refl, ap, _∙_}
-use mathlib.Core.List.{List, _∷_}
+use mathlib.Core.List.{List, [], _∷_}
 use Prim.Native.Nat.{ℕ, zero, suc, _+_, _*_, _<_, _≤_}
 use native.Mathlib.Nat.{lt-of-lt-of-le, add-assoc}
 use native.Mathlib.Numerals.{add-one}

@@ -1,7 +1,7 @@
 -- What a word that was read does to the state of a mode: one law for each way that a turn of a mode's function goes.
 use mathlib.Core.Path.{_≡_, refl, ap, _∙_}
 use mathlib.Core.Bool.{Bool, not}
-use mathlib.Core.List.{List, _∷_, _++_}
+use mathlib.Core.List.{List, [], _∷_, _++_}
 use Prim.Native.Nat.{ℕ, zero, suc, _+_, _-_, _*_, _/_, _%_, _^_, _<_, _≤_}
 use native.Mathlib.Nat.{add-zero, mul-suc, one-mul}
 use native.Mathlib.Omega.{arith}

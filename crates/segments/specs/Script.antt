@@ -1,6 +1,6 @@
 -- Document 01, "Records", Script: commands of one byte with operands of fixed width, big-endian, and the payload beside them.
 use mathlib.Core.Bool.{cond}
-use mathlib.Core.List.{List, _∷_, _++_}
+use mathlib.Core.List.{List, [], _∷_, _++_}
 use Prim.Native.Nat.{ℕ, _/_, _%_}
 use lib.Dec.{eqb}
 use lib.ListN.{length}

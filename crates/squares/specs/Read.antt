@@ -1,7 +1,7 @@
 -- Document 01, "Operations": Read a square, and Read with known version, level, mask. The first refusal that applies is given, each tested
 -- over the whole input.
 use mathlib.Core.Bool.{Bool, true, false, cond, _&&_}
-use mathlib.Core.List.{List, _∷_}
+use mathlib.Core.List.{List, [], _∷_}
 use Prim.Native.Nat.{ℕ, _*_}
 use lib.Dec.{leb, eqb}
 use lib.ListN.{length}

@@ -1,5 +1,5 @@
 -- Document 01, "Records": the receipt, 12 bytes.
-use mathlib.Core.List.{List, _∷_}
+use mathlib.Core.List.{List, [], _∷_}
 use Prim.Native.Nat.{ℕ, _/_, _%_}
 use lib.ListN.{replicate}
 

@@ -1,6 +1,6 @@
 -- What inner functions say of each other. Nobody has to believe it: the contract of the operation does not cite it.
 use mathlib.Core.Path.{_≡_}
-use mathlib.Core.List.{List, _∷_}
+use mathlib.Core.List.{List, [], _∷_}
 use Prim.Native.Nat.{ℕ, _*_, _≤_}
 use lib.Dec.{leb, eqb}
 use lib.ListN.{length, take}

@@ -3,7 +3,7 @@ use Rattle.symbol.proofs.Coordinates.{place-left, place-above, below-ze
 use Rattle.symbol.specs.Layout.{plot, plotAll}
 use Prim.Native.Nat.{_*_}
 use mathlib.Core.Bool.{true, false}
-use mathlib.Core.List.{_∷_}
+use mathlib.Core.List.{[], _∷_}
 use native.Mathlib.Omega.{arith}
 use borrow.Author.Needs.{needs}
 use Rattle.symbol.proofs.plot.Statement.{statement}
