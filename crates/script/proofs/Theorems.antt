@@ -9,12 +9,12 @@ use lib.Dec.{ltb, eqb}
 use lib.ListN.{length, getD, drop}
 use Rattle.bits.proofs.Tests.{never}
 use Rattle.segments.specs.Script.{Segment, payloadOf, scriptOf}
-use Rattle.segments.specs.Segments.{got, parse, segmentsOf}
+use Rattle.segments.specs.Segments.{segmentsOf}
 use Rattle.segments.specs.FromData.{fromData}
 use Rattle.script.specs.declared.Check.the-variants.{Bits, Lacking, Empty}
 use Rattle.script.specs.Writer.{allHave, encodings, bitsOfSegments, paddedBits, dataOf}
 use Rattle.script.specs.Check.{Commands, none, these, commandsOf, most, capped, checkedOf, checkOf, encoded}
-use Rattle.script.proofs.Back.{AllLegal, round, encodings-length}
+use Rattle.script.proofs.Back.{AllLegal, Whole, round, encodings-length}
 use Rattle.script.proofs.Data.{data-bits, data-length, count-bits}
 use Rattle.script.proofs.Scripts.{Again, commands-again}
 
@@ -49,18 +49,15 @@ uncapped b c n e h l = go (ltb c most) refl e
     go true q f = omega arith
     go false q f = absurd (omega arith)
 
-read-back : (n : ℕ) (gs : List Segment) → AllLegal gs → allHave gs ≡ true → length (encodings gs) ≤ 8 * n → (u : ℕ) × (segmentsOf (dataOf n gs) ≡ got gs u)
-read-back n gs l h k = go (round (8 * n + 1) gs (8 * n - length (encodings gs)) (omega (arith, count-bits gs)) l h)
-  where
-    go : (u : ℕ) × (parse (8 * n + 1) (paddedBits n gs) ≡ got gs u) → (u : ℕ) × (segmentsOf (dataOf n gs) ≡ got gs u)
-    go r = (r .0, rw (data-length n gs k, data-bits n gs k) (r .1))
+read-back : (n : ℕ) (gs : List Segment) → AllLegal gs → allHave gs ≡ true → length (encodings gs) ≤ 8 * n → Whole (segmentsOf (dataOf n gs)) gs
+read-back n gs l h k = rw (data-length n gs k, data-bits n gs k) (round (8 * n + 1) gs (8 * n - length (encodings gs)) (omega (arith, count-bits gs)) l h)
 
-given-back : (s p : List ℕ) (n : ℕ) (gs : List Segment) (u : ℕ) (buffer other : List ℕ) → commandsOf s p ≡ these gs → length (dataOf n gs) ≡ n → segmentsOf (dataOf n gs) ≡ got gs u
+given-back : (s p : List ℕ) (n : ℕ) (gs : List Segment) (buffer other : List ℕ) → commandsOf s p ≡ these gs → length (dataOf n gs) ≡ n → Whole (segmentsOf (dataOf n gs)) gs
     → n ≤ 3886 → scriptOf gs ≡ s → payloadOf gs ≡ p → (length p ≡ 0 → ⊥) → length p ≤ length buffer → length s ≤ length other
     → fromData (encoded n (commandsOf s p)) buffer other
     ≡ record { refusal = 0; payloadLength = length p; scriptLength = length s; payload = p ++ drop (length p) buffer; script = s ++ drop (length s) other }
-given-back s p n gs u buffer other a d z m es ep o lp ls =
-    rw (a, z, d, le-ltb 3886 n m, es, ep, ne-eqb (length p) 0 o, le-ltb (length buffer) (length p) lp, le-ltb (length other) (length s) ls)
+given-back s p n gs buffer other a d z m es ep o lp ls =
+    rw (a, z .1, z .0, d, le-ltb 3886 n m, es, ep, ne-eqb (length p) 0 o, le-ltb (length buffer) (length p) lp, le-ltb (length other) (length s) ls)
 
 -- the encoding of what is accepted and fits n bytes has n bytes
 pub encoded-data : (s p : List ℕ) (n b : ℕ) → ((i : ℕ) → getD s i 0 < 256) → checkOf s p ≡ Bits b → b ≤ 8 * n → n ≤ 3886
@@ -84,5 +81,4 @@ round-trip s p n b buffer other h e l m lp ls =
     let g = a .again in
     let k : length (encodings gs) ≤ 8 * n = rw (encodings-length gs (g .2) (a .have)) (uncapped b (bitsOfSegments gs) n (a .bits) l m) in
     let d = data-length n gs k in
-    let r = read-back n gs (g .2) (a .have) k in
-    given-back s p n gs (r .0) buffer other (a .are) d (r .1) m (g .0) (g .1) (a .some) lp ls
+    given-back s p n gs buffer other (a .are) d (read-back n gs (g .2) (a .have) k) m (g .0) (g .1) (a .some) lp ls
