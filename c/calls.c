@@ -1,4 +1,4 @@
-#define _DEFAULT_SOURCE   /* for MAP_ANONYMOUS */
+#define _DEFAULT_SOURCE /* for MAP_ANONYMOUS */
 #include "calls.h"
 
 #include <signal.h>
@@ -7,21 +7,21 @@
 #include <string.h>
 #include <sys/mman.h>
 
-#define SLOT 65536u   /* more than any buffer, and a multiple of any page */
+#define SLOT 65536u /* more than any buffer, and a multiple of any page */
 
 enum { SQUARE, PAYLOAD, SCRIPT, RECEIPT, SLOTS };
 
-const Lent ENOUGH = {HX_BUFFER, HX_BUFFER, HX_RECEIPT};
+const Lent ENOUGH = {HX_SIZE_BUFFER, HX_SIZE_BUFFER, HX_SIZE_RECEIPT};
 
 static size_t made, failed;
 static size_t now[4];
-static int lending, calling;   /* the way, and the line of the call */
+static int lending, calling; /* the way, and the line of the call */
 static uint8_t *slots[SLOTS];
 
 static void tell(int line, const char *text)
 {
-    printf("failed: line %d: %s (version %lu, level %lu, mask %lu, turn %lu, way %d)\n", line, text, (unsigned long)now[0],
-           (unsigned long)now[1], (unsigned long)now[2], (unsigned long)now[3], lending);
+    printf("failed: line %d: %s (version %zu, level %zu, mask %zu, turn %zu, way %d)\n", line, text, now[0], now[1], now[2],
+           now[3], lending);
 }
 
 void check(int holds, int line, const char *text)
@@ -75,10 +75,7 @@ void lend_at(int way)
             slots[slot] = guarded();
 }
 
-static uint8_t *lent_part(int slot, size_t length)
-{
-    return lending == AT_START ? slots[slot] : slots[slot] + SLOT - length;
-}
+static uint8_t *lent_part(int slot, size_t length) { return lending == AT_START ? slots[slot] : slots[slot] + SLOT - length; }
 
 /* Lends so many bytes of a slot: a copy of `from`, or untouched ones. */
 static uint8_t *lend(int slot, const uint8_t *from, size_t length)
@@ -115,34 +112,34 @@ How by_known(size_t version, size_t level, size_t mask)
     return how;
 }
 
-/* What document 01 says of every reading: what a refusal leaves and what its receipt has, and what is written after a 0. */
-static void check_reading(int line, const uint8_t *square, size_t length, Lent lent, size_t number)
+/* What holds of every reading (SPECIFICATION 10.1, 2.6): what a refusal leaves and what its receipt has, and what is written after a 0. */
+static void check_reading(int line, const uint8_t *square, size_t length, Lent lent, hx_status number)
 {
-    static const uint8_t zeros[HX_RECEIPT];
+    static const uint8_t zeros[HX_SIZE_RECEIPT];
     const uint8_t *receipt = lent_part(RECEIPT, lent.receipt);
     size_t payload = 0, script = 0;
     check(length == 0 || memcmp(lent_part(SQUARE, length), square, length) == 0, line, "the square is as it was");
     check(untouched(SQUARE, length, 0, length), line, "nothing beside the square");
-    if (lent.receipt != HX_RECEIPT) {
-        check(number == HX_LENGTH, line, "a receipt of another length gets 2");
+    if (lent.receipt != HX_SIZE_RECEIPT) {
+        check(number == HX_REFUSED_LENGTH, line, "a receipt of another length gets 2");
         check(untouched(RECEIPT, lent.receipt, 0, 0), line, "and is as it was");
     } else {
         check(receipt[0] == number && receipt[11] == 0, line, "the receipt has the number, and a zero at its end");
         check(number == 0 || memcmp(receipt + 1, zeros, 11) == 0, line, "a refusal's receipt has zeros");
-        check(untouched(RECEIPT, HX_RECEIPT, 0, HX_RECEIPT), line, "nothing beside the receipt");
-        payload = hx_payload_length(receipt);
-        script = hx_script_length(receipt);
+        check(untouched(RECEIPT, HX_SIZE_RECEIPT, 0, HX_SIZE_RECEIPT), line, "nothing beside the receipt");
+        payload = hx_receipt_payload_length(receipt);
+        script = hx_receipt_script_length(receipt);
     }
     check(payload <= lent.payload && script <= lent.script, line, "payload and script fit their buffers");
     check(untouched(PAYLOAD, lent.payload, 0, payload), line, "nothing beside the payload");
     check(untouched(SCRIPT, lent.script, 0, script), line, "nothing beside the script");
 }
 
-size_t read_any(int line, How how, const uint8_t *square, size_t length, Lent lent)
+hx_status read_any(int line, How how, const uint8_t *square, size_t length, Lent lent)
 {
     const uint8_t *q = lend(SQUARE, square, length);
     uint8_t *p = lend(PAYLOAD, NULL, lent.payload), *s = lend(SCRIPT, NULL, lent.script), *r = lend(RECEIPT, NULL, lent.receipt);
-    size_t number;
+    hx_status number;
     calling = line;
     if (how.known)
         number = hx_read_known(q, length, how.version, how.level, how.mask, p, lent.payload, s, lent.script, r, lent.receipt);
@@ -152,41 +149,45 @@ size_t read_any(int line, How how, const uint8_t *square, size_t length, Lent le
     return number;
 }
 
-void refuses_at(int line, How how, const uint8_t *square, size_t length, Lent lent, size_t number)
+void refuses_at(int line, How how, const uint8_t *square, size_t length, Lent lent, hx_status number)
 {
-    size_t answer = read_any(line, how, square, length, lent);
+    hx_status answer = read_any(line, how, square, length, lent);
     char text[64];
-    sprintf(text, "the refusal is %lu, not %lu", (unsigned long)number, (unsigned long)answer);
+    sprintf(text, "the refusal is %zu, not %zu", number, answer);
     check(answer == number, line, text);
 }
 
-void reads_at(int line, How how, const uint8_t *square, size_t length, Lent lent, const Mark *mark, size_t corrected, size_t distance)
+void reads_at(int line, How how, const uint8_t *square, size_t length, Lent lent, const Mark *mark, size_t corrected,
+              size_t distance)
 {
-    size_t answer = read_any(line, how, square, length, lent);
-    const uint8_t *receipt = lent_part(RECEIPT, HX_RECEIPT);
+    hx_status answer = read_any(line, how, square, length, lent);
+    const uint8_t *receipt = lent_part(RECEIPT, HX_SIZE_RECEIPT);
     char text[64];
-    sprintf(text, "the mark is read, not refused by %lu", (unsigned long)answer);
+    sprintf(text, "the mark is read, not refused by %zu", answer);
     check(answer == 0, line, text);
     if (answer != 0)
         return;
-    check(receipt[1] == mark->version && receipt[2] == mark->level && receipt[3] == mark->mask, line, "version, level and mask");
-    sprintf(text, "the count is %lu, not %lu", (unsigned long)corrected, (unsigned long)hx_corrected(receipt));
-    check(hx_corrected(receipt) == corrected, line, text);
-    check(receipt[6] == distance, line, "the distance");
-    check(hx_payload_length(receipt) == mark->payload_length && hx_script_length(receipt) == mark->script_length, line, "lengths");
+    check(hx_receipt_version(receipt) == mark->version, line, "the version");
+    check(hx_receipt_level(receipt) == mark->level && hx_receipt_mask(receipt) == mark->mask, line, "level and mask");
+    sprintf(text, "the count is %zu, not %zu", corrected, hx_receipt_corrected(receipt));
+    check(hx_receipt_corrected(receipt) == corrected, line, text);
+    check(hx_receipt_distance(receipt) == distance, line, "the distance");
+    check(hx_receipt_payload_length(receipt) == mark->payload_length, line, "the payload's length");
+    check(hx_receipt_script_length(receipt) == mark->script_length, line, "the script's length");
     check(memcmp(lent_part(PAYLOAD, lent.payload), mark->payload, mark->payload_length) == 0, line, "the payload");
     check(memcmp(lent_part(SCRIPT, lent.script), mark->script, mark->script_length) == 0, line, "the script");
 }
 
-void writes_at(int line, const Mark *mark, size_t length, size_t number, uint8_t *square)
+void writes_at(int line, const Mark *mark, size_t length, hx_status number, uint8_t *square)
 {
     const uint8_t *s = lend(SCRIPT, mark->script, mark->script_length), *p = lend(PAYLOAD, mark->payload, mark->payload_length);
     uint8_t *q = lend(SQUARE, NULL, length);
-    size_t answer, i;
+    hx_status answer;
+    size_t i;
     char text[64];
     calling = line;
     answer = hx_write_square(mark->version, mark->level, mark->mask, s, mark->script_length, p, mark->payload_length, q, length);
-    sprintf(text, "writing answers %lu, not %lu", (unsigned long)number, (unsigned long)answer);
+    sprintf(text, "writing answers %zu, not %zu", number, answer);
     check(answer == number, line, text);
     check(untouched(SQUARE, length, 0, answer == 0 ? length : 0), line, "nothing beside the square, and no refused square");
     check(untouched(SCRIPT, mark->script_length, 0, mark->script_length), line, "nothing beside the script");

@@ -5,7 +5,7 @@
 
 #include "han_xin.h"
 
-#define UNTOUCHED 0xA5u   /* what lent bytes hold before a call */
+#define UNTOUCHED 0xA5u /* what lent bytes hold before a call */
 
 /* Buffers begin behind the forbidden page, or end before it; in the third way those of 0 bytes are NULL. */
 enum { AT_START, AT_END, AT_END_OR_NULL, WAYS };
@@ -48,21 +48,21 @@ typedef struct {
 } Mark;
 
 /* Reads, and checks that the answer is this refusal. */
-void refuses_at(int line, How how, const uint8_t *square, size_t length, Lent lent, size_t number);
+void refuses_at(int line, How how, const uint8_t *square, size_t length, Lent lent, hx_status number);
 #define REFUSES(how, square, length, lent, number) refuses_at(__LINE__, how, square, length, lent, number)
 
 /* Reads, and checks that the mark comes out with this count and distance. */
-void reads_at(int line, How how, const uint8_t *square, size_t length, Lent lent, const Mark *mark, size_t corrected, size_t distance);
+void reads_at(int line, How how, const uint8_t *square, size_t length, Lent lent, const Mark *mark, size_t corrected,
+              size_t distance);
 #define READS(how, square, length, lent, mark, corrected, distance) \
     reads_at(__LINE__, how, square, length, lent, mark, corrected, distance)
 
 /* Reads and answers the number, with no more checks than those of every call. */
-size_t read_any(int line, How how, const uint8_t *square, size_t length, Lent lent);
+hx_status read_any(int line, How how, const uint8_t *square, size_t length, Lent lent);
 
 /* Writes into a lent square of so many bytes, checks the answer, and copies what was written. */
-void writes_at(int line, const Mark *mark, size_t length, size_t number, uint8_t *square);
-#define WRITES(mark, square) \
-    writes_at(__LINE__, mark, (size_t)HX_SIDE((mark)->version) * HX_SIDE((mark)->version), 0, square)
+void writes_at(int line, const Mark *mark, size_t length, hx_status number, uint8_t *square);
+#define WRITES(mark, square) writes_at(__LINE__, mark, (size_t)HX_SIDE((mark)->version) * HX_SIDE((mark)->version), 0, square)
 #define WRITE_REFUSES(mark, length, number) writes_at(__LINE__, mark, length, number, NULL)
 
 #endif

@@ -1,5 +1,5 @@
 /* mark: makes a Han Xin mark for a serial, shows it in the terminal, flips modules as scratches would, and reads it back. */
-#define _POSIX_C_SOURCE 200809L   /* for isatty */
+#define _POSIX_C_SOURCE 200809L /* for isatty */
 #include "han_xin.h"
 
 #include <ctype.h>
@@ -24,11 +24,11 @@ static const char HELP[] =
     "The mode is numeric if SERIAL has digits only, else text if that has all its bytes, else bytes; the version is the smallest\n"
     "that fits. Exit status: 0 read, 1 refused, 2 wrong usage or a file that cannot be used.\n";
 
-static const char *const COMMANDS[] = {"", "numeric", "text", "bytes", "region one", "region two", "two-byte", "four-byte", "ECI"};
+static const char *const MODES[] = {"", "numeric", "text", "bytes", "region one", "region two", "two-byte", "four-byte", "ECI"};
 
 typedef struct {
     size_t side, length;
-    uint8_t modules[HX_SQUARE + 1];   /* one more, so that a file with too many modules is told */
+    uint8_t modules[HX_SIZE_SQUARE + 1]; /* one more, so that a file with too many modules is told */
 } Square;
 
 typedef struct {
@@ -45,7 +45,7 @@ static void stop(const char *what, const char *name)
 /* Two rows of modules to a line of the terminal, with a border of three modules. Dark on light, whatever the terminal's colours are. */
 static void show(const Square *q)
 {
-    static const char *const halves[] = {" ", "\xE2\x96\x80", "\xE2\x96\x84", "\xE2\x96\x88"};   /* none, upper, lower, both */
+    static const char *const halves[] = {" ", "\xE2\x96\x80", "\xE2\x96\x84", "\xE2\x96\x88"}; /* none, upper, lower, both */
     long border = 3, side = (long)q->side, row, column, half;
     int colours = isatty(STDOUT_FILENO);
     for (row = -border; row < side + border; row += 2) {
@@ -63,35 +63,39 @@ static void show(const Square *q)
 }
 
 /* The script of one segment for the whole payload. */
-static void segment(uint8_t *script, size_t mode, size_t length)
+static void segment(hx_script *script, unsigned mode, size_t length)
 {
-    script[0] = (uint8_t)mode;
-    script[1] = (uint8_t)(length / 256);
-    script[2] = (uint8_t)(length % 256);
+    script->length = 3;
+    script->bytes[0] = (uint8_t)mode;
+    script->bytes[1] = (uint8_t)(length / 256);
+    script->bytes[2] = (uint8_t)(length % 256);
 }
 
 /* The first mode that has all bytes, and the smallest version that fits: the writer itself is asked. */
-static size_t write_mark(const Wish *w, Square *q)
+static hx_status write_mark(const Wish *w, Square *q)
 {
-    size_t length = strlen(w->serial), mode, version, number = HX_TOO_LONG;
-    uint8_t script[3];
-    if (length > 8191)
-        return HX_TOO_LONG;   /* the largest mark has room for 7,827 digits, and for less of all else */
-    for (mode = HX_NUMERIC; mode <= HX_BYTES; mode++)
-        for (version = 1; version <= HX_VERSIONS; version++) {
+    static hx_payload payload;
+    static hx_script script;
+    unsigned mode, version;
+    hx_status status = HX_REFUSED_TOO_LONG;
+    payload.length = strlen(w->serial);
+    if (payload.length > 8191)
+        return HX_REFUSED_TOO_LONG; /* the largest mark has room for 7,827 digits, and for less of all else */
+    memcpy(payload.bytes, w->serial, payload.length);
+    for (mode = HX_MODE_NUMERIC; mode <= HX_MODE_BYTES; mode++)
+        for (version = HX_VERSION_MIN; version <= HX_VERSION_MAX; version++) {
             q->side = HX_SIDE(version);
             q->length = q->side * q->side;
-            segment(script, mode, length);
-            number = hx_write_square(version, w->level, w->mask, script, sizeof script, (const uint8_t *)w->serial, length,
-                                     q->modules, q->length);
-            if (number == HX_OK)
-                return number;
-            if (number == HX_PAYLOAD || number == HX_SCRIPT)
-                break;   /* another mode */
-            if (number != HX_TOO_LONG)
-                return number;
+            segment(&script, mode, payload.length);
+            status = hx_write(version, w->level, w->mask, &script, &payload, q->modules, q->length);
+            if (status == HX_OK)
+                return status;
+            if (status == HX_REFUSED_PAYLOAD || status == HX_REFUSED_SCRIPT)
+                break; /* another mode */
+            if (status != HX_REFUSED_TOO_LONG)
+                return status;
         }
-    return number;
+    return status;
 }
 
 /* A number of modules, or a part of the square in percent. */
@@ -108,7 +112,7 @@ static size_t count_of(const char *flips, size_t length)
 /* Flips so many different modules. */
 static void scratch(Square *q, size_t flips, unsigned long seed)
 {
-    static uint8_t taken[HX_SQUARE];
+    static uint8_t taken[HX_SIZE_SQUARE];
     uint64_t state = seed;
     memset(taken, 0, sizeof taken);
     while (flips > 0) {
@@ -123,56 +127,59 @@ static void scratch(Square *q, size_t flips, unsigned long seed)
     }
 }
 
-static void print_bytes(const uint8_t *bytes, size_t length)
+static void print_payload(const hx_payload *payload)
 {
     size_t i;
-    putchar('"');
-    for (i = 0; i < length; i++)
-        if (bytes[i] >= 32 && bytes[i] < 127 && bytes[i] != '"' && bytes[i] != '\\')
-            putchar(bytes[i]);
+    printf("  payload     %zu bytes: \"", payload->length);
+    for (i = 0; i < payload->length; i++) {
+        uint8_t byte = payload->bytes[i];
+        if (byte >= 32 && byte < 127 && byte != '"' && byte != '\\')
+            putchar(byte);
         else
-            printf("\\x%02X", bytes[i]);
-    putchar('"');
+            printf("\\x%02X", byte);
+    }
+    printf("\"\n");
 }
 
 /* The commands of a script, in words. */
-static void print_script(const uint8_t *script, size_t length)
+static void print_script(const hx_script *script)
 {
     size_t i = 0;
-    while (i < length) {
-        printf("  script      %s", COMMANDS[script[i]]);
-        if (script[i] == HX_ECI) {
-            printf(", character set %lu\n", script[i + 1] * 65536ul + script[i + 2] * 256ul + script[i + 3]);
+    while (i < script->length) {
+        const uint8_t *command = script->bytes + i;
+        printf("  script      %s", MODES[command[0]]);
+        if (command[0] == HX_MODE_ECI) {
+            printf(", character set %lu\n", command[1] * 65536ul + command[2] * 256ul + command[3]);
             i += 4;
-        } else if (script[i] == HX_FOUR_BYTE) {
+        } else if (command[0] == HX_MODE_FOUR_BYTE) {
             printf(", 4 bytes\n");
             i += 1;
         } else {
-            printf(", %lu bytes\n", script[i + 1] * 256ul + script[i + 2]);
+            printf(", %lu bytes\n", command[1] * 256ul + command[2]);
             i += 3;
         }
     }
 }
 
-/* Reads the square and prints the receipt or the refusal; answers the refusal number. */
-static size_t read_mark(const Square *q)
+static void print_refusal(hx_status status) { printf("refused: %zu, %s\n", status, hx_refusal_words(status)); }
+
+/* Reads the square and prints what was read, or the refusal. */
+static hx_status read_mark(const Square *q)
 {
-    static uint8_t payload[HX_BUFFER], script[HX_BUFFER];
-    uint8_t receipt[HX_RECEIPT];
-    size_t number = hx_read_square(q->modules, q->length, q->side, payload, sizeof payload, script, sizeof script, receipt,
-                                   sizeof receipt);
-    if (number != HX_OK) {
-        printf("refused: %lu, %s\n", (unsigned long)number, hx_refusal_words(number));
-        return number;
+    static hx_payload payload;
+    static hx_script script;
+    hx_receipt receipt;
+    hx_status status = hx_read(q->modules, q->length, q->side, &payload, &script, &receipt);
+    if (status != HX_OK) {
+        print_refusal(status);
+        return status;
     }
-    printf("read:\n  mark        version %u, %lu x %lu modules, level %u, mask %u\n", receipt[1], (unsigned long)q->side,
-           (unsigned long)q->side, receipt[2], receipt[3]);
-    printf("  repaired    codewords: %lu; information modules that differed: %u of 68\n", (unsigned long)hx_corrected(receipt), receipt[6]);
-    printf("  payload     %lu bytes: ", (unsigned long)hx_payload_length(receipt));
-    print_bytes(payload, hx_payload_length(receipt));
-    putchar('\n');
-    print_script(script, hx_script_length(receipt));
-    return number;
+    printf("read:\n  mark        version %zu, %zu x %zu modules, level %zu, mask %zu\n", receipt.version, q->side, q->side,
+           receipt.level, receipt.mask);
+    printf("  repaired    codewords: %zu; information modules that differed: %zu of 68\n", receipt.corrected, receipt.distance);
+    print_payload(&payload);
+    print_script(&script);
+    return status;
 }
 
 static void write_file(const Square *q, const char *name)
@@ -181,7 +188,7 @@ static void write_file(const Square *q, const char *name)
     size_t i;
     if (f == NULL)
         stop("cannot write ", name);
-    fprintf(f, "P1\n%lu %lu\n", (unsigned long)q->side, (unsigned long)q->side);
+    fprintf(f, "P1\n%zu %zu\n", q->side, q->side);
     for (i = 0; i < q->length; i++) {
         putc('0' + q->modules[i], f);
         if ((i + 1) % q->side == 0)
@@ -242,7 +249,7 @@ static void read_file(const char *name, Square *q)
                 q->side = q->length;
         } else if (!isdigit(c)) {
             stop("something else than 0 and 1 in ", name);
-        } else if (q->length == HX_SQUARE) {
+        } else if (q->length == HX_SIZE_SQUARE) {
             stop("more than 35,721 modules in ", name);
         } else {
             q->modules[q->length++] = (uint8_t)(c - '0');
@@ -294,10 +301,14 @@ static Wish wish_of(int count, char **arguments)
         i += taken;
         if (taken != 0)
             continue;
-        if (place == 0) w.serial = arguments[i];
-        if (place == 1) w.flips = arguments[i];
-        if (place == 2) w.seed = number_of(arguments[i], "SEED is not a number: ", (unsigned long)-1);
-        if (place == 3) stop("one argument too many (--help): ", arguments[i]);
+        if (place == 0)
+            w.serial = arguments[i];
+        if (place == 1)
+            w.flips = arguments[i];
+        if (place == 2)
+            w.seed = number_of(arguments[i], "SEED is not a number: ", (unsigned long)-1);
+        if (place == 3)
+            stop("one argument too many (--help): ", arguments[i]);
         place++;
         i++;
     }
@@ -311,9 +322,10 @@ static Wish wish_of(int count, char **arguments)
 /* A mark for the serial, before and after the flips. */
 static void make(const Wish *w, Square *q)
 {
-    size_t number = write_mark(w, q), flips;
-    if (number != HX_OK) {
-        printf("refused: %lu, %s\n", (unsigned long)number, hx_refusal_words(number));
+    hx_status status = write_mark(w, q);
+    size_t flips;
+    if (status != HX_OK) {
+        print_refusal(status);
         exit(1);
     }
     flips = count_of(w->flips, q->length);
@@ -322,7 +334,7 @@ static void make(const Wish *w, Square *q)
     if (flips == 0)
         return;
     scratch(q, flips, w->seed);
-    printf("with %lu of its %lu modules flipped:\n", (unsigned long)flips, (unsigned long)q->length);
+    printf("with %zu of its %zu modules flipped:\n", flips, q->length);
     show(q);
 }
 

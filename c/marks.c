@@ -2,7 +2,8 @@
 
 #include <string.h>
 
-size_t write_run(size_t version, size_t level, size_t mask, uint8_t mode, const uint8_t *payload, size_t length, uint8_t *square)
+hx_status write_run(size_t version, size_t level, size_t mask, uint8_t mode, const uint8_t *payload, size_t length,
+                    uint8_t *square)
 {
     uint8_t script[3];
     size_t side = HX_SIDE(version);
@@ -22,7 +23,7 @@ typedef struct {
 
 static void add(Sum *sum, const uint8_t *script, size_t script_length, const uint8_t *payload, size_t length)
 {
-    static uint8_t term[HX_SQUARE];
+    static uint8_t term[HX_SIZE_SQUARE];
     size_t side = HX_SIDE(sum->version), i;
     if (hx_write_square(sum->version, sum->level, sum->mask, script, script_length, payload, length, term, side * side) != 0)
         sum->failed = 1;
@@ -44,9 +45,9 @@ static void add_run(Sum *sum, uint8_t mode, const uint8_t *payload, size_t lengt
 static void add_nothing(Sum *sum)
 {
     static const uint8_t bytes[5] = {0xFD, 0xE0, 0, 0, 0};
-    add_run(sum, HX_NUMERIC, (const uint8_t *)"0", 1);
-    add_run(sum, HX_TEXT, (const uint8_t *)"010", 3);
-    add_run(sum, HX_BYTES, bytes, sizeof bytes);
+    add_run(sum, HX_MODE_NUMERIC, (const uint8_t *)"0", 1);
+    add_run(sum, HX_MODE_TEXT, (const uint8_t *)"010", 3);
+    add_run(sum, HX_MODE_BYTES, bytes, sizeof bytes);
 }
 
 static uint8_t text_character(unsigned value)
@@ -57,17 +58,22 @@ static uint8_t text_character(unsigned value)
 /* The first four bits: a mark for each of its ones. What those marks hold besides is taken off `data`. */
 static void add_mode(Sum *sum, uint8_t *data)
 {
-    static const uint8_t eci[7] = {HX_ECI, 0, 0, 0, HX_TEXT, 0, 1}, pair[2] = {0xB0, 0xA1};
-    static const uint8_t held[4][4] = {{0x10, 0x17, 0xFD, 0}, {0x29, 0x3F, 0, 0}, {0x40, 0, 0xFF, 0xF0}, {0x80, 0x02, 0x93, 0xF0}};
+    static const uint8_t eci[7] = {HX_MODE_ECI, 0, 0, 0, HX_MODE_TEXT, 0, 1}, pair[2] = {0xB0, 0xA1};
+    static const uint8_t held[4][4] = {
+        {0x10, 0x17, 0xFD, 0}, {0x29, 0x3F, 0, 0}, {0x40, 0, 0xFF, 0xF0}, {0x80, 0x02, 0x93, 0xF0}};
     unsigned mode = data[0] / 16u, bit;
     size_t i;
     for (bit = 0; bit < 4; bit++) {
         if ((mode >> bit & 1u) == 0)
             continue;
-        if (bit == 0) add_run(sum, HX_NUMERIC, (const uint8_t *)"5", 1);
-        if (bit == 1) add_run(sum, HX_TEXT, (const uint8_t *)"a", 1);
-        if (bit == 2) add_run(sum, HX_REGION_ONE, pair, 2);
-        if (bit == 3) add(sum, eci, sizeof eci, (const uint8_t *)"a", 1);
+        if (bit == 0)
+            add_run(sum, HX_MODE_NUMERIC, (const uint8_t *)"5", 1);
+        if (bit == 1)
+            add_run(sum, HX_MODE_TEXT, (const uint8_t *)"a", 1);
+        if (bit == 2)
+            add_run(sum, HX_MODE_REGION_ONE, pair, 2);
+        if (bit == 3)
+            add(sum, eci, sizeof eci, (const uint8_t *)"a", 1);
         for (i = 0; i < 4; i++)
             data[i] = (uint8_t)(data[i] ^ held[bit][i]);
     }
@@ -83,8 +89,8 @@ static void add_start(Sum *sum, uint8_t *data)
         low[i] = text_character(c & 31u);
         high[i] = text_character(c & 32u);
     }
-    add_run(sum, HX_TEXT, low, 3);
-    add_run(sum, HX_TEXT, high, 3);
+    add_run(sum, HX_MODE_TEXT, low, 3);
+    add_run(sum, HX_MODE_TEXT, high, 3);
     data[0] = (uint8_t)(data[0] & 0xF0);
     data[1] = 0;
     data[2] = (uint8_t)(data[2] & 3);
@@ -94,12 +100,12 @@ static void add_start(Sum *sum, uint8_t *data)
 static void add_end(Sum *sum, uint8_t last, size_t room)
 {
     static uint8_t payload[4096];
-    uint8_t script[7] = {HX_FOUR_BYTE, HX_TEXT, 0, 2, HX_BYTES, 0, 0};
+    uint8_t script[7] = {HX_MODE_FOUR_BYTE, HX_MODE_TEXT, 0, 2, HX_MODE_BYTES, 0, 0};
     size_t bytes = room - 8;
     script[5] = (uint8_t)(bytes / 256);
     script[6] = (uint8_t)(bytes % 256);
     memset(payload, 0, sizeof payload);
-    memcpy(payload, "\x81\x30\x81\x30" "aa", 6);
+    memcpy(payload, "\x81\x30\x81\x30\x61\x61", 6);
     add(sum, script, sizeof script, payload, 6 + bytes);
     payload[5 + bytes] = last;
     add(sum, script, sizeof script, payload, 6 + bytes);
@@ -118,12 +124,12 @@ int craft(size_t version, size_t level, size_t mask, const uint8_t *data, size_t
     memcpy(rest, data, room);
     add_mode(&sum, rest);
     add_start(&sum, rest);
-    for (i = 0; i + 3 < room; i++)   /* bytes start at bit 17 */
+    for (i = 0; i + 3 < room; i++) /* bytes start at bit 17 */
         bytes[i] = (uint8_t)(rest[i + 2] << 1 | rest[i + 3] >> 7);
-    add_run(&sum, HX_BYTES, bytes, room - 3);
+    add_run(&sum, HX_MODE_BYTES, bytes, room - 3);
     memset(bytes, 0, sizeof bytes);
-    add_run(&sum, HX_BYTES, bytes, room - 3);
-    add_end(&sum, (uint8_t)(rest[room - 1] & 127), room);   /* the bytes above left seven bits */
+    add_run(&sum, HX_MODE_BYTES, bytes, room - 3);
+    add_end(&sum, (uint8_t)(rest[room - 1] & 127), room); /* the bytes above left seven bits */
     if (sum.count % 2 == 0)
         add_nothing(&sum);
     return !sum.failed;
@@ -131,7 +137,7 @@ int craft(size_t version, size_t level, size_t mask, const uint8_t *data, size_t
 
 size_t data_modules(size_t version, size_t level, size_t room, size_t *places)
 {
-    static uint8_t first[HX_SQUARE], other[HX_SQUARE], changes[HX_SQUARE], bytes[4096];
+    static uint8_t first[HX_SIZE_SQUARE], other[HX_SIZE_SQUARE], changes[HX_SIZE_SQUARE], bytes[4096];
     uint64_t seed = 1;
     size_t side = HX_SIDE(version), turn, i, n = 0;
     memset(changes, 0, sizeof changes);

@@ -5,7 +5,8 @@
 #include "han_xin.h"
 
 /* A numeric, text or bytes segment as a whole script: writes the mark and answers as hx_write_square does. */
-size_t write_run(size_t version, size_t level, size_t mask, uint8_t mode, const uint8_t *payload, size_t length, uint8_t *square);
+hx_status write_run(size_t version, size_t level, size_t mask, uint8_t mode, const uint8_t *payload, size_t length,
+                    uint8_t *square);
 
 /* Writes the mark whose data codewords are `data`, of which there are `room` (at least 9), whatever they say. Every mark
  * that the writer makes has data that can be read; this one need not. Answers 0 if the writer refused. */

@@ -1,5 +1,5 @@
 /* How much stack a call needs: each runs in a thread of its own whose stack was painted before, on the marks that need most. Ends
- * with 1 if one needs more than HX_STACK, which the header promises. */
+ * with 1 if one needs more than HX_SIZE_STACK, which the header promises. */
 #include "marks.h"
 
 #include <pthread.h>
@@ -9,28 +9,31 @@
 
 #define PAINT 0xA5
 #define SIZE (4u * 1024u * 1024u)
-#define ROOM 3264u   /* data codewords of version 84, level 0 */
+#define ROOM 3264u /* data codewords of version 84, level 0 */
 
-static uint8_t square[HX_SQUARE], payload[HX_BUFFER], script[HX_BUFFER], receipt[HX_RECEIPT];
-static size_t payload_length, script_length, answer;
+static uint8_t square[HX_SIZE_SQUARE], payload[HX_SIZE_BUFFER], script[HX_SIZE_BUFFER], receipt[HX_SIZE_RECEIPT];
+static size_t payload_length, script_length;
+static hx_status answer;
 
 static void *nothing(void *unused) { return unused; }
 
 static void *reads_square(void *unused)
 {
-    answer = hx_read_square(square, HX_SQUARE, 189, payload, HX_BUFFER, script, HX_BUFFER, receipt, HX_RECEIPT);
+    answer =
+        hx_read_square(square, HX_SIZE_SQUARE, 189, payload, HX_SIZE_BUFFER, script, HX_SIZE_BUFFER, receipt, HX_SIZE_RECEIPT);
     return unused;
 }
 
 static void *reads_known(void *unused)
 {
-    answer = hx_read_known(square, HX_SQUARE, 84, 0, 0, payload, HX_BUFFER, script, HX_BUFFER, receipt, HX_RECEIPT);
+    answer = hx_read_known(square, HX_SIZE_SQUARE, 84, 0, 0, payload, HX_SIZE_BUFFER, script, HX_SIZE_BUFFER, receipt,
+                           HX_SIZE_RECEIPT);
     return unused;
 }
 
 static void *writes_square(void *unused)
 {
-    answer = hx_write_square(84, 0, 0, script, script_length, payload, payload_length, square, HX_SQUARE);
+    answer = hx_write_square(84, 0, 0, script, script_length, payload, payload_length, square, HX_SIZE_SQUARE);
     return unused;
 }
 
@@ -57,14 +60,13 @@ static size_t touched(void *(*run)(void *))
 }
 
 /* Measures a call, whose answer must be `expected`; answers 1 if it needs more than the header says. */
-static int measure(const char *name, void *(*run)(void *), size_t expected)
+static int measure(const char *name, void *(*run)(void *), hx_status expected)
 {
     size_t bytes = touched(run) - touched(nothing);
-    printf("  %-64s %7lu bytes of stack\n", name, (unsigned long)bytes);
-    if (answer == expected && bytes <= HX_STACK)
+    printf("  %-64s %7zu bytes of stack\n", name, bytes);
+    if (answer == expected && bytes <= HX_SIZE_STACK)
         return 0;
-    printf("failed: it answers %lu, not %lu, or needs more than %lu bytes\n", (unsigned long)answer, (unsigned long)expected,
-           (unsigned long)HX_STACK);
+    printf("failed: it answers %zu, not %zu, or needs more than %u bytes\n", answer, expected, HX_SIZE_STACK);
     return 1;
 }
 
@@ -89,7 +91,7 @@ static void script_of_switches(void)
     size_t pairs = (8 * ROOM - 16) / 24, i;
     payload_length = 2 * pairs;
     script_length = 3;
-    script[0] = HX_REGION_TWO;
+    script[0] = HX_MODE_REGION_TWO;
     script[1] = (uint8_t)(payload_length / 256);
     script[2] = (uint8_t)(payload_length % 256);
     for (i = 0; i < pairs; i++) {
@@ -101,7 +103,7 @@ static void script_of_switches(void)
 /* Each thirteenth codeword of the stream changed: at most ten in a block, all in reach. */
 static void damage(void)
 {
-    static size_t places[HX_SQUARE];
+    static size_t places[HX_SIZE_SQUARE];
     size_t i;
     data_modules(84, 0, ROOM, places);
     for (i = 0; i < 3886; i += 13)
@@ -112,10 +114,10 @@ int main(void)
 {
     int failed = 0;
     craft_switches();
-    failed |= measure("hx_read_square, 2,175 switches of region that never end", reads_square, HX_DATA);
-    failed |= measure("hx_read_known, the same", reads_known, HX_DATA);
+    failed |= measure("hx_read_square, 2,175 switches of region that never end", reads_square, HX_REFUSED_DATA);
+    failed |= measure("hx_read_known, the same", reads_known, HX_REFUSED_DATA);
     damage();
-    failed |= measure("hx_read_square, the same with 299 codewords to repair", reads_square, HX_DATA);
+    failed |= measure("hx_read_square, the same with 299 codewords to repair", reads_square, HX_REFUSED_DATA);
     script_of_switches();
     failed |= measure("hx_write_square, 1,087 switches of region", writes_square, HX_OK);
     failed |= measure("hx_read_square, what was written", reads_square, HX_OK);

@@ -1,10 +1,34 @@
 /* Han Xin marks (ISO/IEC 20830) for C: three functions on numbers and byte buffers. C99, and C++ too.
  *
- * Link with target/staticlib/libhan_xin.a, which `rt staticlib han_xin` writes (Linux on x86-64). Of the C library it needs memcpy
- * and memset.
+ * Link with target/lib/libhan_xin.a, which c/library writes (Linux on x86-64). Of the C library it needs memcpy and memset.
  *
- * A SQUARE has side x side bytes, row by row, 0 light, 1 dark. A mark of version 1 to 84 has side 2 x version + 21, so 23 to 189.
- * Level (of error correction) and mask are each 0 to 3.
+ * NAMES. HX_SIZE_.. are numbers of bytes, HX_REFUSED_.. refusals, HX_MODE_.. the commands of a script, HX_VERSION_.. the versions
+ * of marks, HX_LIBRARY_.. the version of this library. hx_receipt_.. reads a field of a receipt.
+ *
+ * A SQUARE has side x side bytes, row by row, 0 light, 1 dark. Row 0 is the top row and column 0 the left one: the module at a
+ * row and column is byte row x side + column. A mark of version 1 to 84 has side 2 x version + 21, so 23 to 189. Level (of error
+ * correction) and mask are each 0 to 3. In each corner stands a finder of 7 x 7 modules (# dark, . light):
+ *
+ *   top left      #######    #######   top right
+ *                 #......    ......#
+ *                 #.#####    #####.#
+ *                 #.#....    ....#.#
+ *                 #.#.###    ###.#.#
+ *                 #.#.###    ###.#.#
+ *                 #.#.###    ###.#.#
+ *
+ *   bottom left   #######    ###.#.#   bottom right
+ *                 ......#    ###.#.#
+ *                 #####.#    ###.#.#
+ *                 ....#.#    ....#.#
+ *                 ###.#.#    #####.#
+ *                 ###.#.#    ......#
+ *                 ###.#.#    #######
+ *
+ * The two outer dark lines of a finder meet in one of its corners. For three finders that is the corner of the square; for the one
+ * at the bottom left it is the corner towards the middle. So the finders tell how a square is turned. The functions do not turn it:
+ * the caller does, until the finders stand as above. They do not tell whether it is mirrored: a mark mirrored at the diagonal from
+ * bottom left to top right has the same finders. Where a camera may mirror, the caller tries both.
  *
  * The PAYLOAD is the bytes that a mark holds. The SCRIPT beside it says how they are written: commands of one byte, each with an
  * operand of fixed width, big-endian, which take the payload bytes from first to last:
@@ -13,10 +37,10 @@
  *   1 numeric          2 bytes, a length, not 0         as many as the length: digits 30 to 39 hex
  *   2 text             2 bytes, a length                as many: bytes 00 to 1B and 20 to 7F hex
  *   3 bytes            2 bytes, a length up to 8,191    as many: any bytes
- *   4 region one       2 bytes, an even length          as many: pairs B0 to D7 or A1 to A3, then A1 to FE; A8, then A1 to C0 hex;
- *                                                       and those of region two, after a switch
- *   5 region two       2 bytes, an even length          as many: pairs D8 to F7, then A1 to FE hex; and those of region one, after
- *                                                       a switch
+ *   4 region one       2 bytes, an even length          as many: pairs B0 to D7 or A1 to A3, then A1 to FE; A8, then A1 to C0
+ *                                                       hex; and those of region two, after a switch
+ *   5 region two       2 bytes, an even length          as many: pairs D8 to F7, then A1 to FE hex; and those of region one,
+ *                                                       after a switch
  *   6 two-byte         2 bytes, an even length          as many: pairs 81 to FE, then 40 to 7E or 80 to FE hex
  *   7 four-byte        none                             4: 81 to FE, 30 to 39, 81 to FE, 30 to 39 hex
  *   8 ECI              3 bytes, up to 2,097,151         none: the number of a character set
@@ -33,17 +57,17 @@
  *               the blocks were wrong and repaired
  *
  * WHAT IS WRITTEN. A function returns 0 or a refusal number. After a refusal payload, script and square are as they were, and the
- * receipt has the number and eleven zeros; if the receipt has not 12 bytes, nothing at all is written. After 0, payload and script
- * hold what the receipt's lengths say, and their bytes beyond that are as they were; the square is written whole.
+ * receipt has the number and eleven zeros; if the receipt is not 12 bytes long, nothing at all is written. After 0, payload and
+ * script hold what the receipt's lengths say, and their bytes beyond that are as they were; the square is written whole.
  *
- * BUFFERS. Each is a pointer with its number of bytes. A buffer that is written (payload, script and receipt of a reading, square of
- * hx_write_square) must not overlap any other buffer of the call, and no other thread may use it meanwhile; nor may another thread
- * write to one that is read. The pointer must be valid for as many bytes as are given. A buffer of 0 bytes is allowed, and nothing is
- * read or written through its pointer: the test passes NULL with 0 for every buffer. The language's documents do not promise that for
- * NULL; the address of any byte is safe.
+ * BUFFERS. Each is a pointer with its number of bytes. A buffer that is written (payload, script and receipt of a reading, square
+ * of hx_write_square) must not overlap any other buffer of the call, and no other thread may use it meanwhile; nor may another
+ * thread write to one that is read. The pointer must be valid for as many bytes as are given. A buffer of 0 bytes is allowed, and
+ * nothing is read or written through its pointer: the test passes NULL with 0 for every buffer. The language's documents do not
+ * promise that for NULL; the address of any byte is safe.
  *
  * THREADS, MEMORY. There is no state between calls, no heap, no input or output: threads may call at the same time, each with its
- * own buffers. A call needs at most HX_STACK bytes of stack.
+ * own buffers. A call needs at most HX_SIZE_STACK bytes of stack.
  *
  * What the functions do is defined in crates/squares/specs and proved; crates/squares/proofs/Theorems.antt has the theorem.
  */
@@ -57,95 +81,180 @@
 extern "C" {
 #endif
 
-#define HX_VERSIONS 84u       /* versions are 1 to 84 */
-#define HX_RECEIPT 12u        /* bytes of a receipt */
-#define HX_BUFFER 12288u      /* bytes that are enough for any payload, and for any script */
-#define HX_SQUARE 35721u      /* bytes that are enough for any square, 189 x 189 */
-#define HX_STACK 524288u      /* bytes of stack that are enough for any call (measured by c/stack.c) */
+/* The version of this library. hx_library_version tells which one was linked. */
+#define HX_LIBRARY_MAJOR 0
+#define HX_LIBRARY_MINOR 1
+#define HX_LIBRARY_PATCH 0
+#define HX_LIBRARY_VERSION "0.1.0"
+
+#define HX_SIZE_RECEIPT 12u   /* bytes of a receipt */
+#define HX_SIZE_BUFFER 12288u /* bytes that are enough for any payload, and for any script */
+#define HX_SIZE_SQUARE 35721u /* bytes that are enough for any square, 189 x 189 */
+#define HX_SIZE_STACK 524288u /* bytes of stack that are enough for any call (measured by c/stack.c) */
+
+#define HX_VERSION_MIN 1u /* of marks */
+#define HX_VERSION_MAX 84u
 #define HX_SIDE(version) (2u * (version) + 21u)
 
-/* The refusals. Those that apply to a function are tested in the order that stands there, each over the whole input, and the first
- * that applies is given. The number 5 belongs to an operation that is not in this interface. */
+/* What the functions return: HX_OK or a refusal. It is printed by "%zu". */
+typedef size_t hx_status;
+
+/* The refusals, with what hx_refusal_words says of each. Those that apply to a function are tested in the order that stands
+ * there, each over the whole input, and the first that applies is given. HX_REFUSED_RANGE is also for a version and level without
+ * blocks, of which there are none today. The number 5 belongs to an operation that is not in this interface. */
 enum hx_refusal {
-    HX_OK = 0,
-    HX_RANGE = 1,         /* side, version, level or mask outside its range, or no blocks for this version and level (none today) */
-    HX_LENGTH = 2,        /* the receipt has not 12 bytes, or the square not side x side */
-    HX_MODULE = 3,        /* a byte of the square is above 1 */
-    HX_INFORMATION = 4,   /* more than 10 information modules differ from every level and mask of this version */
-    HX_BLOCK = 6,         /* a block has more wrong codewords than can be repaired */
-    HX_DATA = 7,          /* the data end inside a segment, or have a value or mode that there is not */
-    HX_EMPTY = 8,         /* not one payload byte */
-    HX_PAYLOAD_FULL = 9,  /* the payload is longer than its buffer */
-    HX_SCRIPT_FULL = 10,  /* the script is longer than its buffer */
-    HX_SCRIPT = 11,       /* the script has an unknown command, an operand cut short or not allowed, or its lengths do not add up
-                             to the payload's */
-    HX_PAYLOAD = 12,      /* a payload byte, pair or four bytes that its mode lacks */
-    HX_TOO_LONG = 13      /* more bits than this version and level have room for */
+    HX_OK = 0,                   /* no refusal */
+    HX_REFUSED_RANGE = 1,        /* side, version, level or mask is out of range */
+    HX_REFUSED_LENGTH = 2,       /* the receipt is not 12 bytes long, or the square is not side x side bytes long */
+    HX_REFUSED_MODULE = 3,       /* a byte of the square is neither 0 nor 1 */
+    HX_REFUSED_INFORMATION = 4,  /* more than 10 information modules differ from those of every level and mask */
+    HX_REFUSED_BLOCK = 6,        /* a block has more wrong codewords than can be repaired */
+    HX_REFUSED_DATA = 7,         /* the data end inside a segment, or contain an unknown mode or value */
+    HX_REFUSED_EMPTY = 8,        /* the payload is empty */
+    HX_REFUSED_PAYLOAD_FULL = 9, /* the payload is longer than its buffer */
+    HX_REFUSED_SCRIPT_FULL = 10, /* the script is longer than its buffer */
+    HX_REFUSED_SCRIPT = 11,      /* the script has an unknown command or a bad operand, or does not match the payload's length */
+    HX_REFUSED_PAYLOAD = 12,     /* part of the payload cannot be encoded in this mode */
+    HX_REFUSED_TOO_LONG = 13     /* script and payload do not fit this version and level */
 };
 
 /* The commands of a script. */
-enum hx_command {
-    HX_NUMERIC = 1,
-    HX_TEXT = 2,
-    HX_BYTES = 3,
-    HX_REGION_ONE = 4,
-    HX_REGION_TWO = 5,
-    HX_TWO_BYTE = 6,
-    HX_FOUR_BYTE = 7,
-    HX_ECI = 8
+enum hx_mode {
+    HX_MODE_NUMERIC = 1,
+    HX_MODE_TEXT = 2,
+    HX_MODE_BYTES = 3,
+    HX_MODE_REGION_ONE = 4,
+    HX_MODE_REGION_TWO = 5,
+    HX_MODE_TWO_BYTE = 6,
+    HX_MODE_FOUR_BYTE = 7,
+    HX_MODE_ECI = 8
 };
 
 /* Reads a square: version from its side, level and mask from its information modules.
  *   square, square_length     the modules, side x side bytes
  *   side                      23 to 189, odd
- *   payload, payload_length   where the payload is written; HX_BUFFER bytes are always enough
- *   script, script_length     where the script is written; HX_BUFFER bytes are always enough
- *   receipt, receipt_length   where the receipt is written; receipt_length is HX_RECEIPT
- * Refusals, in this order: 2 receipt not 12 bytes; 1 side even or not 23 to 189; 2 square not side x side bytes; 3; 4; 1 no blocks
- * for this version and level; 6; 7; 8; 9; 10. */
-size_t hx_read_square(const uint8_t *square, size_t square_length, size_t side, uint8_t *payload, size_t payload_length,
-                      uint8_t *script, size_t script_length, uint8_t *receipt, size_t receipt_length);
+ *   payload, payload_length   where the payload is written; HX_SIZE_BUFFER bytes are always enough
+ *   script, script_length     where the script is written; HX_SIZE_BUFFER bytes are always enough
+ *   receipt, receipt_length   where the receipt is written; receipt_length is HX_SIZE_RECEIPT
+ * Refusals, in this order: 2 receipt not 12 bytes long; 1 side even or not 23 to 189; 2 square not side x side bytes long; 3; 4;
+ * 1 no blocks for this version and level; 6; 7; 8; 9; 10. */
+hx_status hx_read_square(const uint8_t *square, size_t square_length, size_t side, uint8_t *payload, size_t payload_length,
+                         uint8_t *script, size_t script_length, uint8_t *receipt, size_t receipt_length);
 
 /* Reads a square whose version, level and mask are known; its information modules are not looked at. Other parameters as above.
- * Refusals, in this order: 2 receipt not 12 bytes; 1 version, level or mask outside its range; 2 square not side x side bytes; 3;
- * 1 no blocks for this version and level; 6; 7; 8; 9; 10. */
-size_t hx_read_known(const uint8_t *square, size_t square_length, size_t version, size_t level, size_t mask, uint8_t *payload,
-                     size_t payload_length, uint8_t *script, size_t script_length, uint8_t *receipt, size_t receipt_length);
+ * Refusals, in this order: 2 receipt not 12 bytes long; 1 version, level or mask out of range; 2 square not side x side bytes
+ * long; 3; 1 no blocks for this version and level; 6; 7; 8; 9; 10. */
+hx_status hx_read_known(const uint8_t *square, size_t square_length, size_t version, size_t level, size_t mask, uint8_t *payload,
+                        size_t payload_length, uint8_t *script, size_t script_length, uint8_t *receipt, size_t receipt_length);
 
 /* Writes a mark: all modules of the square.
  *   version, level, mask      1 to 84, 0 to 3, 0 to 3
  *   script, script_length     the commands
  *   payload, payload_length   the bytes that the commands take
  *   square, square_length     where the modules are written; square_length is HX_SIDE(version) x HX_SIDE(version)
- * Refusals, in this order: 1 version, level or mask outside its range, or no blocks for this version and level; 2; 11; 12; 8; 13. */
-size_t hx_write_square(size_t version, size_t level, size_t mask, const uint8_t *script, size_t script_length,
-                       const uint8_t *payload, size_t payload_length, uint8_t *square, size_t square_length);
+ * Refusals, in this order: 1 version, level or mask out of range, or no blocks for this version and level; 2; 11; 12; 8; 13. */
+hx_status hx_write_square(size_t version, size_t level, size_t mask, const uint8_t *script, size_t script_length,
+                          const uint8_t *payload, size_t payload_length, uint8_t *square, size_t square_length);
 
-/* The two-byte numbers of a receipt. */
-static inline size_t hx_corrected(const uint8_t *receipt) { return (size_t)receipt[4] * 256u + receipt[5]; }
-static inline size_t hx_payload_length(const uint8_t *receipt) { return (size_t)receipt[7] * 256u + receipt[8]; }
-static inline size_t hx_script_length(const uint8_t *receipt) { return (size_t)receipt[9] * 256u + receipt[10]; }
+/* The words that stand beside the refusal in this header, or "unknown refusal number". They last as long as the program. */
+const char *hx_refusal_words(hx_status status);
 
-/* A refusal in words. */
-static inline const char *hx_refusal_words(size_t number)
+/* HX_LIBRARY_VERSION of the library that was linked. */
+const char *hx_library_version(void);
+
+/* The fields of a receipt. */
+static inline size_t hx_receipt_pair(const uint8_t *receipt, size_t at) { return (size_t)receipt[at] * 256u + receipt[at + 1]; }
+static inline hx_status hx_receipt_status(const uint8_t *receipt) { return receipt[0]; }
+static inline size_t hx_receipt_version(const uint8_t *receipt) { return receipt[1]; }
+static inline size_t hx_receipt_level(const uint8_t *receipt) { return receipt[2]; }
+static inline size_t hx_receipt_mask(const uint8_t *receipt) { return receipt[3]; }
+static inline size_t hx_receipt_corrected(const uint8_t *receipt) { return hx_receipt_pair(receipt, 4); }
+static inline size_t hx_receipt_distance(const uint8_t *receipt) { return receipt[6]; }
+static inline size_t hx_receipt_payload_length(const uint8_t *receipt) { return hx_receipt_pair(receipt, 7); }
+static inline size_t hx_receipt_script_length(const uint8_t *receipt) { return hx_receipt_pair(receipt, 9); }
+
+/* THE SAME WITH STRUCTS. hx_read, hx_read_as and hx_write call the three functions with buffers that are always long enough.
+ * Payload and script are of different types, so a call in which they are swapped does not compile. */
+typedef struct {
+    size_t length; /* how many of the bytes are the payload */
+    uint8_t bytes[HX_SIZE_BUFFER];
+} hx_payload;
+
+typedef struct {
+    size_t length; /* how many of the bytes are the script */
+    uint8_t bytes[HX_SIZE_BUFFER];
+} hx_script;
+
+typedef struct {
+    hx_status status;
+    size_t version, level, mask, corrected, distance, payload_length, script_length;
+} hx_receipt;
+
+/* The fields of the 12 bytes of a receipt as numbers. */
+static inline hx_receipt hx_receipt_decode(const uint8_t *receipt)
 {
-    switch (number) {
-    case HX_OK: return "no refusal";
-    case HX_RANGE: return "side, version, level or mask is outside its range";
-    case HX_LENGTH: return "the receipt has not 12 bytes, or the square not side x side";
-    case HX_MODULE: return "a byte of the square is neither 0 nor 1";
-    case HX_INFORMATION: return "more than 10 information modules differ from every level and mask";
-    case HX_BLOCK: return "a block has more wrong codewords than can be repaired";
-    case HX_DATA: return "the data end inside a segment, or have a value or mode that there is not";
-    case HX_EMPTY: return "there is not one payload byte";
-    case HX_PAYLOAD_FULL: return "the payload is longer than its buffer";
-    case HX_SCRIPT_FULL: return "the script is longer than its buffer";
-    case HX_SCRIPT: return "the script has a wrong command or operand, or does not take exactly the payload";
-    case HX_PAYLOAD: return "the payload has a byte that its mode lacks";
-    case HX_TOO_LONG: return "the payload does not fit this version and level";
-    default: return "no such refusal";
-    }
+    hx_receipt fields;
+    fields.status = hx_receipt_status(receipt);
+    fields.version = hx_receipt_version(receipt);
+    fields.level = hx_receipt_level(receipt);
+    fields.mask = hx_receipt_mask(receipt);
+    fields.corrected = hx_receipt_corrected(receipt);
+    fields.distance = hx_receipt_distance(receipt);
+    fields.payload_length = hx_receipt_payload_length(receipt);
+    fields.script_length = hx_receipt_script_length(receipt);
+    return fields;
 }
+
+/* hx_read_square. After a refusal both lengths and all fields but the status are 0, and the bytes are as they were. */
+static inline hx_status hx_read(const uint8_t *square, size_t square_length, size_t side, hx_payload *payload, hx_script *script,
+                                hx_receipt *receipt)
+{
+    uint8_t bytes[HX_SIZE_RECEIPT];
+    hx_status status = hx_read_square(square, square_length, side, payload->bytes, HX_SIZE_BUFFER, script->bytes, HX_SIZE_BUFFER,
+                                      bytes, HX_SIZE_RECEIPT);
+    *receipt = hx_receipt_decode(bytes);
+    payload->length = receipt->payload_length;
+    script->length = receipt->script_length;
+    return status;
+}
+
+/* hx_read_known: the square is read as one of this version, level and mask. What is left after a refusal is as above. */
+static inline hx_status hx_read_as(const uint8_t *square, size_t square_length, size_t version, size_t level, size_t mask,
+                                   hx_payload *payload, hx_script *script, hx_receipt *receipt)
+{
+    uint8_t bytes[HX_SIZE_RECEIPT];
+    hx_status status = hx_read_known(square, square_length, version, level, mask, payload->bytes, HX_SIZE_BUFFER, script->bytes,
+                                     HX_SIZE_BUFFER, bytes, HX_SIZE_RECEIPT);
+    *receipt = hx_receipt_decode(bytes);
+    payload->length = receipt->payload_length;
+    script->length = receipt->script_length;
+    return status;
+}
+
+/* hx_write_square. A length above HX_SIZE_BUFFER is refused before all else: 9 the payload's, then 10 the script's. */
+static inline hx_status hx_write(size_t version, size_t level, size_t mask, const hx_script *script, const hx_payload *payload,
+                                 uint8_t *square, size_t square_length)
+{
+    if (payload->length > HX_SIZE_BUFFER)
+        return HX_REFUSED_PAYLOAD_FULL;
+    if (script->length > HX_SIZE_BUFFER)
+        return HX_REFUSED_SCRIPT_FULL;
+    return hx_write_square(version, level, mask, script->bytes, script->length, payload->bytes, payload->length, square,
+                           square_length);
+}
+
+/* A pointer to another struct is an error in C++, but only a warning in some C compilers (gcc before 14). Two structs as the ends
+ * of a conditional expression are an error in all of them, so each pointer is tried so; sizeof evaluates nothing. */
+#ifndef __cplusplus
+#define HX_OF_TYPE(type, pointer) ((void)sizeof(1 ? *(pointer) : *(const type *)0), (pointer))
+#define hx_read(square, square_length, side, payload, script, receipt) \
+    hx_read(square, square_length, side, HX_OF_TYPE(hx_payload, payload), HX_OF_TYPE(hx_script, script), receipt)
+#define hx_read_as(square, square_length, version, level, mask, payload, script, receipt) \
+    hx_read_as(square, square_length, version, level, mask, HX_OF_TYPE(hx_payload, payload), HX_OF_TYPE(hx_script, script), \
+               receipt)
+#define hx_write(version, level, mask, script, payload, square, square_length) \
+    hx_write(version, level, mask, HX_OF_TYPE(hx_script, script), HX_OF_TYPE(hx_payload, payload), square, square_length)
+#endif
 
 #ifdef __cplusplus
 }

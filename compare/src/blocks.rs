@@ -31,7 +31,7 @@ pub fn our_parity(block: &mut [u8], parity: usize) -> usize {
     unsafe { hx_parity(block.as_mut_ptr(), block.len(), parity) }
 }
 
-/// The original's answer by document 01: its None is 5 or 6 by 01's conditions, and a refused block counts as untouched.
+/// The original's answer with refusal numbers: its None is 5 or 6 by SPECIFICATION 10.5, and a refused block counts as untouched.
 fn theirs(field: &Field<u8>, block: &mut [u8], parity: usize) -> Answer {
     let before = block.to_vec();
     match field.correct(block, parity, 1) {

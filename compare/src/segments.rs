@@ -225,7 +225,7 @@ fn written(tally: &mut Tally, random: &mut Random) {
     println!("segments: {checked} scripts checked against another count of bits");
 }
 
-/// Scripts and payloads with the number that document 01 gives them.
+/// Scripts and payloads with the number that SPECIFICATION 10.8 gives them.
 pub const SCRIPTS: [(&[u8], &[u8], usize); 24] = [
     (&[], &[], 8),
     (&[], &[1], 11),

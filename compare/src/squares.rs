@@ -128,7 +128,7 @@ impl Both {
         &self.plans[version - 1]
     }
 
-    /// The original's answer, with document 01's number where it refuses.
+    /// The original's answer, with the refusal number of SPECIFICATION 10.9 or 10.10 where it refuses.
     fn theirs(&self, square: &[u8], how: Reading) -> Answer {
         let modules: Vec<bool> = square.iter().map(|&b| b == 1).collect();
         let (read, version, (level, mask, distance)) = match how {

@@ -37,7 +37,7 @@ pub fn our_layout(version: usize, out: &mut [u8]) -> usize {
     unsafe { hx_layout(version, out.as_mut_ptr(), out.len()) }
 }
 
-/// The original's answers by document 01: its panics and its answers outside the ranges are 1 by 01's conditions.
+/// The original's answers as refusal numbers: its panics and its answers outside the ranges are 1 (SPECIFICATION 10.2 to 10.4).
 fn legal(v: usize) -> bool {
     (1..=84).contains(&v)
 }

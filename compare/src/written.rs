@@ -1,4 +1,5 @@
-//! A second writer of segments, with its own tables: scripts and payloads as bits, or document 01's refusal; and random segments.
+//! A second writer of segments, with its own tables: scripts and payloads as bits, or the refusal (SPECIFICATION 10.8); and random
+//! segments.
 use crate::tools::Random;
 
 /// Bits of data, high bit first.
@@ -126,7 +127,7 @@ fn subsets() -> [Vec<u8>; 2] {
 /// A command of a script: its mode, and the bytes of the payload that it takes or its ECI.
 type Command<'a> = (usize, &'a [u8], usize);
 
-/// The commands of a script, or nothing where document 01 answers 11.
+/// The commands of a script, or nothing where the answer is 11 (SPECIFICATION 10.8).
 fn commands<'a>(mut script: &[u8], mut payload: &'a [u8]) -> Option<Vec<Command<'a>>> {
     let mut commands = Vec::new();
     while let Some((&mode, rest)) = script.split_first() {
@@ -155,7 +156,7 @@ fn commands<'a>(mut script: &[u8], mut payload: &'a [u8]) -> Option<Vec<Command<
     payload.is_empty().then_some(commands)
 }
 
-/// The bits of any script and payload, or document 01's refusal: 11, 12 or 8.
+/// The bits of any script and payload, or the refusal of SPECIFICATION 10.8: 11, 12 or 8.
 pub fn encode(script: &[u8], payload: &[u8]) -> Result<Bits, usize> {
     let mut bits = Bits::default();
     for (mode, bytes, eci) in commands(script, payload).ok_or(11usize)? {

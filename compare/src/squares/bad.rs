@@ -1,4 +1,4 @@
-//! Readings of bad input, on our side alone: document 01 says what is right. Lent buffers hold MARK before each call.
+//! Readings of bad input, on our side alone: SPECIFICATION 10.9 and 10.10 say what is right. Lent buffers hold MARK before each call.
 use super::{Both, Mark, Reading, packed, read};
 use crate::han_xin::{decode_data, nearest_info};
 use crate::tools::{MARK, Random, differs, hex, same};
@@ -162,7 +162,7 @@ fn beyond(both: &mut Both, mark: &Mark, square: &[u8], random: &mut Random) -> V
     }
 }
 
-/// Two faults at once, for each two neighbours in document 01's order that can meet.
+/// Two faults at once, for each two neighbours in the order of SPECIFICATION 10.9 that can meet.
 fn orders(both: &mut Both, version: usize, level: usize, random: &mut Random) -> usize {
     let mark = both.random_mark(random, version, level, 1);
     // An unknown mode behind no payload; an ECI alone; an unknown mode behind some text.

@@ -120,7 +120,7 @@ impl Plan {
         }
     }
 
-    /// Document 01's number for a square that the original refuses with this level and mask: 6 where it refuses a block; 8 where its
+    /// The refusal number for a square that the original refuses with this level and mask: 6 where it refuses a block; 8 where its
     /// parse of the same data behind some payload is accepted; else 7.
     pub fn refusal(&self, square: &[u8], level: usize, mask: usize) -> usize {
         let bit = |&i: &usize| square[i] ^ self.masks[mask][i];

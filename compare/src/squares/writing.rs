@@ -92,7 +92,7 @@ fn full(both: &mut Both, version: usize, level: usize) -> usize {
     3
 }
 
-/// Versions, levels, masks, squares and scripts that writing turns away; and two faults at once, in document 01's order.
+/// Versions, levels, masks, squares and scripts that writing turns away; and two faults at once, in the order of SPECIFICATION 10.11.
 fn bad(both: &mut Both, version: usize, level: usize, random: &mut Random) -> usize {
     let mark = both.random_mark(random, version, level, 3);
     let full = mark.square.len();

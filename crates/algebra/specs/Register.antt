@@ -6,7 +6,7 @@ use native.Mathlib.Decide.{decLe}
 use Rattle.field.specs.Field.{mul}
 use Rattle.algebra.specs.Sum.{_⊕_, sum}
 
--- by how much the register f of length l misses s at x (001: the discrepancy)
+-- by how much the register f of length l misses s at x (reed_solomon.rs: the discrepancy)
 unfoldable pub discrepancy : ℕ → (ℕ → ℕ) → (ℕ → ℕ) → ℕ → ℕ → ℕ
 discrepancy poly s f l x = sum (λ i. mul poly (f i) (s (x - i))) (suc l)
 

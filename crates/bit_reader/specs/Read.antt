@@ -1,4 +1,4 @@
--- Document 01, "Segments": the bit reader joins the data codewords to a bit position.
+-- What inner functions say: the number at a bit position of the data (SPECIFICATION 8.1). The contracts of operations do not cite it.
 use mathlib.Core.Bool.{cond}
 use mathlib.Core.List.{List}
 use Prim.Native.Nat.{ℕ, _*_}

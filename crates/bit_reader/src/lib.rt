@@ -1,5 +1,5 @@
-// Document 01, "Segments": the bit reader joins the data codewords to a bit position (000: `Bits`). Thin functions over the struct; the work
-// is done on a slice and a number.
+// SPECIFICATION 8.1: the bit reader joins the data codewords to a bit position (han_xin.rs: `Bits`). Thin functions over the struct; the
+// work is done on a slice and a number.
 ghost use mathlib.Core.Path.{_≡_};
 ghost use Rattle.bit_reader.specs.Read.{readAt};
 use bits::Word;

@@ -1,4 +1,4 @@
--- Document 01, "Segments" and "Codewords": bytes as bits, high bit first, the number that bits say, and bits cut into words of one width.
+-- SPECIFICATION 6.2 and 8.1: bytes as bits, high bit first, the number that bits say, and bits cut into words of one width.
 use mathlib.Core.Bool.{cond}
 use mathlib.Core.List.{List, [], _∷_, _++_}
 use Prim.Native.Nat.{ℕ, zero, suc, _+_, _*_, _/_, _%_, _^_}

@@ -1,4 +1,4 @@
-// Bits of bytes, high bit first (000: `Bits`): functions on a slice and a position.
+// Bits of bytes, high bit first (han_xin.rs: `Bits`): functions on a slice and a position.
 ghost use mathlib.Core.Path.{_≡_};
 ghost use Prim.Native.Nat.{_+_, _*_, _<_, _≤_};
 ghost use mathlib.Core.List.{_++_};

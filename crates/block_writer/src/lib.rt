@@ -1,4 +1,4 @@
-// Blocks made of data, one after the other (document 01, "Blocks"): each block's data followed by their parity. The row of the version and
+// Blocks made of data, one after the other (SPECIFICATION 7.5): each block's data followed by their parity. The row of the version and
 // level is lent: three batches of count, data, parity.
 ghost use mathlib.Core.Path.{_≡_};
 ghost use mathlib.Core.List.{_++_};

@@ -1,4 +1,4 @@
--- Document 01, "Blocks" (000: `BLOCKS`): the rows of the block table, the rule of a row, and how a stream is cut into blocks.
+-- SPECIFICATION 7 (han_xin.rs: `BLOCKS`): the rows of the block table, the rule of a row, and how a stream is cut into blocks.
 use mathlib.Core.Bool.{Bool, _&&_, _||_}
 use mathlib.Core.List.{List, [], _∷_, _++_}
 use Prim.Native.Nat.{ℕ, zero, suc, _+_, _-_, _*_}
@@ -18,7 +18,7 @@ rowAt k = take 9 (drop (9 * k) blocks)
 unfoldable pub rowOf : ℕ → ℕ → List ℕ
 rowOf v level = rowAt (4 * (v - 1) + level)
 
--- The rule of a row.
+-- The rule of a row (7.3).
 
 -- a batch of count c, data d, parity p: where the count is above 0, 0 < parity < data + parity ≤ 255
 unfoldable pub batchHolds : ℕ → ℕ → ℕ → Bool
@@ -40,11 +40,11 @@ dataModules [] = 0
 dataModules (zero ∷ ks) = suc (dataModules ks)
 dataModules (suc k ∷ ks) = dataModules ks
 
--- refusal 1: a version and level whose row breaks the rule, or a version with too few data modules
+-- refusal 1 (7.4): a version and level whose row breaks the rule, or a version with too few data modules
 unfoldable pub hasBlocks : ℕ → ℕ → Bool
 hasBlocks v level = rowHolds (rowOf v level) (totalOf v) && leb (8 * totalOf v) (dataModules (layoutOf v))
 
--- The blocks of a stream.
+-- The blocks of a stream (7.2, 7.5).
 
 -- a block has so many data codewords, then so many of parity
 pub record Shape : Type 0 where

@@ -1,3 +1,3 @@
--- Document 01: "Blocks".
+-- SPECIFICATION 7: the block table and blocks.
 pub mod Table
 pub mod Blocks

@@ -1,4 +1,4 @@
--- Made by scripts/block_table antt of scripts/blocks.txt. Document 01, "Codewords" and "Blocks" (000: `TOTAL_CODEWORDS`, `BLOCKS`).
+-- SPECIFICATION 7.1. Made by scripts/block_table antt of scripts/blocks.txt (han_xin.rs: `TOTAL_CODEWORDS`, `BLOCKS`).
 use mathlib.Core.List.{List, [], _∷_}
 use Prim.Native.Nat.{ℕ}
 

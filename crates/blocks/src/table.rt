@@ -1,5 +1,5 @@
 // Made by scripts/block_table rattle of scripts/blocks.txt: codewords in all of each version, and for each version and level
-// three batches of count, data, parity (000: `TOTAL_CODEWORDS`, `BLOCKS`); those of versions 1 to 10 once more by themselves.
+// three batches of count, data, parity (han_xin.rs: `TOTAL_CODEWORDS`, `BLOCKS`); those of versions 1 to 10 once more by themselves.
 pub const TOTAL_CODEWORDS: [u16; 84] = [
     25,
     37,

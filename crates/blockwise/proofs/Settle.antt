@@ -125,3 +125,11 @@ block-small [] ws S h j l = absurd (omega arith)
 block-small (b ∷ bs) [] S h j l = absurd h
 block-small (b ∷ bs) (w ∷ ws) (more i p s S) h zero l = omega (arith, h .0)
 block-small (b ∷ bs) (w ∷ ws) (more i p s S) h (suc j) l = block-small bs ws S (h .1) j (omega arith)
+
+-- what Correct a block gives for block j
+pub at-settled : (bs : List Shape) (ws : List (List ℕ)) → Sound bs → Shaped bs ws → (j : ℕ) → j < length bs
+    → correctOf 0x163 1 (parityAt bs j) (blockAt ws j) ≡ settled (blockAt ws j) (found bs ws j)
+at-settled [] ws S h j l = absurd (omega arith)
+at-settled (b ∷ bs) [] S h j l = absurd h
+at-settled (b ∷ bs) (w ∷ ws) (more i p s S) h zero l = block-settled b w i p s (h .0)
+at-settled (b ∷ bs) (w ∷ ws) (more i p s S) h (suc j) l = at-settled bs ws S (h .1) j (omega arith)

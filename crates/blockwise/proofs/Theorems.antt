@@ -8,11 +8,8 @@ use Prim.Native.Nat.{ℕ, _/_, _≤_, _<_}
 use native.Mathlib.Omega.{arith}
 use lib.Dec.{T}
 use lib.ListN.{length}
-use Rattle.field.proofs.Field.{passes}
-use Rattle.field.proofs.Instances.{passes-163}
 use Rattle.reed_solomon.specs.Block.{distance, nearest}
 use Rattle.reed_solomon.proofs.Search.{Bytes}
-use Rattle.reed_solomon.proofs.Nearest.{Near, near-one}
 use Rattle.blocks.specs.Blocks.{rowLength, rowHolds, Shape, totalSize, totalData, cut, joined, dataParts, cutData}
 use Rattle.blocks.proofs.Rows.{Sound}
 use Rattle.blocks.proofs.Cuts.{Shaped, cut-shaped, cut-joined, length-joined, data-back}
@@ -20,7 +17,7 @@ use Rattle.blockwise.specs.Blockwise.{refusalOf, countOf, blocksOf, corr
 use Rattle.blockwise.proofs.Corrects.{blocks-shaped, joined-size}
 use Rattle.blockwise.proofs.Batches as batches
 use Rattle.blockwise.proofs.Batches.{cut-front}
-use Rattle.blockwise.proofs.Settle.{Coded, lost-refused, each-settled, either, coded-shaped, coded-each, block-small}
+use Rattle.blockwise.proofs.Settle.{Coded, lost-refused, each-settled, either, coded-shaped, coded-each}
 use Rattle.blockwise.proofs.Written.{encoded-coded, joined-bytes}
 
 -- The length of a row that holds the rule for a total is that total, so that the row holds it for its own length.
@@ -69,11 +66,6 @@ module _ (bs : List Shape) (sound : Sound bs) where
           (λ (vs : List (List ℕ)). ((j : ℕ) → j < length bs → nearest 0x163 1 (parityAt bs j) (blockAt (cut bs s) j) ≡ some (blockAt vs j)) × (countOf (corrected bs s) ≡ differences (cut bs s) vs))
           (sym (q .1)) (x .1 .are, q .2))
     ]
-
-    -- No block has two codewords in reach.
-    pub no-block-has-two : (j : ℕ) → j < length bs → (u v : List ℕ) → Near 0x163 1 (parityAt bs j) (blockAt (cut bs s) j) u
-        → Near 0x163 1 (parityAt bs j) (blockAt (cut bs s) j) v → u ≡ v
-    no-block-has-two j l u v = near-one 0x163 1 (parityAt bs j) (blockAt (cut bs s) j) (passes 0x163 passes-163) (block-small bs (cut bs s) sound shaped j l) u v
 
     -- The blocks as they are left, joined, are a stream with these blocks.
     pub cut-corrected : cut bs (joined (blocksOf (corrected bs s))) ≡ blocksOf (corrected bs s)

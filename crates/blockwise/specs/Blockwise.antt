@@ -1,5 +1,5 @@
--- Document 01, "Blocks" and "Words of demand 3": each block of a stream corrected by itself, first to last, and each block of data given
--- its parity. The field is that of 163 hex, the first root α^1.
+-- SPECIFICATION 7.5 and 11.3: each block of a stream corrected by itself, first to last, and each block of data given its parity. The
+-- field is that of 163 hex, the first root α^1.
 use mathlib.Core.Bool.{cond}
 use mathlib.Core.List.{List, [], _∷_, map}
 use Prim.Native.Nat.{ℕ, _+_}
@@ -51,7 +51,7 @@ encoded (b ∷ bs) (d ∷ ds) = withParity d (parityOf 0x163 1 (b .parity) d) �
 abbrev pub streamOf : List Shape → List ℕ → List ℕ
 streamOf bs ds = joined (encoded bs (cutData bs ds))
 
--- 01's number and the count for each case of the answer
+-- the refusal number (SPECIFICATION 2.7) and the count for each case of the answer
 unfoldable pub numberOf : Blocks → ℕ
 numberOf (Corrected n) = 0
 numberOf Refused = 6

@@ -1,4 +1,3 @@
--- Document 01, "Blocks" and "Words of demand 3": blocks corrected and made, one after the other. `Inner` is for inner functions: nobody
--- has to believe it.
+-- SPECIFICATION 7.5: blocks corrected and made, one after the other. `Inner` is for inner functions: nobody has to believe it.
 pub mod Blockwise
 pub mod Inner

@@ -1,4 +1,4 @@
-// Blocks corrected, and their data gathered, one after the other (document 01, "Blocks"). The row of the version and level is lent: three
+// Blocks corrected, and their data gathered, one after the other (SPECIFICATION 7.2, 7.5). The row of the version and level is lent: three
 // batches of count, data, parity. The crate `block_writer` makes blocks of data.
 ghost use mathlib.Core.Path.{_≡_};
 ghost use mathlib.Core.Bool.{true};
@@ -12,7 +12,7 @@ ghost use Rattle.blockwise.specs.Blockwise.{corrected, refusalOf, countO
 ghost use Rattle.blockwise.specs.Inner.{batchAt, batches, spliced, answerOf, Corrects, Gathers};
 use corrector::Correction;
 
-// What became of the blocks: the count of all corrections, or the refusal 6 of document 01.
+// What became of the blocks: the count of all corrections, or refusal 6 (SPECIFICATION 2.7).
 pub enum Blocks {
     Corrected(usize),
     Refused,

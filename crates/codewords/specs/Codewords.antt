@@ -1,11 +1,11 @@
--- Document 01, "Codewords" (000: `masked`, first half of `decode_data`): from a square to its stream of codewords, and back.
+-- SPECIFICATION 6 (han_xin.rs: `masked`, first half of `decode_data`): from a square to its stream of codewords, and back.
 use mathlib.Core.List.{List, [], _∷_, _++_, map}
 use Prim.Native.Nat.{ℕ, zero, suc, _+_, _-_, _/_, _%_}
 use lib.Bits.{bitXor}
 use Rattle.bits.specs.Bits.{bitsOf, firstWords}
 use lib.ListN.{length, getD, set, replicate}
 
--- Masks: 1 where the module is inverted.
+-- Masks (6.1): 1 where the module is inverted.
 
 -- the mask at i = row + 1 and j = column + 1
 unfoldable pub maskAt : ℕ → ℕ → ℕ → ℕ
@@ -22,7 +22,7 @@ maskBit s mask at = maskAt mask (at / s + 1) (at % s + 1)
 abbrev pub codewordsOf : ℕ → List ℕ → List ℕ
 codewordsOf n bs = firstWords 8 n bs
 
--- Placement: kinds are those of the layout, 0 data, 1 information, 2 light, 3 dark; m is the mask by place, i the first place.
+-- Placement (6.2, 6.3): kinds are those of the layout, 0 data, 1 information, 2 light, 3 dark; m is the mask by place, i the first place.
 
 -- the data modules of a square, row by row, unmasked
 unfoldable pub dataBits : (ℕ → ℕ) → ℕ → List ℕ → List ℕ → List ℕ
@@ -40,7 +40,7 @@ placed m i (suc zero ∷ ks) ds = 0 ∷ placed m (suc i) ks ds
 placed m i (suc (suc zero) ∷ ks) ds = 0 ∷ placed m (suc i) ks ds
 placed m i (suc (suc (suc k)) ∷ ks) ds = 1 ∷ placed m (suc i) ks ds
 
--- Interleave: the codewords of a square go to stream places 0, 13, 26, .., then 1, 14, .. up to start 12.
+-- Interleave (6.4): the codewords of a square go to stream places 0, 13, 26, .., then 1, 14, .. up to start 12.
 
 -- n places from p on, 13 apart
 unfoldable pub steps : ℕ → ℕ → List ℕ

@@ -1,4 +1,4 @@
-// Document 01, "Codewords": the masks, and the codewords of a square as its stream and back (000: `masked`, first half of `decode_data`).
+// SPECIFICATION 6: the masks, and the codewords of a square as its stream and back (han_xin.rs: `masked`, first half of `decode_data`).
 // The data modules are read by `placement` and `small_marks` and written by `drawing`. Buffers are lent whole, with the count that is used.
 ghost use mathlib.Core.Path.{_≡_};
 ghost use mathlib.Core.List.{_++_};

@@ -9,7 +9,7 @@ use Rattle.script.specs.declared.Check.the-variants.{Bits, Malformed, Lacking, 
 abbrev pub Is : Outcome → ℕ → ℕ → ℕ → List ℕ → List ℕ → Type 0
 Is o refusal n m p c = (refusal ≡ o .refusal) × (n ≡ o .payloadLength) × (m ≡ o .scriptLength) × (p ≡ o .payload) × (c ≡ o .script)
 
--- document 01's number, and the number of bits beside it
+-- the refusal number, and the number of bits beside it
 abbrev pub Says : Check → ℕ → ℕ → Type 0
 Says (Bits b) refusal n = (refusal ≡ 0) × (n ≡ b)
 Says Malformed refusal n = (refusal ≡ 11) × (n ≡ 0)

@@ -5,7 +5,7 @@ ghost use Rattle.segments.specs.FromData.{fromData};
 ghost use Rattle.script.specs.Inner.{checkOf};
 ghost use Rattle.compare_segments.specs.Is.{Is, Says};
 
-// Document 01's number, and the lengths of payload and script beside it.
+// SPECIFICATION 10.7: the refusal number, and the lengths of payload and script beside it.
 #[repr(C)]
 pub struct Told {
     pub refusal: usize,
@@ -57,7 +57,7 @@ pub extern "C" fn compare_segments_from_data(
     }
 }
 
-// Document 01's number, and the number of bits beside it.
+// SPECIFICATION 10.8: the refusal number, and the number of bits beside it.
 #[repr(C)]
 pub struct Checked {
     pub refusal: usize,

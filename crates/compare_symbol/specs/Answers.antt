@@ -1,4 +1,4 @@
--- What the exports for the comparison answer outside the ranges of what they compare. No part of document 01.
+-- What the exports for the comparison answer outside the ranges of what they compare. No part of the specification.
 use mathlib.Core.Bool.{cond, not, _&&_}
 use Prim.Native.Nat.{ℕ, _+_}
 use lib.Dec.{leb, ltb, eqb}

@@ -2,7 +2,7 @@
 ghost use mathlib.Core.Path.{_≡_};
 ghost use Rattle.symbol.specs.Version.{sideVersion, versionOf};
 ghost use Rattle.symbol.specs.Layout.{layoutRefusal, layoutWritten, refusalOf};
-ghost use Rattle.information.specs.Information.{infoRefusal, infoWord, wordRefusalOf, wordIn, nearestRefusal, nearestLevel, nearestMask, nearestDistance, nearestRefusalOf, levelOf, maskOf, distanceOf};
+ghost use Rattle.information.specs.Information.{infoOf, infoAnswer, nearestOf, nearestAnswer};
 ghost use Rattle.compare_symbol.specs.Answers.{totalAnswer, rowAnswer, maskAnswer, positionAnswer};
 use information::InfoBits;
 use information::NearestInfo;
@@ -67,7 +67,7 @@ pub extern "C" fn hx_layout(version: usize, out: &mut [u8]) -> usize
 }
 
 fn word(a: InfoBits) -> Bits
-    ensures { λ r. ⌜ (r .number ≡ wordRefusalOf a) × (r .word ≡ wordIn a) ⌝ }
+    ensures { λ r. ⌜ (r .number ≡ infoAnswer a .number) × (r .word ≡ infoAnswer a .word) ⌝ }
 {
     match a {
         InfoBits::Word(w) => Bits { number: 0, word: w },
@@ -77,13 +77,13 @@ fn word(a: InfoBits) -> Bits
 
 #[no_mangle]
 pub extern "C" fn hx_info_bits(version: usize, level: usize, mask: usize) -> Bits
-    ensures { λ r. ⌜ (r .number ≡ infoRefusal version level mask) × (r .word ≡ infoWord version level mask) ⌝ }
+    ensures { λ r. ⌜ (r .number ≡ infoOf version level mask .number) × (r .word ≡ infoOf version level mask .word) ⌝ }
 {
     word(information::info_bits(version, level, mask))
 }
 
 fn nearest(a: NearestInfo) -> Near
-    ensures { λ r. ⌜ (r .number ≡ nearestRefusalOf a) × (r .level ≡ levelOf a) × (r .mask ≡ maskOf a) × (r .distance ≡ distanceOf a) ⌝ }
+    ensures { λ r. ⌜ (r .number ≡ nearestAnswer a .number) × (r .level ≡ nearestAnswer a .level) × (r .mask ≡ nearestAnswer a .mask) × (r .distance ≡ nearestAnswer a .distance) ⌝ }
 {
     match a {
         NearestInfo::Nearest {
@@ -107,7 +107,7 @@ fn nearest(a: NearestInfo) -> Near
 
 #[no_mangle]
 pub extern "C" fn hx_nearest_info(version: usize, first: u64, second: u64) -> Near
-    ensures { λ r. ⌜ (r .number ≡ nearestRefusal version) × (r .level ≡ nearestLevel version first second) × (r .mask ≡ nearestMask version first second) × (r .distance ≡ nearestDistance version first second) ⌝ }
+    ensures { λ r. ⌜ (r .number ≡ nearestOf version first second .number) × (r .level ≡ nearestOf version first second .level) × (r .mask ≡ nearestOf version first second .mask) × (r .distance ≡ nearestOf version first second .distance) ⌝ }
 {
     nearest(information::nearest_info(version, first, second))
 }

@@ -46,7 +46,7 @@ module _ (poly first parity : ℕ) (w : List ℕ) where
 flag-same : (x n : ℕ) → orOneMore (eqb x x) n ≡ n
 flag-same x n = simp (eq-eqb x x refl)
 
-distance-self : (w : List ℕ) → distance w w ≡ 0
+pub distance-self : (w : List ℕ) → distance w w ≡ 0
 unfolding distance
 distance-self [] = refl
 distance-self (x ∷ xs) = flag-same x (distance xs xs) ∙ distance-self xs

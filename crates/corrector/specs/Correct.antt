@@ -1,4 +1,4 @@
--- Document 01, "Operations": Correct a block. What it answers, and what is then in the block.
+-- SPECIFICATION 3.7 and 10.5: Correct a block. What it answers, and what is then in the block.
 use mathlib.Core.Bool.{Bool, true, false}
 use mathlib.Core.Option.{Option, none, some}
 use mathlib.Core.List.{List}
@@ -30,7 +30,7 @@ orOutcome false a b = b
 unfoldable pub correctOf : ℕ → ℕ → ℕ → List ℕ → Outcome
 correctOf poly first parity block = orOutcome (unfit parity block) (refused 5 block) (settled block (nearest poly first parity block))
 
--- 01's number and the count for each case of the answer, with the block
+-- the refusal number (SPECIFICATION 2.7) and the count for each case of the answer, with the block
 unfoldable pub outcome : Correction → List ℕ → Outcome
 outcome (Corrected n) block = record { number = 0; count = n; block = block }
 outcome Unfit block = refused 5 block

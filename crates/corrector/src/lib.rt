@@ -1,4 +1,4 @@
-// Document 01's Correct a block (001: `correct`), on a block that may be lent from the middle of a longer buffer.
+// SPECIFICATION 10.5: Correct a block (reed_solomon.rs: `correct`), on a block that may be lent from the middle of a longer buffer.
 ghost use mathlib.Core.Path.{_≡_};
 ghost use mathlib.Core.Bool.{false};
 ghost use Prim.Native.Nat.{_≤_, _<_};
@@ -13,15 +13,15 @@ use reed_solomon::locator;
 use reed_solomon::syndromes;
 use remainder::Register;
 
-// What became of a block: the count of its corrections, or the refusals 5 and 6 of document 01.
+// What became of a block: the count of its corrections, or refusal 5 or 6 (SPECIFICATION 2.7).
 pub enum Correction {
     Corrected(usize),
     Unfit,
     OutOfReach,
 }
 
-// The block set to its codeword in reach where its syndromes s are not all zero (001: `solve`). Nothing is written before it is known
-// that the errors found leave no syndrome.
+// The block set to its codeword in reach where its syndromes s are not all zero (reed_solomon.rs: `solve`). Nothing is written before it is
+// known that the errors found leave no syndrome.
 fn repair(
     field: &[u16; 1280],
     first: usize,
@@ -160,7 +160,7 @@ pub fn correct_short(block: &mut [u8], parity: usize) -> Correction
     correct_left(block, parity, left)
 }
 
-// Document 01's Correct a block: GF(256) under 163 hex, first root α^1. A table for one short block costs more than it saves.
+// SPECIFICATION 10.5, Correct a block: GF(256) under 163 hex, first root α^1. A table for one short block costs more than it saves.
 pub fn correct(block: &mut [u8], parity: usize) -> Correction
     ensures { λ r. ⌜ outcome r (now (block .exit)) ≡ correctOf 0x163 1 parity (now (block .entry)) ⌝ }
 {

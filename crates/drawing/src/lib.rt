@@ -1,4 +1,4 @@
-// Document 01, "Codewords": a square with its patterns and the masked bits of codewords in its data modules.
+// SPECIFICATION 6.2, 6.3: a square with its patterns and the masked bits of codewords in its data modules.
 // Patterns are drawn first, all modules alike; then the square is walked row by row, and where eight data modules stand together they are
 // written at once, as the bytes of one number.
 ghost use mathlib.Core.Path.{_≡_};

@@ -1,2 +1,2 @@
--- The edges of document 01, proved.
+-- The edges of SPECIFICATION 12.1, proved.
 pub mod Theorems

@@ -1,4 +1,4 @@
--- Each edge of document 01 that is marked P holds. Computed; assumes nothing.
+-- Each edge of SPECIFICATION 12.1 holds. Computed; assumes nothing.
 use lib.Dec.{T}
 use Rattle.field.specs.Field.{timesAlpha, raised}
 use Rattle.symbol.specs.Version.{isSide, sideRefusal, sideVersion}

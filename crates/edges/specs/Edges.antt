@@ -1,4 +1,4 @@
--- Document 01, "Edges": those marked P, in its order. Each is a definition that contracts cite, applied, and the value that 01 gives.
+-- SPECIFICATION 12.1: the edges that are proved, in its order. Each is a definition that contracts cite, applied, and the value there.
 use mathlib.Core.Bool.{Bool, true, _&&_}
 use mathlib.Core.List.{List, [], _∷_}
 use Prim.Native.Nat.{ℕ}

@@ -1,2 +1,2 @@
--- Document 01, "Edges".
+-- SPECIFICATION 12.1: the edges that are proved.
 pub mod Edges

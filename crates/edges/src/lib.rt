@@ -1,1 +1,1 @@
-// The edges of document 01 that are to be proved: one list in specs/, one theorem in proofs/. There is no code here.
+// The edges of SPECIFICATION 12.1: one list in specs/, one theorem in proofs/. There is no code here.

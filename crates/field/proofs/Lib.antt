@@ -3,3 +3,4 @@ pub mod Xor
 pub mod Field
 pub mod Entries
 pub mod Instances
+pub mod Theorems

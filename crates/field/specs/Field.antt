@@ -1,5 +1,5 @@
--- Document 01, "Field and block": GF(256), its polynomial a parameter, α = 2. An element is a byte, a number below 256, and the sum
--- of two is `bitXor`.
+-- SPECIFICATION 3.1, 3.2: GF(256), its polynomial a parameter, α = 2. An element is a byte, a number below 256, and the sum of two is
+-- `bitXor`.
 use mathlib.Core.Bool.{Bool, true, false, cond, _&&_}
 use mathlib.Core.List.{List, [], _∷_}
 use Prim.Native.Nat.{ℕ, zero, suc, _+_, _*_, _%_}
@@ -57,8 +57,8 @@ isOnto ps = below 255 (λ k. ltb (find (suc k) ps) 255)
 unfoldable pub isOnce : List ℕ → Bool
 isOnce ps = below 255 (λ k. eqb (find (getD ps k 0) ps) k)
 
--- Document 01's order test: the polynomial has degree 8, and α has order 255: its powers from 0 to 254 are all bytes but 0, each once,
--- and the next is 1 again
+-- SPECIFICATION 3.2, the order test: the polynomial has degree 8, and α has order 255: its powers from 0 to 254 are all bytes but 0, each
+-- once, and the next is 1 again
 unfoldable pub orderTest : ℕ → Bool
 orderTest poly =
     leb 256 poly && (ltb poly 512 && (eqb (power poly 255) 1 && (isOnto (powers poly 255 1) && isOnce (powers poly 255 1))))

@@ -1,5 +1,5 @@
-// GF(256) by a lent table (001: `Field::new`, `mul`, `div`, `power`). The polynomial is the table's own, and no step of a product
-// goes by the value of a byte.
+// SPECIFICATION 3.1: GF(256) by a lent table (reed_solomon.rs: `Field::new`, `mul`, `div`, `power`). The polynomial is the table's own, and
+// no step of a product goes by the value of a byte.
 ghost use mathlib.Core.Path.{_≡_};
 ghost use Prim.Native.Nat.{_+_, _<_, _≤_};
 ghost use lib.ListN.{getD};

@@ -4,7 +4,7 @@ ghost use mathlib.Core.Path.{_≡_};
 ghost use Rattle.squares.specs.Read.{readingOf, readOf, readKnownOf};
 ghost use Rattle.squares.specs.Write.{writingOf, writeOf};
 
-// Read a square.
+// SPECIFICATION 10.9: Read a square.
 #[no_mangle]
 pub extern "C" fn hx_read_square(
     square: &[u8],
@@ -18,7 +18,7 @@ pub extern "C" fn hx_read_square(
     reader::read_square(square, side, payload, script, receipt)
 }
 
-// Read with known version, level, mask.
+// SPECIFICATION 10.10: Read with known version, level, mask.
 #[no_mangle]
 pub extern "C" fn hx_read_known(
     square: &[u8],
@@ -34,7 +34,7 @@ pub extern "C" fn hx_read_known(
     reader::read_known(square, version, level, mask, payload, script, receipt)
 }
 
-// Write a square.
+// SPECIFICATION 10.11: Write a square.
 #[no_mangle]
 pub extern "C" fn hx_write_square(
     version: usize,

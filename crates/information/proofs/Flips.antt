@@ -86,23 +86,33 @@ both v lo g h a b =
     (place-same (sideOf v) big true) (a ∙ sym l) (b ∙ sym l) in
     omega (arith, first, second)
 
--- a square of bits whose two copies are word k, and one that differs in at most 8 information modules
-pub flips-nearest : (v k : ℕ) (g h : List ℕ) → 1 ≤ v → v ≤ 84 → k < 16 → length g ≡ sideOf v * sideOf v → length h ≡ sideOf v * sideOf v
+-- a square of bits whose two copies are word k: the distance of another square from that word is at most the information modules that differ
+pub flips-distance : (v k : ℕ) (g h : List ℕ) → 1 ≤ v → length g ≡ sideOf v * sideOf v → length h ≡ sideOf v * sideOf v
     → ((i : ℕ) → getD g i 0 < 2) → ((i : ℕ) → getD h i 0 < 2)
-    → copyOf (sideOf v) false g ≡ wordAt v k → copyOf (sideOf v) true g ≡ wordAt v k → infoFlips (layoutOf v) g h ≤ 8
-    → (nearest v (copyOf (sideOf v) false h) (copyOf (sideOf v) true h) ≡ k) × (distance v (copyOf (sideOf v) false h) (copyOf (sideOf v) true h) k ≤ infoFlips (layoutOf v) g h)
+    → copyOf (sideOf v) false g ≡ wordAt v k → copyOf (sideOf v) true g ≡ wordAt v k
+    → distance v (copyOf (sideOf v) false h) (copyOf (sideOf v) true h) k ≤ infoFlips (layoutOf v) g h
 unfolding copyOf distance
-flips-nearest v k g h lo hi small lg lh p q a b few =
-    let s = sideOf v in
+flips-distance v k g h lo lg lh p q a b =
     let d : distance v (copyOf (sideOf v) false h) (copyOf (sideOf v) true h) k
     ≡ differing (λ n. getD g (infoPosition (sideOf v) false n) 0) (λ n. getD h (infoPosition (sideOf v) false n) 0) 34
     + differing (λ n. getD g (infoPosition (sideOf v) true n) 0) (λ n. getD h (infoPosition (sideOf v) true n) 0) 34 =
     ap₂ (λ (x y : ℕ). ones (bitXor x (copyOf (sideOf v) false h)) + ones (bitXor y (copyOf (sideOf v) true h))) (sym a) (sym b)
-    ∙ ap₂ (λ (x y : ℕ). x + y)
-    (distance-is (λ n. getD g (infoPosition (sideOf v) false n) 0) (λ n. getD h (infoPosition (sideOf v) false n) 0) (λ n. p (infoPosition (sideOf v) false n)) (λ n. q (infoPosition (sideOf v) false n)) 34)
-    (distance-is (λ n. getD g (infoPosition (sideOf v) true n) 0) (λ n. getD h (infoPosition (sideOf v) true n) 0) (λ n. p (infoPosition (sideOf v) true n)) (λ n. q (infoPosition (sideOf v) true n)) 34) in
-    let c = both v lo g h lg lh in
-    (few-flips v k (copyOf (sideOf v) false h) (copyOf (sideOf v) true h) hi small (omega (arith, d, c)), omega (arith, d, c))
+    ∙ ap₂ (λ (x y : ℕ). x + y) (copies false) (copies true) in
+    omega (arith, d, both v lo g h lg lh)
+  where
+    copies : (second : Bool) → ones (bitXor (copyOf (sideOf v) second g) (copyOf (sideOf v) second h))
+        ≡ differing (λ n. getD g (infoPosition (sideOf v) second n) 0) (λ n. getD h (infoPosition (sideOf v) second n) 0) 34
+    copies second =
+        distance-is (λ n. getD g (infoPosition (sideOf v) second n) 0) (λ n. getD h (infoPosition (sideOf v) second n) 0)
+        (λ n. p (infoPosition (sideOf v) second n)) (λ n. q (infoPosition (sideOf v) second n)) 34
+
+-- with at most 8 that differ, word k is the nearest
+pub flips-nearest : (v k : ℕ) (g h : List ℕ) → 1 ≤ v → v ≤ 84 → k < 16 → length g ≡ sideOf v * sideOf v → length h ≡ sideOf v * sideOf v
+    → ((i : ℕ) → getD g i 0 < 2) → ((i : ℕ) → getD h i 0 < 2)
+    → copyOf (sideOf v) false g ≡ wordAt v k → copyOf (sideOf v) true g ≡ wordAt v k → infoFlips (layoutOf v) g h ≤ 8
+    → nearest v (copyOf (sideOf v) false h) (copyOf (sideOf v) true h) ≡ k
+flips-nearest v k g h lo hi small lg lh p q a b few =
+    few-flips v k (copyOf (sideOf v) false h) (copyOf (sideOf v) true h) hi small (omega (arith, flips-distance v k g h lo lg lh p q a b))
 
 -- bits stay bits
 written-bits : (s : ℕ) (b : Bool) (w n : ℕ) (g : List ℕ) → ((i : ℕ) → getD g i 0 < 2) → (i : ℕ) → getD (bitsWritten s b w n g) i 0 < 2

@@ -38,9 +38,13 @@ pub read-back : (v w : ℕ) (g : List ℕ) → 1 ≤ v → sideOf v * sideOf v �
     → (copyOf (sideOf v) false (infoWritten (sideOf v) w g) ≡ w) × (copyOf (sideOf v) true (infoWritten (sideOf v) w g) ≡ w)
 read-back v w g lo room h = (flips.write-then-first v lo w g room h, flips.write-then-second v lo w g room h)
 
--- Where at most 8 information modules of such a square are flipped, the nearest word is the one written, and no more bits differ from it than modules flipped.
-pub few-modules : (v k : ℕ) (g h : List ℕ) → 1 ≤ v → v ≤ 84 → k < 16 → length g ≡ sideOf v * sideOf v → length h ≡ sideOf v * sideOf v
-    → ((i : ℕ) → getD g i 0 < 2) → ((i : ℕ) → getD h i 0 < 2)
-    → copyOf (sideOf v) false g ≡ wordAt v k → copyOf (sideOf v) true g ≡ wordAt v k → infoFlips (layoutOf v) g h ≤ 8
-    → (nearest v (copyOf (sideOf v) false h) (copyOf (sideOf v) true h) ≡ k) × (distance v (copyOf (sideOf v) false h) (copyOf (sideOf v) true h) k ≤ infoFlips (layoutOf v) g h)
-few-modules = flips.flips-nearest
+-- g is such a square, with word k in both copies, and h another: no more bits of h differ from the word than information modules differ ..
+module _ (v k : ℕ) (g h : List ℕ) (lo : 1 ≤ v) (lg : length g ≡ sideOf v * sideOf v) (lh : length h ≡ sideOf v * sideOf v)
+    (bg : (i : ℕ) → getD g i 0 < 2) (bh : (i : ℕ) → getD h i 0 < 2)
+    (first : copyOf (sideOf v) false g ≡ wordAt v k) (second : copyOf (sideOf v) true g ≡ wordAt v k) where
+  pub flips-bound : distance v (copyOf (sideOf v) false h) (copyOf (sideOf v) true h) k ≤ infoFlips (layoutOf v) g h
+  flips-bound = flips.flips-distance v k g h lo lg lh bg bh first second
+
+  -- .. and where at most 8 modules do, the nearest word is the one written.
+  pub few-modules : v ≤ 84 → k < 16 → infoFlips (layoutOf v) g h ≤ 8 → nearest v (copyOf (sideOf v) false h) (copyOf (sideOf v) true h) ≡ k
+  few-modules hi small few = flips.flips-nearest v k g h lo hi small lg lh bg bh first second few

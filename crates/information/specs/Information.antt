@@ -1,4 +1,5 @@
--- Document 01, "Information" (000: `info_positions`, `gf16_mul`, `info_bits`, `nearest_info`). A word has 34 bits, the first in bit 33.
+-- SPECIFICATION 5, 10.3 and 10.4 (han_xin.rs: `info_positions`, `gf16_mul`, `info_bits`, `nearest_info`). A word has 34 bits, the first in
+-- bit 33.
 use mathlib.Core.Bool.{Bool, cond, not, _&&_, true, false}
 use mathlib.Core.List.{List, [], _∷_}
 use Prim.Native.Nat.{ℕ, zero, suc, _+_, _-_, _*_, _/_, _%_, _^_}
@@ -12,7 +13,7 @@ use Rattle.information.specs.declared.InfoBits.the-variants as bits
 use Rattle.information.specs.declared.NearestInfo.{NearestInfo}
 use Rattle.information.specs.declared.NearestInfo.the-variants as near
 
--- The word of a version, level and mask.
+-- The word of a version, level and mask (5.1, 5.2).
 
 -- a times x in GF(16), x^4 + x + 1
 unfoldable pub timesX : ℕ → ℕ
@@ -50,26 +51,23 @@ dataOf v level mask = (v + 20) * 16 + level * 4 + mask
 unfoldable pub infoBits : ℕ → ℕ → ℕ → ℕ
 infoBits v level mask = wordOf (dataOf v level mask)
 
--- Operation Information word. 1: version, level or mask outside its range; 0, and the word beside it.
+-- SPECIFICATION 10.3, Information word. 1: version, level or mask outside its range; 0, and the word beside it.
 unfoldable pub isInfo : ℕ → ℕ → ℕ → Bool
 isInfo v level mask = isVersion v && (leb level 3 && leb mask 3)
 
-unfoldable pub infoRefusal : ℕ → ℕ → ℕ → ℕ
-infoRefusal v level mask = cond (isInfo v level mask) 0 1
+pub record InfoAnswer : Type 0 where
+  pub number : ℕ
+  pub word : ℕ
 
-unfoldable pub infoWord : ℕ → ℕ → ℕ → ℕ
-infoWord v level mask = cond (isInfo v level mask) (infoBits v level mask) 0
+unfoldable pub infoOf : ℕ → ℕ → ℕ → InfoAnswer
+infoOf v level mask = cond (isInfo v level mask) (record { number = 0; word = infoBits v level mask }) (record { number = 1; word = 0 })
 
--- an answer's refusal number and word
-abbrev pub wordRefusalOf : InfoBits → ℕ
-wordRefusalOf (bits.Word w) = 0
-wordRefusalOf bits.OutOfRange = 1
+-- what each case of the code's answer says
+abbrev pub infoAnswer : InfoBits → InfoAnswer
+infoAnswer (bits.Word w) = record { number = 0; word = w }
+infoAnswer bits.OutOfRange = record { number = 1; word = 0 }
 
-abbrev pub wordIn : InfoBits → ℕ
-wordIn (bits.Word w) = w
-wordIn bits.OutOfRange = 0
-
--- The nearest of the 16 words of a version.
+-- The nearest of the 16 words of a version (5.5 to 5.7).
 
 -- word k has level k / 4 and mask k % 4
 unfoldable pub wordAt : ℕ → ℕ → ℕ
@@ -88,37 +86,25 @@ leastOf d (suc n) = let best = leastOf d n in cond (ltb (d (suc n)) (d best)) (s
 unfoldable pub nearest : ℕ → ℕ → ℕ → ℕ
 nearest v a b = leastOf (distance v a b) 15
 
--- Operation Nearest word. 1: version outside its range; 0, and level, mask and distance beside it.
-unfoldable pub nearestRefusal : ℕ → ℕ
-nearestRefusal v = cond (isVersion v) 0 1
+-- SPECIFICATION 10.4, Nearest word. 1: version outside its range; 0, and level, mask and distance beside it.
+pub record NearestAnswer : Type 0 where
+  pub number : ℕ
+  pub level : ℕ
+  pub mask : ℕ
+  pub distance : ℕ
 
-unfoldable pub nearestLevel : ℕ → ℕ → ℕ → ℕ
-nearestLevel v a b = cond (isVersion v) (nearest v a b / 4) 0
+unfoldable pub nearestOf : ℕ → ℕ → ℕ → NearestAnswer
+nearestOf v a b =
+    let k = nearest v a b in
+    cond (isVersion v) (record { number = 0; level = k / 4; mask = k % 4; distance = distance v a b k })
+    (record { number = 1; level = 0; mask = 0; distance = 0 })
 
-unfoldable pub nearestMask : ℕ → ℕ → ℕ → ℕ
-nearestMask v a b = cond (isVersion v) (nearest v a b % 4) 0
+-- what each case of the code's answer says
+abbrev pub nearestAnswer : NearestInfo → NearestAnswer
+nearestAnswer (near.Nearest l m d) = record { number = 0; level = l; mask = m; distance = d }
+nearestAnswer near.NoVersion = record { number = 1; level = 0; mask = 0; distance = 0 }
 
-unfoldable pub nearestDistance : ℕ → ℕ → ℕ → ℕ
-nearestDistance v a b = cond (isVersion v) (distance v a b (nearest v a b)) 0
-
--- an answer's refusal number, level, mask and distance
-abbrev pub nearestRefusalOf : NearestInfo → ℕ
-nearestRefusalOf (near.Nearest l m d) = 0
-nearestRefusalOf near.NoVersion = 1
-
-abbrev pub levelOf : NearestInfo → ℕ
-levelOf (near.Nearest l m d) = l
-levelOf near.NoVersion = 0
-
-abbrev pub maskOf : NearestInfo → ℕ
-maskOf (near.Nearest l m d) = m
-maskOf near.NoVersion = 0
-
-abbrev pub distanceOf : NearestInfo → ℕ
-distanceOf (near.Nearest l m d) = d
-distanceOf near.NoVersion = 0
-
--- The 68 information modules of a square of side s: 34 places, each in two copies.
+-- The 68 information modules of a square of side s (5.3, 5.4): 34 places, each in two copies.
 
 -- the first copy: along row 8 to the corner (place 8), up column 8 to the top, down column s − 9 to the corner (place 25), along row 8 to the right
 unfoldable pub positionRow : ℕ → ℕ

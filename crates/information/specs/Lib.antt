@@ -1,3 +1,3 @@
--- Document 01: "Information".
+-- SPECIFICATION 5: information. `Inner` is for inner functions: nobody has to believe it.
 pub mod Information
 pub mod Inner

@@ -1,5 +1,5 @@
-// Document 01, "Information": the word of a version, level and mask, the nearest word to two copies, and the copies in a square
-// (000: `info_positions`, `gf16_mul`, `info_bits`, `nearest_info`).
+// SPECIFICATION 5, 10.3 and 10.4: the word of a version, level and mask, the nearest word to two copies, and the copies in a square
+// (han_xin.rs: `info_positions`, `gf16_mul`, `info_bits`, `nearest_info`).
 ghost use mathlib.Core.Path.{_≡_};
 ghost use mathlib.Core.Bool.{true, false, cond};
 ghost use Prim.Native.Nat.{ℕ, _+_, _*_, _/_, _%_, _^_, _≤_, _<_};
@@ -7,7 +7,7 @@ ghost use lib.Dec.{ltb};
 ghost use lib.Bits.{bitXor};
 ghost use lib.Count.{ones};
 ghost use lib.ListN.{length, getD};
-ghost use Rattle.information.specs.Information.{timesX, plusIfOdd, gf16Mul, generatorTimes, remainder, wordOf, infoRefusal, infoWord, wordRefusalOf, wordIn, distance, leastOf, nearest, nearestRefusal, nearestLevel, nearestMask, nearestDistance, nearestRefusalOf, levelOf, maskOf, distanceOf, positionRow, positionColumn, infoPosition, numberOf, copyOf, bitOf, copyWritten, infoWritten};
+ghost use Rattle.information.specs.Information.{timesX, plusIfOdd, gf16Mul, generatorTimes, remainder, wordOf, distance, leastOf, nearest, positionRow, positionColumn, infoPosition, numberOf, copyOf, bitOf, copyWritten, infoWritten, infoOf, infoAnswer, nearestOf, nearestAnswer};
 ghost use Rattle.information.specs.Inner.{Found, ArmWritten};
 use symbol::Version;
 
@@ -106,9 +106,9 @@ fn wide(x: usize) -> u64
     x as u64
 }
 
-// The 34 function information bits, first bit in bit 33.
+// SPECIFICATION 10.3, Information word: the 34 function information bits, first bit in bit 33.
 pub fn info_bits(version: usize, level: usize, mask: usize) -> InfoBits
-    ensures { λ r. ⌜ (wordRefusalOf r ≡ infoRefusal version level mask) × (wordIn r ≡ infoWord version level mask) ⌝ }
+    ensures { λ r. ⌜ infoAnswer r ≡ infoOf version level mask ⌝ }
 {
     if version < Version::MIN {
         return InfoBits::OutOfRange;
@@ -182,9 +182,9 @@ fn nearest_word(version: usize, first: u64, second: u64) -> Best
     best
 }
 
-// The level and mask of the nearest word of a version, with the number of differing bits of both copies.
+// SPECIFICATION 10.4, Nearest word: the level and mask of the nearest word of a version, with the number of differing bits of both copies.
 pub fn nearest_info(version: usize, first: u64, second: u64) -> NearestInfo
-    ensures { λ r. ⌜ (nearestRefusalOf r ≡ nearestRefusal version) × (levelOf r ≡ nearestLevel version first second) × (maskOf r ≡ nearestMask version first second) × (distanceOf r ≡ nearestDistance version first second) ⌝ }
+    ensures { λ r. ⌜ nearestAnswer r ≡ nearestOf version first second ⌝ }
 {
     if version < Version::MIN {
         return NearestInfo::NoVersion;

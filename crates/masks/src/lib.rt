@@ -1,4 +1,4 @@
-// The mask of a row of a square, with no division for each module (000: `masked`).
+// SPECIFICATION 6.1: the mask of a row of a square, with no division for each module (han_xin.rs: `masked`).
 // The loops over a row have no branch and keep to numbers of 16 bits, so that the compiler takes eight columns at once.
 ghost use mathlib.Core.Path.{_≡_};
 ghost use Prim.Native.Nat.{ℕ, _+_, _*_, _/_, _≤_, _<_};

@@ -1,5 +1,5 @@
--- What a customer may quote of the parity of data. Each holds for any polynomial that passes document 01's order test, any first root,
--- and data of bytes with at most 255 places together with their parity. Assumes nothing.
+-- What a customer may quote of the parity of data (SPECIFICATION 3.8). Each holds for any polynomial that passes the order test (3.2), any
+-- first root, and data of bytes with at most 255 places together with their parity. Assumes nothing.
 use mathlib.Core.Path.{_≡_, sym, ap, _∙_, subst}
 use mathlib.Core.Option.{some}
 use mathlib.Core.List.{List, _++_}

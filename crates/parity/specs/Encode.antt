@@ -1,4 +1,4 @@
--- Document 01, "Field and block": the parity of a block, for the writer. What the call answers, and what is then in the block.
+-- SPECIFICATION 3.8 and 10.6: the parity of a block, for the writer. What the call answers, and what is then in the block.
 use mathlib.Core.Bool.{cond}
 use mathlib.Core.Option.{Option, none, some}
 use mathlib.Core.List.{List, _++_}
@@ -31,7 +31,7 @@ unfoldable pub encodeOf : ℕ → ℕ → ℕ → List ℕ → Encoding
 encodeOf poly first parity block =
     cond (unfit parity block) (record { number = 5; block = block }) (record { number = 0; block = writtenOf poly first parity block })
 
--- 01's number for each case of the answer, with the block
+-- the refusal number (SPECIFICATION 2.7) for each case of the answer, with the block
 unfoldable pub encoding : Encoded → List ℕ → Encoding
 encoding Written block = record { number = 0; block = block }
 encoding Unfit block = record { number = 5; block = block }

@@ -1,3 +1,3 @@
--- Document 01, "Field and block": the parity of a block. `Inner` is for inner functions: nobody has to believe it.
+-- SPECIFICATION 10.6: the parity of a block. `Inner` is for inner functions: nobody has to believe it.
 pub mod Encode
 pub mod Inner

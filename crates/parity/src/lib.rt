@@ -14,7 +14,7 @@ use remainder::Register;
 
 mod division;
 
-// What became of a block: its parity is written, or the refusal 5 of document 01.
+// What became of a block: its parity is written, or refusal 5 (SPECIFICATION 2.7).
 pub enum Encoded {
     Written,
     Unfit,
@@ -150,7 +150,7 @@ pub fn encode_over(field: &[u16; 1280], first: usize, block: &mut [u8], parity: 
     Encoded::Written
 }
 
-// The parity of a block of document 01: GF(256) under 163 hex, first root α^1.
+// SPECIFICATION 10.6, the parity of a block: GF(256) under 163 hex, first root α^1.
 pub fn encode(block: &mut [u8], parity: usize) -> Encoded
     ensures { λ r. ⌜ encoding r (now (block .exit)) ≡ encodeOf 0x163 1 parity (now (block .entry)) ⌝ }
 {

@@ -1,4 +1,4 @@
-// Segments from data (000: `parse`): all segments of the data codewords, one after the other.
+// SPECIFICATION 10.7: Segments from data (han_xin.rs: `parse`), all segments of the data codewords, one after the other.
 ghost use mathlib.Core.Path.{_≡_};
 ghost use mathlib.Core.List.{_++_};
 ghost use Prim.Native.Nat.{_≤_};

@@ -1,4 +1,4 @@
-// Document 01, "Codewords": codewords out of the data modules of a square (000: first half of `decode_data`).
+// SPECIFICATION 6.2: codewords out of the data modules of a square (han_xin.rs: first half of `decode_data`).
 // A square is walked row by row. Where eight data modules stand together they are taken at once, as the bytes of one number.
 ghost use mathlib.Core.Path.{_≡_};
 ghost use mathlib.Core.List.{_++_};

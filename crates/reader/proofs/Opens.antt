@@ -9,17 +9,17 @@ use native.Mathlib.Decide.{ℕ-discrete}
 use borrow.Author.Tests.{le-leb, lt-leb}
 use lib.Dec.{eqb, leb}
 use lib.ListN.{length, getD}
-use Rattle.symbol.specs.Version.{sideOf, isVersion, isSide, sideVersion, sideRefusal, versionOf}
+use Rattle.symbol.specs.Version.{sideOf, isSide, sideVersion, sideRefusal, versionOf}
 use Rattle.symbol.specs.Version.{refusalOf as sideNumber}
 use Rattle.symbol.specs.declared.Version.{Version}
 use Rattle.symbol.specs.declared.FromSide.{FromSide}
 use Rattle.symbol.specs.declared.FromSide.the-variants as from-side
 use Rattle.information.specs.declared.NearestInfo.{NearestInfo}
 use Rattle.information.specs.declared.NearestInfo.the-variants.{Nearest, NoVersion}
-use Rattle.information.specs.Information.{isInfo, copyOf, nearestRefusal, nearestLevel, nearestMask, nearestDistance, nearestRefusalOf, levelOf, maskOf, distanceOf}
+use Rattle.information.specs.Information.{isInfo, copyOf, NearestAnswer, nearestOf, nearestAnswer}
 use Rattle.blocks.specs.Blocks.{hasBlocks}
 use Rattle.squares.specs.Receipt.{refusalReceipt}
-use Rattle.squares.specs.Read.{Reading, readingOf, refused, firstRefusal, unless, areModules, levelIn, maskIn, distanceIn, readRefusal, knownRefusal, bodyOf, withReceipt, readOf, readKnownOf}
+use Rattle.squares.specs.Read.{Reading, readingOf, refused, firstRefusal, unless, areModules, distanceIn, readRefusal, knownRefusal, bodyOf, withReceipt, readOf, readKnownOf, nearestIn}
 use Rattle.squares.proofs.Refusals.{true-unless, unless-true, unless-false, first-skips, first-takes, first-left, first-none, eqb-fact}
 use Rattle.squares.proofs.Modules.{modules-below}
 use Rattle.squares.proofs.Marks.{ranges, version-is}
@@ -145,21 +145,29 @@ module _ (v side a b : ℕ) (sq : List ℕ) (es : side ≡ sideOf v) (ea : a ≡
   second-is : b ≡ copyOf (sideOf v) true sq
   second-is = eb ∙ ap (λ (x : ℕ). copyOf x true sq) es
 
-  pub nearest-mark : (l k d : ℕ) → r ≡ Nearest l k d → levelOf r ≡ nearestLevel v a b → maskOf r ≡ nearestMask v a b → distanceOf r ≡ nearestDistance v a b
-      → near.Nearest v sq (record { version = v; level = l; mask = k; distance = d })
-  unfolding levelIn maskIn distanceIn
-  nearest-mark l k d e f g h = record {
-    version = refl;
-    level = sym (ap levelOf e) ∙ f ∙ (λ i. nearestLevel v (first-is i) (second-is i));
-    mask = sym (ap maskOf e) ∙ g ∙ (λ i. nearestMask v (first-is i) (second-is i));
-    distance = sym (ap distanceOf e) ∙ h ∙ (λ i. nearestDistance v (first-is i) (second-is i));
-  }
+  nearest-is : (l k d : ℕ) → r ≡ Nearest l k d → nearestAnswer r ≡ nearestOf v a b → record { number = 0; level = l; mask = k; distance = d } ≡ nearestIn v sq
+  unfolding nearestIn
+  nearest-is l k d e f = sym (ap nearestAnswer e) ∙ f ∙ (λ i. nearestOf v (first-is i) (second-is i))
 
-  pub no-version : 1 ≤ v → v ≤ 84 → r ≡ NoVersion → nearestRefusalOf r ≡ nearestRefusal v → ⊥
-  unfolding nearestRefusal
+  pub nearest-mark : (l k d : ℕ) → r ≡ Nearest l k d → nearestAnswer r ≡ nearestOf v a b
+      → near.Nearest v sq (record { version = v; level = l; mask = k; distance = d })
+  nearest-mark l k d e f =
+      let is = nearest-is l k d e f in
+      record {
+        version = refl;
+        level = ap (λ (x : NearestAnswer). x .level) is;
+        mask = ap (λ (x : NearestAnswer). x .mask) is;
+        distance = ap (λ (x : NearestAnswer). x .distance) is;
+      }
+
+  zero-number : 1 ≤ v → v ≤ 84 → nearestOf v a b .number ≡ 0
+  unfolding nearestOf
+  zero-number low high = simp (version-is v low high)
+
+  pub no-version : 1 ≤ v → v ≤ 84 → r ≡ NoVersion → nearestAnswer r ≡ nearestOf v a b → ⊥
   no-version low high e f =
-      let z : nearestRefusalOf r ≡ 0 = f ∙ unless-true (isVersion v) 1 (version-is v low high) in
-      omega (arith, ap nearestRefusalOf e)
+      let z : nearestAnswer r .number ≡ 0 = ap (λ (x : NearestAnswer). x .number) f ∙ zero-number low high in
+      omega (arith, ap (λ (x : NearestInfo). nearestAnswer x .number) e)
 
 -- ---- Read a square
 

@@ -1,4 +1,4 @@
-// Document 01, "Operations": Read a square, and Read with known version, level, mask (000: `decode_matrix`, `decode_data`).
+// SPECIFICATION 10.9 and 10.10: Read a square, and Read with known version, level, mask (han_xin.rs: `decode_matrix`, `decode_data`).
 ghost use mathlib.Core.Path.{_≡_};
 ghost use mathlib.Core.List.{[], _∷_};
 ghost use Prim.Native.Nat.{ℕ, _*_, _<_, _≤_};

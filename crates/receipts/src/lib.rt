@@ -1,4 +1,4 @@
-// The receipt of a square that is read (document 01, "Records"), and what is told of its corrected blocks: script and payload.
+// The receipt of a square that is read (SPECIFICATION 2.6), and what is told of its corrected blocks: script and payload.
 ghost use mathlib.Core.Path.{_≡_};
 ghost use Prim.Native.Nat.{_%_, _<_, _≤_};
 ghost use lib.ListN.{length};

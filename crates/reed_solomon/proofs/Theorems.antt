@@ -1,5 +1,5 @@
--- What a customer may quote of blocks. Each holds for any polynomial that passes document 01's order test, any first root, and blocks of
--- at most 255 bytes. Assumes nothing.
+-- What a customer may quote of blocks (SPECIFICATION 3.6). Each holds for any polynomial that passes the order test (3.2), any first root,
+-- and blocks of at most 255 bytes. Assumes nothing.
 use mathlib.Core.Path.{_≡_}
 use mathlib.Core.Logic.{_≢_}
 use mathlib.Core.List.{List}
@@ -14,7 +14,7 @@ use Rattle.field.proofs.Field.{passes}
 use Rattle.reed_solomon.specs.Block.{isCodeword, distance, inReach, nearest}
 use Rattle.reed_solomon.proofs.Search.{Bytes}
 use Rattle.reed_solomon.proofs.Codeword.{near-equal}
-use Rattle.reed_solomon.proofs.Nearest.{Near, passing-near, near-one, some-near, near-some}
+use Rattle.reed_solomon.proofs.Nearest.{reach-near, near-reach, near-one, some-near, near-some}
 
 module _ (poly : ℕ) (test : T (orderTest poly)) (first parity : ℕ) where
   -- Two different codewords of one length and parity differ in at least parity + 1 places.
@@ -25,17 +25,15 @@ module _ (poly : ℕ) (test : T (orderTest poly)) (first parity : ℕ) where
     | no h ↦ absurd (d (near-equal poly (passes poly test) first parity u v small e bu bv cu cv (omega arith)))
   ]
 
-  -- No block has two codewords within floor(parity / 2) places.
-  pub no-block-has-two : (block u v : List ℕ) → length block ≤ 255 → length u ≡ length block → length v ≡ length block → Bytes u → Bytes v
+  -- No block has two codewords in reach.
+  pub no-block-has-two : (block u v : List ℕ) → length block ≤ 255
       → T (inReach poly first parity block u) → T (inReach poly first parity block v) → u ≡ v
-  no-block-has-two block u v small eu ev bu bv tu tv =
-      near-one poly first parity block (passes poly test) small u v
-      (passing-near poly first parity block u (record { test = tu; size = eu; bytes = bu }))
-      (passing-near poly first parity block v (record { test = tv; size = ev; bytes = bv }))
+  no-block-has-two block u v small tu tv =
+      near-one poly first parity block (passes poly test) small u v (reach-near poly first parity block u tu) (reach-near poly first parity block v tv)
 
   -- The search finds the codeword in reach: what it finds is one, and if there is one, it finds that one.
-  pub found-in-reach : (block w : List ℕ) → nearest poly first parity block ≡ some w → Near poly first parity block w
-  found-in-reach block w e = some-near poly first parity block w e
+  pub found-in-reach : (block w : List ℕ) → nearest poly first parity block ≡ some w → T (inReach poly first parity block w)
+  found-in-reach block w e = near-reach poly first parity block w (some-near poly first parity block w e)
 
-  pub in-reach-found : (block w : List ℕ) → length block ≤ 255 → Near poly first parity block w → nearest poly first parity block ≡ some w
-  in-reach-found block w small N = near-some poly first parity block (passes poly test) small w N
+  pub in-reach-found : (block w : List ℕ) → length block ≤ 255 → T (inReach poly first parity block w) → nearest poly first parity block ≡ some w
+  in-reach-found block w small t = near-some poly first parity block (passes poly test) small w (reach-near poly first parity block w t)

@@ -1,15 +1,15 @@
--- Document 01, "Field and block": a block, what a codeword is, and the codeword in reach. The polynomial of the field and the exponent
+-- SPECIFICATION 3.3 to 3.5 and 3.8: a block, what a codeword is, and the codeword in reach. The polynomial of the field and the exponent
 -- of the first root are parameters throughout.
 use mathlib.Core.Bool.{Bool, true, false, _&&_, _||_}
 use mathlib.Core.Option.{Option, none, some}
 use mathlib.Core.List.{List, [], _∷_, _++_, map}
 use Prim.Native.Nat.{ℕ, zero, suc, _+_, _/_}
 use lib.Dec.{leb, ltb, eqb}
-use lib.ListN.{length}
+use lib.ListN.{length, getD}
 use lib.Bits.{bitXor}
 use Rattle.field.specs.Field.{power, mul, below}
 
--- the value at x of a block, first byte the highest coefficient, behind a value so far (001: `eval`)
+-- the value at x of a block, first byte the highest coefficient, behind a value so far (reed_solomon.rs: `eval`)
 unfoldable pub evalFrom : ℕ → ℕ → ℕ → List ℕ → ℕ
 evalFrom poly x acc [] = acc
 evalFrom poly x acc (b ∷ bs) = evalFrom poly x (bitXor (mul poly acc x) b) bs
@@ -50,9 +50,13 @@ unfoldable pub firstOf : (List ℕ → Bool) → List (List ℕ) → Option (Lis
 firstOf test [] = none
 firstOf test (w ∷ ws) = orElse (test w) w (firstOf test ws)
 
--- a codeword within floor(parity / 2) places of a block
+-- a word of n bytes
+unfoldable pub isWord : ℕ → List ℕ → Bool
+isWord n w = eqb (length w) n && below n (λ i. ltb (getD w i 0) 256)
+
+-- w is in reach of a block: a codeword of the same length and parity that differs from it in at most floor(parity / 2) places
 unfoldable pub inReach : ℕ → ℕ → ℕ → List ℕ → List ℕ → Bool
-inReach poly first parity block w = isCodeword poly first parity w && leb (distance block w) (parity / 2)
+inReach poly first parity block w = isWord (length block) w && (isCodeword poly first parity w && leb (distance block w) (parity / 2))
 
 -- the codeword in reach of a block, if there is one: a search over all words of its length, to be believed and not to be run
 unfoldable pub nearest : ℕ → ℕ → ℕ → List ℕ → Option (List ℕ)

@@ -1,4 +1,5 @@
-// Where the errors are and what they are (001: `solve`, `magnitudes`). An error stands at its degree: 0 for the last place of the block.
+// Where the errors are and what they are (reed_solomon.rs: `solve`, `magnitudes`). An error stands at its degree: 0 for the last place of
+// the block.
 ghost use mathlib.Core.Path.{_≡_};
 ghost use Prim.Native.Nat.{ℕ, suc, _+_, _*_, _≤_, _<_};
 ghost use lib.ListN.{length, set};

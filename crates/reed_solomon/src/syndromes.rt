@@ -1,4 +1,4 @@
-// The values of a block at the roots of its code (001: `syndromes`).
+// The values of a block at the roots of its code (reed_solomon.rs: `syndromes`).
 ghost use mathlib.Core.Path.{_≡_};
 ghost use Prim.Native.Nat.{ℕ, _+_, _≤_, _<_};
 ghost use lib.ListN.{length, getD};

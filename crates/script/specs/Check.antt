@@ -1,4 +1,4 @@
--- Document 01, "Operations and what they turn away", Write a square: the segments that the commands of a script make of a payload.
+-- SPECIFICATION 10.8: the segments that the commands of a script make of a payload.
 use mathlib.Core.Bool.{Bool, true, cond, _&&_}
 use mathlib.Core.Option.{Option, none, some, Option·map, Option·getD, bind}
 use mathlib.Core.List.{List, [], _∷_}

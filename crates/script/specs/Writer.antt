@@ -1,5 +1,5 @@
--- Document 01, "Writer": each command in its mode, switches only where the next character needs one, shortest ECI; all later bits 0.
--- And the number of bits, by 01's formulas.
+-- SPECIFICATION 9: each command in its mode, switches only where the next character needs one, shortest ECI; all later bits 0.
+-- And the number of bits, by the formulas of 9.4.
 use mathlib.Core.Bool.{Bool, true, false, cond, not, _&&_, _||_}
 use mathlib.Core.List.{List, [], _∷_, _++_}
 use Prim.Native.Nat.{ℕ, suc, _+_, _-_, _*_, _/_}
@@ -154,7 +154,7 @@ modeBits mode bs =
     (cond (eqb mode 5) (wordBits 12 (regionWords false bs))
     (cond (eqb mode 6) (wordBits 15 (doubleWords bs)) (lowBits 21 (fourCode bs)))))))
 
--- the number of bits of n bytes in a mode, by 01's formulas
+-- the number of bits of n bytes in a mode, by the formulas of SPECIFICATION 9.4
 unfoldable pub modeLength : ℕ → List ℕ → ℕ
 modeLength mode bs =
     cond (eqb mode 1) (14 + 10 * ((length bs + 2) / 3))

@@ -1,4 +1,4 @@
-// A script and its payload: what writing asks of them, and how many bits they take.
+// SPECIFICATION 10.8: a script and its payload, what writing asks of them, and how many bits they take.
 ghost use mathlib.Core.Path.{_≡_};
 ghost use mathlib.Core.Bool.{true, false, _&&_};
 ghost use mathlib.Core.List.{[], _∷_};
@@ -434,7 +434,7 @@ pub fn command_size(mode: usize) -> usize
     if mode == 7 { 1 } else { 3 }
 }
 
-// What writing asks of a script and its payload by themselves: 11, else 12, else 8, else the number of bits.
+// SPECIFICATION 10.8, Check of a script: 11, else 12, else 8, else the number of bits.
 pub fn check_script(script: &[u8], payload: &[u8]) -> Check
     ensures { λ r. ⌜ r ≡ checkOf (now (script .entry)) (now (payload .entry)) ⌝ }
 {

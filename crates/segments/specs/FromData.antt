@@ -1,5 +1,5 @@
--- Document 01, "Operations and what they turn away": Segments from data. The first refusal that applies is given, each tested over the
--- whole input; a refusal changes neither buffer, and both lengths are then 0.
+-- SPECIFICATION 10.7: Segments from data. The first refusal that applies is given, each tested over the whole input; a refusal
+-- changes neither buffer, and both lengths are then 0.
 use mathlib.Core.Bool.{Bool, true, false, cond}
 use mathlib.Core.List.{List, _++_}
 use Prim.Native.Nat.{ℕ}

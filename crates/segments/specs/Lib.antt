@@ -1,4 +1,4 @@
--- Document 01, "Records" (script), "Segments" and the operation Segments from data.
+-- SPECIFICATION 2.5, 8 and 10.7: the script, segments, and Segments from data. `Passes` is for inner functions: nobody has to believe it.
 pub mod Script
 pub mod Segments
 pub mod FromData

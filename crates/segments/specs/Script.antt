@@ -1,4 +1,4 @@
--- Document 01, "Records", Script: commands of one byte with operands of fixed width, big-endian, and the payload beside them.
+-- SPECIFICATION 2.5 and 8.11: the script, commands of one byte with operands of fixed width, big-endian, and the payload beside them.
 use mathlib.Core.Bool.{cond}
 use mathlib.Core.List.{List, [], _∷_, _++_}
 use Prim.Native.Nat.{ℕ, _/_, _%_}

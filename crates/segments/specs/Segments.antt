@@ -1,4 +1,4 @@
--- Document 01, "Segments": what the bits of the data codewords say, mode by mode and as a whole.
+-- SPECIFICATION 8: what the bits of the data codewords say, mode by mode and as a whole.
 use mathlib.Core.Bool.{Bool, true, false, cond, not}
 use mathlib.Core.List.{List, [], _∷_, _++_}
 use Prim.Native.Nat.{ℕ, zero, suc, _+_, _-_, _*_, _/_, _%_, _^_}
@@ -30,7 +30,7 @@ before cs r = andThen r (λ bs u. got (cs ++ bs) (suc u))
 abbrev pub inBits : ℕ → Result (List ℕ) → Result (List ℕ)
 inBits w r = andThen r (λ bs u. got bs (w * u))
 
--- ---- numeric: groups of 10 bits, ended by 1020 + the digits of the last group
+-- ---- numeric (8.5): groups of 10 bits, ended by 1020 + the digits of the last group
 
 -- the k low digits of v, as characters
 unfoldable pub digits : ℕ → ℕ → List ℕ
@@ -48,7 +48,7 @@ unfoldable pub numericOf : List ℕ → Result (List ℕ)
 numericOf [] = failed cut
 numericOf (w ∷ ws) = cond (ltb w 1000) (before [] (groupsOf w ws)) (failed lacking)
 
--- ---- text: words of 6 bits in two subsets (`true` is the first), switched by 62 and ended by 63
+-- ---- text (8.6): words of 6 bits in two subsets (`true` is the first), switched by 62 and ended by 63
 
 unfoldable pub charOf : Bool → ℕ → ℕ
 charOf true w = cond (ltb w 10) (48 + w) (cond (ltb w 36) (55 + w) (61 + w))
@@ -61,7 +61,7 @@ textOf subset (w ∷ ws) =
     let other = before [] (textOf (not subset) ws) in
     cond (eqb w 63) (got [] 1) (cond (eqb w 62) other same)
 
--- ---- bytes: a length of 13 bits, then so many words of 8 bits
+-- ---- bytes (8.7): a length of 13 bits, then so many words of 8 bits
 
 unfoldable pub bytesRun : ℕ → List ℕ → Result (List ℕ)
 bytesRun zero ws = got [] 0
@@ -71,7 +71,7 @@ bytesRun (suc n) (w ∷ ws) = before (w ∷ []) (bytesRun n ws)
 unfoldable pub bytesMode : List ℕ → Result (List ℕ)
 bytesMode bs = cond (ltb (length bs) 13) (failed cut) (andThen (bytesRun (value 0 (take 13 bs)) (words 8 (drop 13 bs))) (λ cs u. got cs (13 + 8 * u)))
 
--- ---- regions (`true` is region one): words of 12 bits, 4094 hands over to the other region, 4095 ends
+-- ---- regions (8.8; `true` is region one): words of 12 bits, 4094 hands over to the other region, 4095 ends
 
 unfoldable pub highOf : Bool → ℕ → ℕ
 highOf true w = cond (ltb w 3760) (0xB0 + w / 94) (cond (ltb w 4042) (0xA1 + (w - 3760) / 94) 0xA8)
@@ -93,7 +93,7 @@ regionOf region (w ∷ ws) =
     let same = before (highOf region w ∷ lowOf region w ∷ []) (regionOf region ws) in
     cond (eqb w 4095) (got [] 1) (cond (eqb w 4094) other (cond (ltb w (regionSize region)) same (failed lacking)))
 
--- ---- two-byte: words of 15 bits, ended by 32767
+-- ---- two-byte (8.8): words of 15 bits, ended by 32767
 
 unfoldable pub firstOf : ℕ → ℕ
 firstOf w = 0x81 + w / 190
@@ -105,7 +105,7 @@ unfoldable pub doubleByteOf : List ℕ → Result (List ℕ)
 doubleByteOf [] = failed cut
 doubleByteOf (w ∷ ws) = cond (eqb w 32767) (got [] 1) (cond (ltb w 23940) (before (firstOf w ∷ secondOf w ∷ []) (doubleByteOf ws)) (failed lacking))
 
--- ---- four-byte: one character in 21 bits
+-- ---- four-byte (8.9): one character in 21 bits
 
 unfoldable pub fourBytes : ℕ → List ℕ
 fourBytes w = (0x81 + w / 12600) ∷ (0x30 + w % 12600 / 1260) ∷ (0x81 + w % 1260 / 10) ∷ (0x30 + w % 10) ∷ []
@@ -114,7 +114,7 @@ unfoldable pub fourByteOf : List ℕ → Result (List ℕ)
 fourByteOf bs =
     cond (ltb (length bs) 21) (failed cut) (cond (ltb (value 0 (take 21 bs)) 1587600) (got (fourBytes (value 0 (take 21 bs))) 21) (failed lacking))
 
--- ---- ECI: prefix 0, 10 or 110 and 7, 14 or 21 bits
+-- ---- ECI (8.10): prefix 0, 10 or 110 and 7, 14 or 21 bits
 
 -- the value in the w bits behind a prefix of k bits
 unfoldable pub eciValue : ℕ → ℕ → List ℕ → Result Segment
@@ -129,7 +129,7 @@ eciOf (suc _ ∷ suc _ ∷ []) = failed cut
 eciOf (suc _ ∷ suc _ ∷ zero ∷ bs) = eciValue 3 21 bs
 eciOf (suc _ ∷ suc _ ∷ suc _ ∷ bs) = failed lacking
 
--- ---- one segment, and all of them
+-- ---- one segment, and all of them (8.2)
 
 -- the bytes of a segment of modes 1 to 7, from the bits behind the mode, and the number of its bits; any other mode is lacking
 unfoldable pub bytesOfMode : ℕ → List ℕ → Result (List ℕ)

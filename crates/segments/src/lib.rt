@@ -1,4 +1,4 @@
-// One segment of the data codewords (000: the functions that `parse` calls). The crate `parse` reads them all.
+// SPECIFICATION 8: one segment of the data codewords (han_xin.rs: the functions that `parse` calls). The crate `parse` reads them all.
 //
 // What does not fit a lent buffer is counted and not stored. So a pass over spare buffers writes nothing that a refusal would have to undo,
 // and the same functions serve the second pass, where the spare buffers were too short.

@@ -1,4 +1,4 @@
-// Codewords out of a square of version 1 to 3, which has no alignment patterns (document 01, "Codewords"; 000: first half of `decode_data`).
+// SPECIFICATION 6.2: codewords out of a square of version 1 to 3, which has no alignment patterns (han_xin.rs: `decode_data`).
 // In each row the data modules stand side by side, so that no layout is drawn, and the mask of a row is one number.
 ghost use mathlib.Core.Path.{_≡_};
 ghost use mathlib.Core.List.{_++_};

@@ -3,7 +3,8 @@ pub mod Refusals
 pub mod Modules
 pub mod Data
 pub mod Marks
-pub mod Demand
+pub mod ReadBack
 pub mod Starts
-pub mod Settle
+pub mod AnySquare
 pub mod Theorems
+pub mod Instance

@@ -12,9 +12,9 @@ use lib.ListN.{length}
 use Rattle.symbol.specs.Version.{sideOf, isVersion, isSide, sideVersion}
 use Rattle.symbol.specs.Layout.{layoutOf}
 use Rattle.symbol.proofs.Theorems.{layout-length}
-use Rattle.information.specs.Information.{isInfo, infoBits, wordAt, copyOf, infoFlips, nearest, distance, nearestLevel, nearestMask, nearestDistance}
+use Rattle.information.specs.Information.{isInfo, infoBits, wordAt, copyOf, infoFlips, nearest, distance, NearestAnswer, nearestOf}
 use Rattle.information.proofs.Apart.{word-lt}
-use Rattle.information.proofs.Flips.{flips-nearest, write-then-first, write-then-second, info-length, info-bits}
+use Rattle.information.proofs.Flips.{flips-distance, flips-nearest, write-then-first, write-then-second, info-length, info-bits}
 use Rattle.blocks.specs.Blocks.{shapesOf, hasBlocks}
 use Rattle.codewords.specs.Codewords.{maskBit, squareOf}
 use Rattle.codewords.proofs.Back.{length-square}
@@ -23,7 +23,7 @@ use Rattle.segments.specs.Script.{Segment}
 use Rattle.script.specs.Writer.{allHave, bitsOfSegments}
 use Rattle.script.specs.Check.{commandsOf, encoded}
 use Rattle.script.specs.Inner.{Fits}
-use Rattle.squares.specs.Read.{firstRefusal, unless, levelIn, maskIn, distanceIn}
+use Rattle.squares.specs.Read.{firstRefusal, unless, levelIn, maskIn, distanceIn, nearestIn}
 use Rattle.squares.specs.Write.{Writing, roomOf, scriptRefusals, writeRefusal, markOf, writeOf}
 use Rattle.squares.proofs.Refusals.{true-unless, first-none, first-one, both-true, true-both, leb-fact, eqb-fact}
 use Rattle.codewords.proofs.Masks.{mask-bit-lt}
@@ -156,34 +156,39 @@ module _ (v l k : ℕ) (s p : List ℕ) (R : Ranges v l k) where
     abbrev copy : Bool → ℕ
     copy second = copyOf (sideOf v) second h
 
-    near : (nearest v (copy false) (copy true) ≡ 4 * l + k) × (distance v (copy false) (copy true) (4 * l + k) ≤ infoFlips (layoutOf v) mark h)
+    first-copy : copyOf (sideOf v) false mark ≡ wordAt v (4 * l + k)
     unfolding markOf
+    first-copy = write-then-first v (R .low) (infoBits v l k) base (omega (arith, base-length)) word-small ∙ word-is
+
+    second-copy : copyOf (sideOf v) true mark ≡ wordAt v (4 * l + k)
+    unfolding markOf
+    second-copy = write-then-second v (R .low) (infoBits v l k) base (omega (arith, base-length)) word-small ∙ word-is
+
+    near : nearest v (copy false) (copy true) ≡ 4 * l + k
     near =
-        flips-nearest v (4 * l + k) mark h (R .low) (R .high) (omega (arith, R .level, R .mask)) mark-length size mark-below b
-        (write-then-first v (R .low) (infoBits v l k) base (omega (arith, base-length)) word-small ∙ word-is)
-        (write-then-second v (R .low) (infoBits v l k) base (omega (arith, base-length)) word-small ∙ word-is) few
+        flips-nearest v (4 * l + k) mark h (R .low) (R .high) (omega (arith, R .level, R .mask)) mark-length size mark-below b first-copy second-copy few
 
     versioned : isVersion v ≡ true
     versioned = version-is v (R .low) (R .high)
 
+    found : nearestIn v h ≡ record { number = 0; level = l; mask = k; distance = distance v (copy false) (copy true) (4 * l + k) }
+    unfolding nearestIn nearestOf
+    found =
+        simp (versioned, near)
+        (let a : (4 * l + k) / 4 ≡ l = omega (arith, R .mask) in
+        let b : (4 * l + k) % 4 ≡ k = omega (arith, R .mask) in
+        λ i. record { number = 0; level = a i; mask = b i; distance = distance v (copy false) (copy true) (4 * l + k) })
+
     pub level-is : levelIn v h ≡ l
-    unfolding levelIn nearestLevel
-    level-is =
-        ap (λ (t : Bool). cond t (nearest v (copy false) (copy true) / 4) 0) versioned
-        ∙ ap (λ (n : ℕ). n / 4) (near .0) ∙ (let e : (4 * l + k) / 4 ≡ l = omega (arith, R .mask) in e)
+    level-is = ap (λ (x : NearestAnswer). x .level) found
 
     pub mask-is : maskIn v h ≡ k
-    unfolding maskIn nearestMask
-    mask-is =
-        ap (λ (t : Bool). cond t (nearest v (copy false) (copy true) % 4) 0) versioned
-        ∙ ap (λ (n : ℕ). n % 4) (near .0) ∙ (let e : (4 * l + k) % 4 ≡ k = omega (arith, R .mask) in e)
+    mask-is = ap (λ (x : NearestAnswer). x .mask) found
 
     pub distance-le : distanceIn v h ≤ 8
-    unfolding distanceIn nearestDistance
     distance-le =
         omega (
           arith,
-          ap (λ (t : Bool). cond t (distance v (copy false) (copy true) (nearest v (copy false) (copy true))) 0) versioned,
-          ap (distance v (copy false) (copy true)) (near .0),
-          near .1,
+          ap (λ (x : NearestAnswer). x .distance) found,
+          flips-distance v (4 * l + k) mark h (R .low) mark-length size mark-below b first-copy second-copy,
         )

@@ -15,16 +15,16 @@ use Rattle.symbol.specs.Layout.{layoutOf, layoutRefusal, layoutWritten}
 use Rattle.symbol.proofs.Theorems.{layout-length}
 use Rattle.information.specs.declared.InfoBits.{InfoBits}
 use Rattle.information.specs.declared.InfoBits.the-variants.{Word, OutOfRange}
-use Rattle.information.specs.Information.{isInfo, infoRefusal, wordRefusalOf, copyOf, nearest, distance, nearestLevel, nearestMask}
+use Rattle.information.specs.Information.{infoBits, isInfo, InfoAnswer, infoOf, infoAnswer, copyOf, nearest, distance, NearestAnswer, nearestOf}
 use Rattle.information.proofs.Apart.{nearest-le}
 use Rattle.blocks.specs.Blocks.{totalOf, rowOf, rowLength, rowHolds, shapes, totalData, dataModules, hasBlocks}
 use Rattle.blocks.proofs.Rows.{total-small, total-shapes}
 use Rattle.blocks.proofs.Theorems.{row-holds}
 use Rattle.blockwise.proofs.Theorems.{row-holds-own}
-use Rattle.squares.specs.Read.{Reading, readingOf, refused, withReceipt, levelIn, maskIn}
+use Rattle.squares.specs.Read.{Reading, readingOf, refused, withReceipt, levelIn, maskIn, nearestIn}
 use Rattle.squares.proofs.Refusals.{both-true, true-both, true-unless, false-unless, leb-fact, eqb-fact}
 use Rattle.squares.proofs.Marks.{version-is}
-use Rattle.squares.proofs.Demand.{data-le}
+use Rattle.squares.proofs.ReadBack.{data-le}
 
 -- ---- the layout of a version, written into a buffer that is long enough
 
@@ -38,14 +38,20 @@ layout-front v out g low high h e =
 
 -- ---- b is the answer for the word of a version, level and mask
 
-module _ (v l k : ℕ) (b : InfoBits) (er : wordRefusalOf b ≡ infoRefusal v l k) where
+module _ (v l k : ℕ) (b : InfoBits) (er : infoAnswer b ≡ infoOf v l k) where
+  number-is : infoAnswer b .number ≡ cond (isInfo v l k) 0 1
+  unfolding infoOf
+  number-is = ap (λ (x : InfoAnswer). x .number) er ∙ go (isInfo v l k)
+    where
+      go : (t : Bool) → cond {A = InfoAnswer} t (record { number = 0; word = infoBits v l k }) (record { number = 1; word = 0 }) .number ≡ cond t 0 1
+      go true = refl
+      go false = refl
+
   pub no-word : b ≡ OutOfRange → isInfo v l k ≡ false
-  unfolding infoRefusal
-  no-word e = false-unless (isInfo v l k) 0 (sym er ∙ ap wordRefusalOf e)
+  no-word e = false-unless (isInfo v l k) 0 (sym number-is ∙ ap (λ (x : InfoBits). infoAnswer x .number) e)
 
   pub has-word : (w : ℕ) → b ≡ Word w → isInfo v l k ≡ true
-  unfolding infoRefusal
-  has-word w e = true-unless (isInfo v l k) 0 (sym er ∙ ap wordRefusalOf e)
+  has-word w e = true-unless (isInfo v l k) 0 (sym number-is ∙ ap (λ (x : InfoBits). infoAnswer x .number) e)
 
 -- ---- whether a version and level have blocks: the rows of the table hold their rule, so that the data modules decide
 
@@ -95,19 +101,31 @@ side-range side e =
     let q : cond (leb 23 side && (leb side 189 && eqb (side % 2) 1)) ((side - 21) / 2) 0 ≡ (side - 21) / 2 = ap (λ (t : Bool). cond t ((side - 21) / 2) 0) e in
     (omega arith, omega arith)
 
+abbrev found : ℕ → ℕ → ℕ → NearestAnswer
+found v a b = record { number = 0; level = nearest v a b / 4; mask = nearest v a b % 4; distance = distance v a b (nearest v a b) }
+
+abbrev missing : NearestAnswer
+missing = record { number = 1; level = 0; mask = 0; distance = 0 }
+
 pub level-range : (v : ℕ) (sq : List ℕ) → levelIn v sq ≤ 3
-unfolding levelIn nearestLevel nearest
+unfolding nearestIn nearestOf nearest
 level-range v sq = go (isVersion v)
   where
-    go : (b : Bool) → cond b (nearest v (copyOf (sideOf v) false sq) (copyOf (sideOf v) true sq) / 4) 0 ≤ 3
+    a : ℕ
+    a = copyOf (sideOf v) false sq
+
+    b : ℕ
+    b = copyOf (sideOf v) true sq
+
+    go : (t : Bool) → cond t (found v a b) missing .level ≤ 3
     go true = omega (arith, nearest-le (distance v (copyOf (sideOf v) false sq) (copyOf (sideOf v) true sq)) 15)
     go false = omega arith
 
 pub mask-range : (v : ℕ) (sq : List ℕ) → maskIn v sq ≤ 3
-unfolding maskIn nearestMask
+unfolding nearestIn nearestOf
 mask-range v sq = go (isVersion v)
   where
-    go : (b : Bool) → cond b (nearest v (copyOf (sideOf v) false sq) (copyOf (sideOf v) true sq) % 4) 0 ≤ 3
+    go : (t : Bool) → cond t (found v (copyOf (sideOf v) false sq) (copyOf (sideOf v) true sq)) missing .mask ≤ 3
     go true = omega arith
     go false = omega arith
 

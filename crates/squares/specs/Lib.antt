@@ -1,4 +1,5 @@
--- Document 01, "Records" (receipt) and "Operations": Read a square, Read with known version, level, mask, and Write a square.
+-- SPECIFICATION 2.6 and 10.9 to 10.11: the receipt, Read a square, Read with known version, level, mask, and Write a square.
 pub mod Receipt
 pub mod Read
 pub mod Write
+pub mod Promise

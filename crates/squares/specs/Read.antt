@@ -1,5 +1,5 @@
--- Document 01, "Operations": Read a square, and Read with known version, level, mask. The first refusal that applies is given, each tested
--- over the whole input.
+-- SPECIFICATION 10.9 and 10.10: Read a square, and Read with known version, level, mask. The first refusal that applies is given, each
+-- tested over the whole input.
 use mathlib.Core.Bool.{Bool, true, false, cond, _&&_}
 use mathlib.Core.List.{List, [], _∷_}
 use Prim.Native.Nat.{ℕ, _*_}
@@ -7,7 +7,7 @@ use lib.Dec.{leb, eqb}
 use lib.ListN.{length}
 use Rattle.symbol.specs.Version.{sideOf, isSide, sideVersion}
 use Rattle.symbol.specs.Layout.{layoutOf}
-use Rattle.information.specs.Information.{isInfo, copyOf, nearestLevel, nearestMask, nearestDistance}
+use Rattle.information.specs.Information.{isInfo, copyOf, NearestAnswer, nearestOf}
 use Rattle.blocks.specs.Blocks.{totalOf, shapesOf, hasBlocks, cut}
 use Rattle.codewords.specs.Codewords.{maskBit, streamIn}
 use Rattle.blockwise.specs.Blockwise.{refusalOf, countOf, corrected, dataOf}
@@ -44,24 +44,27 @@ areModules [] = true
 areModules (m ∷ ms) = leb m 1 && areModules ms
 
 -- the nearest level and mask of a square of version v, and their distance
-unfoldable pub levelIn : ℕ → List ℕ → ℕ
-levelIn v sq = nearestLevel v (copyOf (sideOf v) false sq) (copyOf (sideOf v) true sq)
+unfoldable pub nearestIn : ℕ → List ℕ → NearestAnswer
+nearestIn v sq = nearestOf v (copyOf (sideOf v) false sq) (copyOf (sideOf v) true sq)
 
-unfoldable pub maskIn : ℕ → List ℕ → ℕ
-maskIn v sq = nearestMask v (copyOf (sideOf v) false sq) (copyOf (sideOf v) true sq)
+abbrev pub levelIn : ℕ → List ℕ → ℕ
+levelIn v sq = nearestIn v sq .level
 
-unfoldable pub distanceIn : ℕ → List ℕ → ℕ
-distanceIn v sq = nearestDistance v (copyOf (sideOf v) false sq) (copyOf (sideOf v) true sq)
+abbrev pub maskIn : ℕ → List ℕ → ℕ
+maskIn v sq = nearestIn v sq .mask
+
+abbrev pub distanceIn : ℕ → List ℕ → ℕ
+distanceIn v sq = nearestIn v sq .distance
 
 -- the stream of a square of version v under a mask
 unfoldable pub streamFrom : ℕ → ℕ → List ℕ → List ℕ
 streamFrom v mask sq = streamIn (totalOf v) (maskBit (sideOf v) mask) (layoutOf v) sq
 
--- "Words of demand 3": the blocks of a square, for a version, level and mask
+-- SPECIFICATION 11.3: the blocks of a square, for a version, level and mask
 unfoldable pub blocksIn : ℕ → ℕ → ℕ → List ℕ → List (List ℕ)
 blocksIn v level mask sq = cut (shapesOf v level) (streamFrom v mask sq)
 
--- 1 side not odd or not 23 to 189; 2 not s × s bytes; 3 a byte above 1; 4 distance above 10; 1 for a row or version as under Blocks
+-- 1 side not odd or not 23 to 189; 2 not s × s bytes; 3 a byte above 1; 4 distance above 10; 1 by SPECIFICATION 7.4
 unfoldable pub readRefusal : ℕ → List ℕ → ℕ
 readRefusal side sq =
     firstRefusal
@@ -94,12 +97,12 @@ unfoldable pub withReceipt : List ℕ → List ℕ → List ℕ → ℕ → Read
 withReceipt r p s refusal body =
     cond (eqb (length r) 12) (cond (eqb refusal 0) body (refused refusal p s)) (readingOf 2 r p s)
 
--- Read a square
+-- SPECIFICATION 10.9: Read a square
 unfoldable pub readOf : List ℕ → ℕ → List ℕ → List ℕ → List ℕ → Reading
 readOf sq side p s r =
     let v = sideVersion side in
     withReceipt r p s (readRefusal side sq) (bodyOf v (levelIn v sq) (maskIn v sq) (distanceIn v sq) sq p s)
 
--- Read with known version, level, mask: its receipt shows distance 0
+-- SPECIFICATION 10.10: Read with known version, level, mask; its receipt shows distance 0
 unfoldable pub readKnownOf : List ℕ → ℕ → ℕ → ℕ → List ℕ → List ℕ → List ℕ → Reading
 readKnownOf sq v level mask p s r = withReceipt r p s (knownRefusal v level mask sq) (bodyOf v level mask 0 sq p s)

@@ -1,4 +1,4 @@
--- Document 01, "Records": the receipt, 12 bytes.
+-- SPECIFICATION 2.6: the receipt, 12 bytes.
 use mathlib.Core.List.{List, [], _∷_}
 use Prim.Native.Nat.{ℕ, _/_, _%_}
 use lib.ListN.{replicate}

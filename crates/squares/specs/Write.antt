@@ -1,4 +1,4 @@
--- Document 01, "Operations": Write a square.
+-- SPECIFICATION 10.11: Write a square.
 use mathlib.Core.Bool.{cond}
 use mathlib.Core.Option.{Option, none, some}
 use mathlib.Core.List.{List, [], _∷_}
@@ -35,7 +35,7 @@ abbrev pub scriptRefusals : Option (List Segment) → List ℕ → ℕ → List 
 scriptRefusals none p room = 11 ∷ []
 scriptRefusals (some gs) p room = unless (allHave gs) 12 ∷ unless (ltb 0 (length p)) 8 ∷ unless (leb (bitsOfSegments gs) (8 * room)) 13 ∷ []
 
--- 1 version, level or mask outside its range, or a row or version as under Blocks; 2 square not s × s; then script and payload
+-- 1 version, level or mask outside its range, or by SPECIFICATION 7.4; 2 square not s × s; then script and payload
 unfoldable pub writeRefusal : ℕ → ℕ → ℕ → List ℕ → List ℕ → List ℕ → ℕ
 writeRefusal v level mask s p sq =
     firstRefusal

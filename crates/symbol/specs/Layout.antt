@@ -1,4 +1,5 @@
--- Document 01, "Layout" (000: `layout`, `alignment`). A layout has s × s kinds, row by row: 0 data, 1 information, 2 light, 3 dark.
+-- SPECIFICATION 2.4, 4 and 10.2 (han_xin.rs: `layout`, `alignment`). A layout has s × s kinds, row by row: 0 data, 1 information, 2 light,
+-- 3 dark.
 use mathlib.Core.Bool.{Bool, cond, not, _&&_}
 use mathlib.Core.List.{List, [], _∷_, _++_}
 use Prim.Native.Nat.{ℕ, zero, suc, _+_, _-_, _*_, _/_, _%_, _^_}
@@ -21,7 +22,7 @@ light = 2
 abbrev pub dark : ℕ
 dark = 3
 
--- The corners: finders, separators and information modules.
+-- The corners (4.1 to 4.4): finders, separators and information modules.
 
 -- the rows of the finders top left, bottom left, top right, bottom right; bit 6 is the leftmost module
 unfoldable pub finders : List (List ℕ)
@@ -70,7 +71,7 @@ cornerKind s i = cornerAt s (i / s) (i % s)
 unfoldable pub corners : ℕ → List ℕ
 corners s = table (s * s) (cornerKind s)
 
--- Plots. A coordinate may lie outside the square: it is a whole number of either sign.
+-- Plots (4.7). A coordinate may lie outside the square: it is a whole number of either sign.
 
 -- the place of column x and row y, or s × s where it lies outside
 unfoldable pub placeAt : ℕ → ℤ → ℤ → ℕ
@@ -99,7 +100,7 @@ each (suc n) f = each n f ++ f n
 abbrev pub when : Bool → List Plot → List Plot
 when b ps = cond b ps []
 
--- The alignment patterns, from version 4.
+-- The alignment patterns (4.5 to 4.9), from version 4.
 
 -- k, r and m of each version
 unfoldable pub ks : List ℕ
@@ -187,7 +188,7 @@ crossing v n j =
 unfoldable pub crossings : ℕ → List Plot
 crossings v = each (mOf v + 2) (λ n. each (mOf v + 2) (crossing v n))
 
--- all plots, in the order of the Rust's `alignment`
+-- all plots, in the order of SPECIFICATION 4.9
 unfoldable pub alignment : ℕ → List Plot
 alignment v = each (mOf v + 2) (rowEnds v) ++ (each (mOf v + 2) (columnEnds v) ++ crossings v)
 
@@ -195,7 +196,7 @@ alignment v = each (mOf v + 2) (rowEnds v) ++ (each (mOf v + 2) (columnEnds v) +
 unfoldable pub layoutOf : ℕ → List ℕ
 layoutOf v = plotAll (sideOf v) (cond (ltb v 4) [] (alignment v)) (corners (sideOf v))
 
--- Operation Layout. 1: no such version; 2: the buffer is shorter than s × s; 0: filled.
+-- SPECIFICATION 10.2, Layout. 1: no such version; 2: the buffer is shorter than s × s; 0: filled.
 unfoldable pub layoutRefusal : ℕ → List ℕ → ℕ
 layoutRefusal v out = cond (isVersion v) (cond (ltb (length out) (sideOf v * sideOf v)) 2 0) 1
 

@@ -1,4 +1,4 @@
--- Document 01, "Records": version v is 1 to 84, and its square has the side s = 2v + 21, odd and 23 to 189.
+-- SPECIFICATION 2.1: version v is 1 to 84, and its square has the side s = 2v + 21, odd and 23 to 189.
 use mathlib.Core.Bool.{Bool, cond, _&&_}
 use Prim.Native.Nat.{ℕ, _+_, _-_, _*_, _/_, _%_}
 use lib.Dec.{leb, eqb}

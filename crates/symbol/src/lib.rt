@@ -1,5 +1,5 @@
-// Document 01, "Records" (version) and "Layout": finders, separators, information and alignment patterns of a version
-// (000: `size`, `version`, `layout`, `alignment`).
+// SPECIFICATION 2.1 and 4: versions; finders, separators, information and alignment patterns of a version
+// (han_xin.rs: `size`, `version`, `layout`, `alignment`).
 ghost use mathlib.Core.Bool.{true, false};
 ghost use mathlib.Core.Path.{_≡_};
 ghost use mathlib.Core.List.{[], _∷_};
@@ -56,7 +56,7 @@ impl Version {
     }
 }
 
-// k, r and m of each version (000: `MODULE_K`, `MODULE_R`, `MODULE_M`).
+// k, r and m of each version (han_xin.rs: `MODULE_K`, `MODULE_R`, `MODULE_M`).
 const MODULE_K: [u8; 84] = [
     0,
     0,
@@ -829,7 +829,7 @@ pub enum LayoutAnswer {
     TooShort,
 }
 
-// The layout of a version, in the first side * side bytes.
+// SPECIFICATION 10.2, Layout: the layout of a version, in the first side * side bytes.
 pub fn layout(version: usize, out: &mut [u8]) -> LayoutAnswer
     ensures { λ r. ⌜ (refusalOf r ≡ layoutRefusal version (now (out .entry))) × (now (out .exit) ≡ layoutWritten version (now (out .entry))) ⌝ }
 {

@@ -11,7 +11,7 @@ use Rattle.script.specs.Inner.{Fits}
 use Rattle.squares.specs.Write.{roomOf, writeRefusal}
 use Rattle.squares.proofs.Marks.{no-refusal}
 use Rattle.blocks.proofs.Rows.{total-shapes}
-use Rattle.squares.proofs.Demand.{data-le}
+use Rattle.squares.proofs.ReadBack.{data-le}
 use Rattle.squares.proofs.Starts.{row-total, row-data}
 use Rattle.writer.specs.declared.Mark.{Mark}
 use Rattle.writer.specs.Inner.{Ranged}

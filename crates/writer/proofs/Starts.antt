@@ -1,6 +1,6 @@
 -- What all else rests on: version, level and mask in their ranges, their word, and the version's layout. Assumes nothing.
 use mathlib.Core.Path.{_≡_, sym, ap, _∙_}
-use mathlib.Core.Bool.{Bool, true, cond}
+use mathlib.Core.Bool.{true}
 use mathlib.Core.List.{List}
 use Prim.Native.Nat.{ℕ, _*_, _≤_}
 use native.Mathlib.Omega.{arith}
@@ -10,7 +10,7 @@ use Rattle.symbol.specs.Layout.{layoutWritten}
 use Rattle.symbol.proofs.Coordinates.{square-le}
 use Rattle.information.specs.declared.InfoBits.{InfoBits}
 use Rattle.information.specs.declared.InfoBits.the-variants.{Word}
-use Rattle.information.specs.Information.{isInfo, infoRefusal, infoWord, infoBits, wordRefusalOf, wordIn}
+use Rattle.information.specs.Information.{isInfo, infoBits, InfoAnswer, infoOf, infoAnswer}
 use Rattle.squares.proofs.Marks.{ranges}
 use Rattle.squares.proofs.Starts.{layout-front, has-word}
 use Rattle.writer.specs.Inner.{Ranged, Ready}
@@ -22,17 +22,20 @@ square-small v side h e = square-le side (omega arith)
 
 -- ---- b is the answer for the word of the three, and it is a word
 
-module _ (v l k : ℕ) (b : InfoBits) (er : wordRefusalOf b ≡ infoRefusal v l k) (w : ℕ) (e : b ≡ Word w) where
+module _ (v l k : ℕ) (b : InfoBits) (er : infoAnswer b ≡ infoOf v l k) (w : ℕ) (e : b ≡ Word w) where
   has : isInfo v l k ≡ true
   has = has-word v l k b er w e
 
   -- it is theirs
-  word-is : wordIn b ≡ infoWord v l k → w ≡ infoBits v l k
-  unfolding infoWord
-  word-is f = sym (ap wordIn e) ∙ f ∙ ap (λ (t : Bool). cond t (infoBits v l k) 0) has
+  theirs : infoOf v l k ≡ record { number = 0; word = infoBits v l k }
+  unfolding infoOf
+  theirs = simp has
 
-  pub ranged : wordIn b ≡ infoWord v l k → Ranged (record { version = v; level = l; mask = k; word = w })
-  ranged f = let R = ranges v l k has in record { low = R .low; high = R .high; level = R .level; mask = R .mask; word = word-is f }
+  word-is : w ≡ infoBits v l k
+  word-is = sym (ap (λ (x : InfoBits). infoAnswer x .word) e) ∙ ap (λ (x : InfoAnswer). x .word) (er ∙ theirs)
+
+  pub ranged : Ranged (record { version = v; level = l; mask = k; word = w })
+  ranged = let R = ranges v l k has in record { low = R .low; high = R .high; level = R .level; mask = R .mask; word = word-is }
 
 -- with the layout in a buffer, all is ready
 pub ready : (m : Mark) (out g : List ℕ) → Ranged m → sideOf (m .version) * sideOf (m .version) ≤ length out → g ≡ layoutWritten (m .version) out → Ready m g

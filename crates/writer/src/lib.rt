@@ -1,4 +1,4 @@
-// Document 01, "Operations": Write a square (an addition to the original, which reads only).
+// SPECIFICATION 10.11: Write a square (an addition to the original, which reads only).
 use information::InfoBits;
 use script::Check;
 ghost use mathlib.Core.Path.{_≡_};

@@ -25,18 +25,18 @@ returns-2 c =
     let info-bits = c .before .before .before .before .before .before .info-bits in
     let enum-told2 = c .before .before .before .before .enum-told2 in
     let a = start .args in
-    known-range (a .square .now) (a .m .version) (a .m .level) (a .m .mask) _ _ _ (if1 .left) (no-word _ _ _ _ (info-bits .ensures .0) (enum-told2 .given .1)) _ _ (c .before .before .refuse .ensures)
+    known-range (a .square .now) (a .m .version) (a .m .level) (a .m .mask) _ _ _ (if1 .left) (no-word _ _ _ _ (info-bits .ensures) (enum-told2 .given .1)) _ _ (c .before .before .refuse .ensures)
 
 side-requires : tie.Need-side-requires
 side-requires c κs =
     let a = c .before .before .before .before .before .before .before .before .before .args in
-    ranges _ _ _ (has-word (a .m .version) (a .m .level) (a .m .mask) _ (c .before .before .info-bits .ensures .0) _ (c .enum-told .given .1)) .high
+    ranges _ _ _ (has-word (a .m .version) (a .m .level) (a .m .mask) _ (c .before .before .info-bits .ensures) _ (c .enum-told .given .1)) .high
 
 square-refusal-requires : tie.Need-square-refusal-requires
 square-refusal-requires c κs =
     let start = c .before .before .before .before .before .before .before .before .before .before in
     let a = start .args in
-    omega (arith, c .side .ensures, ranges _ _ _ (has-word (a .m .version) (a .m .level) (a .m .mask) _ (c .before .before .before .info-bits .ensures .0) _ (c .before .enum-told .given .1)) .high)
+    omega (arith, c .side .ensures, ranges _ _ _ (has-word (a .m .version) (a .m .level) (a .m .mask) _ (c .before .before .before .info-bits .ensures) _ (c .before .enum-told .given .1)) .high)
 
 refuse-requires-2 : tie.Need-refuse-requires-2
 refuse-requires-2 c κs =
@@ -54,7 +54,7 @@ returns-3 c =
     let square-refusal = c .before .before .before .before .before .square-refusal in
     let if2 = c .before .before .before .before .if2 in
     let a = start .args in
-    known-early (a .square .now) (a .m .version) (a .m .level) (a .m .mask) _ _ _ (if1 .left) (has-word (a .m .version) (a .m .level) (a .m .mask) _ (info-bits .ensures .0) _ (enum-told .given .1)) _ _ (side .ensures) (square-refusal .ensures) (if2 .taken) _ _ (c .before .before .refuse2 .ensures)
+    known-early (a .square .now) (a .m .version) (a .m .level) (a .m .mask) _ _ _ (if1 .left) (has-word (a .m .version) (a .m .level) (a .m .mask) _ (info-bits .ensures) _ (enum-told .given .1)) _ _ (side .ensures) (square-refusal .ensures) (if2 .taken) _ _ (c .before .before .refuse2 .ensures)
 
 finish-in-requires : tie.Need-finish-in-requires
 finish-in-requires c κs =
@@ -65,7 +65,7 @@ finish-in-requires c κs =
     let side = c .before .before .before .before .before .before .side in
     let square-refusal = c .before .before .before .before .before .square-refusal in
     let a = start .args in
-    let fits = known-fits (a .square .now) (a .m .version) (a .m .level) (a .m .mask) (a .payload .now) (a .script .now) (a .receipt .now) (if1 .left) (has-word (a .m .version) (a .m .level) (a .m .mask) _ (info-bits .ensures .0) _ (enum-told .given .1)) _ _ (side .ensures) (square-refusal .ensures) (c .before .before .before .before .if2 .left) in
+    let fits = known-fits (a .square .now) (a .m .version) (a .m .level) (a .m .mask) (a .payload .now) (a .script .now) (a .receipt .now) (if1 .left) (has-word (a .m .version) (a .m .level) (a .m .mask) _ (info-bits .ensures) _ (enum-told .given .1)) _ _ (side .ensures) (square-refusal .ensures) (c .before .before .before .before .if2 .left) in
     let fitting : Fitting (a .m) (a .square .now) = record { low = fits .low; high = fits .high; level = fits .level; mask = fits .mask; near = omega (arith, start .pre .1); size = fits .size; bits = fits .bits } in
     (fitting, if1 .left, start .pre .0 .room _ (fits .high) (fits .size))
 
@@ -82,7 +82,7 @@ returns-4 c =
     let a = start .args in
     finish .ensures
     ∙ ap (λ (d : ℕ). bodyOr1 (record { version = a .m .version; level = a .m .level; mask = a .m .mask; distance = d }) (a .square .now) (a .payload .now) (a .script .now)) (start .pre .1)
-    ∙ known-left (a .square .now) (a .m .version) (a .m .level) (a .m .mask) _ _ _ (if1 .left) (has-word (a .m .version) (a .m .level) (a .m .mask) _ (info-bits .ensures .0) _ (enum-told .given .1)) _ _ (side .ensures) (square-refusal .ensures) (if2 .left)
+    ∙ known-left (a .square .now) (a .m .version) (a .m .level) (a .m .mask) _ _ _ (if1 .left) (has-word (a .m .version) (a .m .level) (a .m .mask) _ (info-bits .ensures) _ (enum-told .given .1)) _ _ (side .ensures) (square-refusal .ensures) (if2 .left)
 
 pub read-known-in-spec : {M : Type 1} → statement M
 read-known-in-spec =

@@ -9,13 +9,13 @@ use Rattle.writer.proofs.write_in.Tie as tie
 returns : tie.Need-returns
 returns c =
     let start = c .before .before .before .before .before .before .before in
-    answers-one _ _ _ (start .args .script .now) (start .args .payload .now) (start .args .square .now) (no-word _ _ _ _ (c .before .before .info-bits .ensures .0) (c .enum-told .given .1))
+    answers-one _ _ _ (start .args .script .now) (start .args .payload .now) (start .args .square .now) (no-word _ _ _ _ (c .before .before .info-bits .ensures) (c .enum-told .given .1))
 
 write-ready-requires : tie.Need-write-ready-requires
 write-ready-requires c κs =
     let start = c .before .before .before .before .before .before .before .before .before .before .before .before .before .before in
     let told = c .before .before .before .before .before .before .before .before .before .info-bits .ensures in
-    let R = ranged _ _ _ _ (told .0) _ (c .before .before .before .before .before .before .before .word .given .1) (told .1) in
+    let R = ranged _ _ _ _ told _ (c .before .before .before .before .before .before .before .word .given .1) in
     ready _ (start .args .kinds .now) _ R (start .pre (R .high)) (c .before .before .before .before .layout .ensures .1)
 
 pub write-in-spec : {M : Type 1} → statement M

@@ -23,12 +23,13 @@ use Rattle.script.specs.Check.{commandsOf, encoded}
 use Rattle.script.proofs.Theorems.{encoded-data, round-trip}
 use Rattle.squares.specs.Receipt.{receiptOf}
 use Rattle.squares.specs.Read.{Reading, refused, firstRefusal, unless, areModules, levelIn, maskIn, distanceIn, streamFrom, blocksIn, readRefusal, knownRefusal, told, bodyOf, withReceipt, readOf, readKnownOf}
-use Rattle.squares.specs.Write.{roomOf, markOf}
+use Rattle.squares.specs.Write.{roomOf, markOf, writeOf}
+use Rattle.squares.specs.Promise.{blockCount, parityIn, changedAt, changed}
 use Rattle.squares.proofs.Refusals.{unless-true, first-skips, both-true, leb-fact}
 use Rattle.squares.proofs.Modules.{below-modules, stream-length}
 use Rattle.codewords.proofs.Small.{Below}
 use Rattle.squares.proofs.Data.{data-below}
-use Rattle.squares.proofs.Marks.{Ranges, Written, info-is, side-is, side-version, level-is, mask-is, distance-le}
+use Rattle.squares.proofs.Marks.{Ranges, Written, written, mark-length, info-is, side-is, side-version, level-is, mask-is, distance-le}
 
 -- the data codewords are no more than the codewords
 pub data-le : (bs : List Shape) → totalData bs ≤ totalSize bs
@@ -169,3 +170,34 @@ module _ (v l k : ℕ) (script payload before : List ℕ) (bytes : Below 256 scr
             ∙ ap (λ (x : ℕ). bodyOf x (levelIn x square) (maskIn x square) (distanceIn x square) square p s) same
             ∙ ap₂ (λ (a b : ℕ). bodyOf v a b (distanceIn v square) square p s) lv (mask-is v l k script payload R square size modules few)
             ∙ body-back (distanceIn v square)
+
+-- ---- the same of what the writer left in the square
+
+module _ (v l k : ℕ) (script payload before mark : List ℕ) (bytes : Below 256 script)
+    (made : writeOf v l k script payload before ≡ record { number = 0; square = mark })
+    (square : List ℕ) (size : length square ≡ length mark) (modules : Below 2 square)
+    (reach : (j : ℕ) → j < blockCount v l → changedAt v l k square mark j ≤ parityIn v l j / 2)
+    (p s r : List ℕ) (receipt : length r ≡ 12) (room-p : length payload ≤ length p) (room-s : length script ≤ length s) where
+  is-mark : mark ≡ markOf v l k script payload
+  is-mark = written v l k script payload before mark made .1
+
+  is-written : Written v l k script payload before
+  is-written = written v l k script payload before mark made .0
+
+  sized′ : length square ≡ sideOf v * sideOf v
+  sized′ = size ∙ ap length is-mark ∙ mark-length v l k script payload (is-written .ranged)
+
+  reach′ : (j : ℕ) → j < blockCount v l → changedAt v l k square (markOf v l k script payload) j ≤ parityIn v l j / 2
+  reach′ j h = subst (λ (m : List ℕ). changedAt v l k square m j ≤ parityIn v l j / 2) is-mark (reach j h)
+
+  pub mark-read : infoFlips (layoutOf v) mark square ≤ 8
+      → readOf square (sideOf v) p s r ≡ given v l k (changed v l k square mark) (distanceIn v square) script payload p s
+  mark-read few =
+      read-back v l k script payload before bytes is-written square sized′ modules reach′ p s room-p room-s r receipt
+      (subst (λ (m : List ℕ). infoFlips (layoutOf v) m square ≤ 8) is-mark few)
+      ∙ ap (λ (m : List ℕ). given v l k (changed v l k square m) (distanceIn v square) script payload p s) (sym is-mark)
+
+  pub mark-known : readKnownOf square v l k p s r ≡ given v l k (changed v l k square mark) 0 script payload p s
+  mark-known =
+      known-back v l k script payload before bytes is-written square sized′ modules reach′ p s room-p room-s r receipt
+      ∙ ap (λ (m : List ℕ). given v l k (changed v l k square m) 0 script payload p s) (sym is-mark)
