@@ -1,8 +1,17 @@
--- The numbers and buffers of an outcome of Segments from data.
+-- The numbers and buffers of an outcome of Segments from data, and the numbers of an answer of the check of a script.
 use mathlib.Core.Path.{_≡_}
 use mathlib.Core.List.{List}
 use Prim.Native.Nat.{ℕ}
 use Rattle.segments.specs.FromData.{Outcome}
+use Rattle.script.specs.declared.Check.{Check}
+use Rattle.script.specs.declared.Check.the-variants.{Bits, Malformed, Lacking, Empty}
 
 abbrev pub Is : Outcome → ℕ → ℕ → ℕ → List ℕ → List ℕ → Type 0
 Is o refusal n m p c = (refusal ≡ o .refusal) × (n ≡ o .payloadLength) × (m ≡ o .scriptLength) × (p ≡ o .payload) × (c ≡ o .script)
+
+-- the refusal number, and the number of bits beside it
+abbrev pub Says : Check → ℕ → ℕ → Type 0
+Says (Bits b) refusal n = (refusal ≡ 0) × (n ≡ b)
+Says Malformed refusal n = (refusal ≡ 11) × (n ≡ 0)
+Says Lacking refusal n = (refusal ≡ 12) × (n ≡ 0)
+Says Empty refusal n = (refusal ≡ 8) × (n ≡ 0)

@@ -1,10 +1,9 @@
 // The segments for the comparison with the original: numbers and byte slices only.
 use script::Check;
 use segments::Answer;
-ghost use mathlib.Core.Path.{_≡_};
 ghost use Rattle.segments.specs.FromData.{fromData};
-ghost use Rattle.compare_segments.specs.Is.{Is};
-ghost use Rattle.script.specs.Check.{checkOf, refusalOf, bitsOfCheck};
+ghost use Rattle.script.specs.Inner.{checkOf};
+ghost use Rattle.compare_segments.specs.Is.{Is, Says};
 
 // SPECIFICATION 10.7: the refusal number, and the lengths of payload and script beside it.
 #[repr(C)]
@@ -68,7 +67,7 @@ pub struct Checked {
 // The check of a script and its payload.
 #[no_mangle]
 pub extern "C" fn compare_segments_check(script: &[u8], payload: &[u8]) -> Checked
-    ensures { λ r. ⌜ (r .refusal ≡ refusalOf (checkOf (now (script .entry)) (now (payload .entry)))) × (r .bits ≡ bitsOfCheck (checkOf (now (script .entry)) (now (payload .entry)))) ⌝ }
+    ensures { λ r. ⌜ Says (checkOf (now (script .entry)) (now (payload .entry))) (r .refusal) (r .bits) ⌝ }
 {
     let answer = script::check_script(script, payload);
     match answer {

@@ -1,3 +1,2 @@
 -- The encoding of a script: what its functions leave in the data.
 pub mod Written
-pub mod Fits

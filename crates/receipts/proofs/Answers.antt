@@ -1,5 +1,5 @@
 -- What is told of an answer, and of an outcome. Assumes nothing.
-use mathlib.Core.Path.{_≡_, refl, sym, ap, subst, _∙_}
+use mathlib.Core.Path.{_≡_, sym, ap, subst, _∙_}
 use mathlib.Core.Logic.{inl, inr}
 use mathlib.Core.Bool.{Bool, true, false, cond}
 use mathlib.Core.List.{List, _++_}
@@ -11,25 +11,29 @@ use native.Mathlib.Omega.{arith}
 use Rattle.segments.specs.declared.Answer.{Answer}
 use Rattle.segments.specs.declared.Answer.the-variants.{Read}
 use Rattle.segments.specs.Script.{Segment, payloadOf, scriptOf}
-use Rattle.segments.specs.Segments.{Result, cut, lacking, got, segmentsOf}
-use Rattle.segments.specs.FromData.{Outcome, refusalOf, payloadLengthOf, scriptLengthOf, told, refused, given, givenOr7, fromData}
+use Rattle.segments.specs.Segments.{segmentsOf}
+use Rattle.segments.specs.FromData.{Outcome, told, refused, given, isBroken, fromData}
 use Rattle.segments.proofs.Theorems.{room-enough}
 use Rattle.receipts.specs.declared.Told.{Told}
 use Rattle.receipts.specs.Inner.{Refuses, Answers, Tells}
 
 pub answers-read : (a : Answer) (p s n : ℕ) (t : Told) → a ≡ Read p s → t .number ≡ 0 → t .count ≡ n → t .payload ≡ p → t .script ≡ s → Answers a n t
-answers-read a p s n t e f g h k = subst (λ (b : Answer). Answers b n t) (sym e) (record { number = f; count = inr g; zero = λ z. g; payload = h; script = k })
-
-pub answers-refused : (b a : Answer) (n : ℕ) (t : Told) → a ≡ b → (refusalOf b ≡ 0 → ⊥) → payloadLengthOf b ≡ 0 → scriptLengthOf b ≡ 0
-    → Refuses (refusalOf b) t → Answers a n t
-answers-refused b a n t e d f g R =
+answers-read a p s n t e f g h k =
     subst (λ (b : Answer). Answers b n t) (sym e)
     (record {
-      number = R .number;
+      is = λ x y i. record { refusal = sym f i; payloadLength = sym h i; scriptLength = sym k i; payload = x; script = y };
+      count = inr g;
+      zero = λ z. g;
+    })
+
+pub answers-refused : (k : ℕ) (b a : Answer) (n : ℕ) (t : Told) → a ≡ b → ((p s : List ℕ) → told b p s ≡ refused k p s) → (k ≡ 0 → ⊥) → Refuses k t → Answers a n t
+answers-refused k b a n t e f d R =
+    subst (λ (b : Answer). Answers b n t) (sym e)
+    (record {
+      is = λ x y. f x y
+          ∙ (λ i. record { refusal = sym (R .number) i; payloadLength = sym (R .payload) i; scriptLength = sym (R .script) i; payload = x; script = y });
       count = inl (R .count);
       zero = λ z. absurd (d (sym (R .number) ∙ z));
-      payload = R .payload ∙ sym f;
-      script = R .script ∙ sym g;
     })
 
 -- the numbers of an outcome are small
@@ -52,27 +56,26 @@ little-given gs p c h k =
     (little-if (ltb (length c) (length (scriptOf gs))) _ _ (little-refused 10 p c (omega arith))
     (record { number = omega arith; payload = omega arith; script = omega arith })))
 
-little-or7 : (s : List ℕ) (r : Result (List Segment)) (p c : List ℕ) → length s ≤ 3886 → segmentsOf s ≡ r → Little (givenOr7 r p c)
-little-or7 s cut p c h e = little-refused 7 p c (omega arith)
-little-or7 s lacking p c h e = little-refused 7 p c (omega arith)
-little-or7 s (got gs u) p c h e = little-given gs p c (room-enough s gs u h e .0) (room-enough s gs u h e .1)
-
 pub from-data-little : (s p c : List ℕ) → length s ≤ 3886 → Little (fromData s p c)
-from-data-little s p c h = little-if (ltb 3886 (length s)) _ _ (little-refused 2 p c (omega arith)) (little-or7 s (segmentsOf s) p c h refl)
+from-data-little s p c h =
+    little-if (ltb 3886 (length s)) _ _ (little-refused 2 p c (omega arith))
+    (little-if (isBroken (segmentsOf s .end)) _ _ (little-refused 7 p c (omega arith))
+    (little-given (segmentsOf s .segments) p c (room-enough s h .0) (room-enough s h .1)))
 
 -- what is told of the answer is told of the outcome
 pub tells : (n : ℕ) (a : Answer) (t : Told) (d p₀ s₀ p s : List ℕ) (m : ℕ) → n < 65536 → length d ≡ m → m ≤ 3886 → Answers a n t → told a p s ≡ fromData d p₀ s₀
     → Tells n (fromData d p₀ s₀) t p s
 tells n a t d p₀ s₀ p s m h k k′ A e =
-    let l = subst Little (sym e) (from-data-little d p₀ s₀ (omega arith)) in
+    let q = sym e ∙ A .is p s in
+    let l = subst Little q (from-data-little d p₀ s₀ (omega arith)) in
     record {
-      outcome = sym e ∙ (λ i. record { refusal = sym (A .number) i; payloadLength = sym (A .payload) i; scriptLength = sym (A .script) i; payload = p; script = s });
+      outcome = q;
       count = A .zero;
       small = record {
-        number = subst (λ (x : ℕ). x < 256) (sym (A .number)) (l .number);
+        number = l .number;
         count = elim (A .count) [ inl z ↦ omega (arith, z) | inr z ↦ omega (arith, z) ];
-        payload = subst (λ (x : ℕ). x < 65536) (sym (A .payload)) (l .payload);
-        script = subst (λ (x : ℕ). x < 65536) (sym (A .script)) (l .script);
+        payload = l .payload;
+        script = l .script;
       };
     }
 

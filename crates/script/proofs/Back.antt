@@ -12,7 +12,8 @@ use lib.Seq.{take-at, drop-at}
 use Rattle.bits.specs.Bits.{lowBits, value, words, wordBits}
 use Rattle.bits.proofs.Words.{length-low, low-back, length-words, words-back}
 use Rattle.segments.specs.Script.{Segment, run, eci}
-use Rattle.segments.specs.Segments.{Result, got, inBits, numericOf, textOf, bytesMode, regionOf, doubleByteOf, fourBytes, fourByteOf, eciValue, eciOf, bytesOfMode, segmentOf, first, following, parse}
+use Rattle.segments.specs.FromData.{isBroken}
+use Rattle.segments.specs.Segments.{Result, got, inBits, numericOf, textOf, bytesMode, regionOf, doubleByteOf, fourBytes, fourByteOf, eciValue, eciOf, bytesOfMode, segmentOf, Parsed, following, parse}
 use Rattle.script.specs.Writer.{all, numericWords, textWords, regionWords, doubleWords, fourCode, same, inFour, eciBits, modeHas, modeBits, modeLength, eciLength, has, encodingOf, bitsOfSegment, allHave, encodings, bitsOfSegments}
 use Rattle.script.proofs.Tests.{both, same-is}
 use Rattle.script.proofs.Digits.{numeric-back, numeric-small, numeric-length}
@@ -116,21 +117,22 @@ opened k m y p h =
     let l : 4 ≤ length (lowBits 4 m ++ y) = omega (arith, length-append (lowBits 4 m) y, length-low 4 m) in
     simp (le-ltb (length (lowBits 4 m ++ y)) 4 l, take-at (lowBits 4 m) y 4 (length-low 4 m), drop-at (lowBits 4 m) y 4 (length-low 4 m), low-back 4 m h, ne-eqb m 0 (λ e. omega arith))
 
-zeros : (z k : ℕ) → 0 < k → (u : ℕ) × (parse k (replicate z 0) ≡ got [] u)
+-- a whole parse: these segments, and an end that is not broken
+abbrev pub Whole : Parsed → List Segment → Type 0
+Whole z gs = (z .segments ≡ gs) × (isBroken (z .end) ≡ false)
+
+zeros : (z k : ℕ) → 0 < k → Whole (parse k (replicate z 0)) []
 unfolding parse value
 zeros z zero h = absurd (omega arith)
-zeros zero (suc k) h = (0, refl)
-zeros (suc zero) (suc k) h = (0, refl)
-zeros (suc (suc zero)) (suc k) h = (0, refl)
-zeros (suc (suc (suc zero))) (suc k) h = (0, refl)
+zeros zero (suc k) h = (refl, refl)
+zeros (suc zero) (suc k) h = (refl, refl)
+zeros (suc (suc zero)) (suc k) h = (refl, refl)
+zeros (suc (suc (suc zero))) (suc k) h = (refl, refl)
 zeros (suc (suc (suc (suc z)))) (suc k) h =
     let l : List ℕ = replicate z 0 in
-    (4, rw (le-ltb (suc (suc (suc (suc (length l))))) 4 (omega arith)))
+    rw (le-ltb (suc (suc (suc (suc (length l))))) 4 (omega arith)) (refl, refl)
 
-followed : (g : Segment) (u v : ℕ) (gs : List Segment) (rest : ℕ → Result (List Segment)) → rest u ≡ got gs v → following (got g u) rest ≡ got (g ∷ gs) (4 + u + v)
-followed g u v gs rest e = ap (first g u) e
-
-pub round : (k : ℕ) (gs : List Segment) (z : ℕ) → length gs < k → AllLegal gs → allHave gs ≡ true → (u : ℕ) × (parse k (encodings gs ++ replicate z 0) ≡ got gs u)
+pub round : (k : ℕ) (gs : List Segment) (z : ℕ) → length gs < k → AllLegal gs → allHave gs ≡ true → Whole (parse k (encodings gs ++ replicate z 0)) gs
 unfolding encodings allHave
 round zero gs z h l t = absurd (omega arith)
 round (suc k) [] z h l t = zeros z (suc k) (omega arith)
@@ -140,11 +142,9 @@ round (suc k) (g ∷ gs) z h l t =
     let r = round k gs z (le-of-suc-le-suc h) (l .1) (a .1) in
     let m = mode-small g (l .0) in
     let e : (encodingOf g ++ encodings gs) ++ replicate z 0 ≡ lowBits 4 (modeOf g) ++ (bodyOf g ++ x) =
-    append-assoc (encodingOf g) (encodings gs) (replicate z 0) ∙ rw (encoding-parts g) (append-assoc (lowBits 4 (modeOf g)) (bodyOf g) x) in (
-      4 + length (bodyOf g) + r .0,
-      ap (parse (suc k)) e ∙ opened k (modeOf g) (bodyOf g ++ x) (m .0) (m .1) ∙ rw (segment-back g x (l .0) (a .0))
-          (followed g (length (bodyOf g)) (r .0) gs (λ u. parse k (drop u (bodyOf g ++ x))) (rw (drop-at (bodyOf g) x (length (bodyOf g)) refl) (r .1))),
-    )
+    append-assoc (encodingOf g) (encodings gs) (replicate z 0) ∙ rw (encoding-parts g) (append-assoc (lowBits 4 (modeOf g)) (bodyOf g) x) in
+    rw (e, opened k (modeOf g) (bodyOf g ++ x) (m .0) (m .1), segment-back g x (l .0) (a .0), drop-at (bodyOf g) x (length (bodyOf g)) refl)
+    (ap (λ (z : List Segment). g ∷ z) (r .0), r .1)
 
 -- ---- the number of bits
 

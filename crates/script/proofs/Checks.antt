@@ -1,24 +1,26 @@
 -- The check's steps: a command at a place of a script, and what it leaves of the answer.
 use mathlib.Core.Path.{_≡_, refl, ap, _∙_, subst}
 use mathlib.Core.Bool.{Bool, true, false, cond, _&&_}
-use mathlib.Core.List.{List, []}
-use Prim.Native.Nat.{ℕ, zero, suc, _+_, _-_, _*_, _<_, _≤_}
+use mathlib.Core.Option.{Option, none, some, bind}
+use mathlib.Core.List.{List, [], _∷_}
+use Prim.Native.Nat.{ℕ, zero, suc, _+_, _-_, _*_, _/_, _%_, _<_, _≤_}
 use native.Mathlib.Nat.{add-zero, zero-add, add-assoc}
 use native.Mathlib.Omega.{arith}
 use borrow.Author.Tests.{eq-eqb, ne-eqb, lt-ltb, le-ltb, lt-leb, le-leb, ltb-false, leb-true}
 use lib.Dec.{ltb, eqb, leb}
 use lib.ListN.{length, getD, take, drop, length-drop}
-use lib.Seq.{getD-drop, drop-drop}
+use lib.Seq.{getD-drop, drop-drop, length-take-le}
 use Rattle.bits.proofs.Tests.{never}
-use Rattle.segments.specs.Script.{Segment, run, eci}
+use Rattle.segments.specs.Script.{Segment, run, eci, bytesOf, runCommand, commandOf}
 use Rattle.script.specs.declared.Command.{Command}
 use Rattle.script.specs.declared.Command.the-variants.{Run, Eci, Wrong}
 use Rattle.script.specs.declared.Check.the-variants.{Bits, Malformed, Lacking, Empty}
 use Rattle.script.specs.declared.Cost.{Cost}
 use Rattle.script.specs.declared.Cost.the-variants.{Takes, Lacks}
 use Rattle.script.specs.Writer.{modeHas, modeLength, eciLength, has, bitsOfSegment, allHave, bitsOfSegments}
-use Rattle.script.specs.Check.{allowed, runAt, eciAt, commandAt, commandSize, Commands, none, these, with, taking, commands, most, capped, checkedOf}
-use Rattle.script.specs.Glyphs.{costOf, Limited, settled}
+use Rattle.script.specs.Check.{allowed, lengthOperand, valueOperand, segmentAt, commands}
+use Rattle.script.specs.Inner.{runAt, eciAt, commandAt, commandSize, made, with, most, capped, checkedOf, settled}
+use Rattle.script.specs.Glyphs.{costOf, Limited}
 use Rattle.script.proofs.Tests.{both}
 
 -- ---- the command at a place
@@ -143,26 +145,84 @@ capped-add x y = go (ltb x most) refl
         let h = ltb-false x most e in
         rw (le-ltb (most + y) most (omega arith), le-ltb (x + y) most (omega arith))
 
-pub settle-start : (c : Commands) (p : List ℕ) → checkedOf c p ≡ settled false 0 c p
+pub settle-start : (c : Option (List Segment)) (p : List ℕ) → checkedOf c p ≡ settled false 0 c p
 settle-start none p = refl
-settle-start (these gs) p = rw zero-add
+settle-start (some gs) p = rw zero-add
 
-with-takes : (lacks : Bool) (t t′ b : ℕ) (g : Segment) (z : Commands) (p : List ℕ) → has g ≡ true → bitsOfSegment g ≡ b → t′ ≡ capped (t + b) → settled lacks t (with g z) p ≡ settled lacks t′ z p
+with-takes : (lacks : Bool) (t t′ b : ℕ) (g : Segment) (z : Option (List Segment)) (p : List ℕ) → has g ≡ true → bitsOfSegment g ≡ b → t′ ≡ capped (t + b)
+    → settled lacks t (with g z) p ≡ settled lacks t′ z p
 unfolding allHave bitsOfSegments
 with-takes lacks t t′ b g none p h e f = refl
-with-takes lacks t t′ b g (these gs) p h e f =
+with-takes lacks t t′ b g (some gs) p h e f =
     let k : capped (t′ + bitsOfSegments gs) ≡ capped (t + (b + bitsOfSegments gs)) = rw (f, capped-add (t + b) (bitsOfSegments gs), add-assoc t b (bitsOfSegments gs)) in
     rw (h, e, k)
 
-with-lacks : (lacks : Bool) (t : ℕ) (g : Segment) (z : Commands) (p : List ℕ) → has g ≡ false → settled lacks t (with g z) p ≡ settled true t z p
+with-lacks : (lacks : Bool) (t : ℕ) (g : Segment) (z : Option (List Segment)) (p : List ℕ) → has g ≡ false
+    → settled lacks t (with g z) p ≡ settled true t z p
 unfolding allHave
 with-lacks lacks t g none p h = refl
-with-lacks true t g (these gs) p h = refl
-with-lacks false t g (these gs) p h = rw h
+with-lacks true t g (some gs) p h = refl
+with-lacks false t g (some gs) p h = rw h
 
-opened : (k : ℕ) (s p : List ℕ) → 0 < length s → commands (suc k) s p ≡ taking (commandAt s) p (λ i j. commands k (drop i s) (drop j p))
-unfolding commands
-opened k s p h = rw (ne-eqb (length s) 0 (λ e. omega arith))
+-- the segment at the front of a script is what the command there makes
+segment-made : (s p : List ℕ) → segmentAt s p ≡ made (commandAt s) p
+unfolding segmentAt commandAt eciAt runAt
+segment-made s p =
+    go (eqb (getD s 0 0) 7) (eqb (getD s 0 0) 8) (ltb (length s) 4) (ltb 2097151 (valueOperand s)) (leb 1 (getD s 0 0) && leb (getD s 0 0) 6)
+    (ltb (length s) 3) (allowed (getD s 0 0) (lengthOperand s))
+  where
+    go : (a b c d e f g : Bool)
+        → cond a (made (Run 7 4) p)
+        (cond b (cond c none (cond d none (some (eci (valueOperand s)))))
+        (cond e (cond f none (cond g (made (Run (getD s 0 0) (lengthOperand s)) p) none)) none))
+        ≡ made (cond a (Run 7 4) (cond b (cond c Wrong (cond d Wrong (Eci (valueOperand s))))
+        (cond e (cond f Wrong (cond g (Run (getD s 0 0) (lengthOperand s)) Wrong)) Wrong))) p
+    go true b c d e f g = refl
+    go false true true d e f g = refl
+    go false true false true e f g = refl
+    go false true false false e f g = refl
+    go false false c d false f g = refl
+    go false false c d true true g = refl
+    go false false c d true false true = refl
+    go false false c d true false false = refl
+
+command-size : (mode n : ℕ) → length (runCommand mode n) ≡ commandSize mode
+unfolding runCommand commandSize
+command-size mode n = go (eqb mode 7)
+  where
+    go : (b : Bool) → length (cond b (7 ∷ []) (mode ∷ n / 256 ∷ n % 256 ∷ [])) ≡ cond b 1 3
+    go true = refl
+    go false = refl
+
+-- what the commands from a place on make, by the command c there
+module _ (s p : List ℕ) (i j : ℕ) (h : i < length s) (c : Command) (e : c ≡ commandAt (drop i s)) (k : ℕ) where
+  opened : commands (suc k) (drop i s) (drop j p)
+      ≡ bind (made c (drop j p)) (λ g. with g (commands k (drop (length (commandOf g)) (drop i s)) (drop (length (bytesOf g)) (drop j p))))
+  unfolding commands
+  opened =
+      let l : length (drop i s) ≡ length s - i = length-drop i s in
+      rw (ne-eqb (length (drop i s)) 0 (λ q. omega arith), segment-made (drop i s) (drop j p), ← e)
+
+  pub at-wrong : c ≡ Wrong → commands (suc k) (drop i s) (drop j p) ≡ none
+  unfolding bind
+  at-wrong q = opened ∙ rw q
+
+  pub at-eci : (v : ℕ) → c ≡ Eci v → commands (suc k) (drop i s) (drop j p) ≡ with (eci v) (commands k (drop (i + 4) s) (drop j p))
+  unfolding bind
+  at-eci v q = opened ∙ rw (q, ← (drop-drop 4 i s))
+
+  module _ (mode n : ℕ) (q : c ≡ Run mode n) where
+    pub at-short : length p - j < n → commands (suc k) (drop i s) (drop j p) ≡ none
+    unfolding bind
+    at-short l = opened ∙ rw (q, length-drop, lt-ltb (length p - j) n l)
+
+    pub at-run : n ≤ length p - j
+        → commands (suc k) (drop i s) (drop j p) ≡ with (run mode (take n (drop j p))) (commands k (drop (i + commandSize mode) s) (drop (j + n) p))
+    unfolding bind
+    at-run l =
+        let m : n ≤ length (drop j p) = rw length-drop l in
+        opened
+        ∙ rw (q, le-ltb (length (drop j p)) n m, length-take-le n (drop j p) m, command-size mode n, ← (drop-drop (commandSize mode) i s), ← (drop-drop n j p))
 
 cost-takes : (mode b : ℕ) (bs : List ℕ) (r : Cost) → r ≡ costOf mode bs → r ≡ Takes b → (modeHas mode bs ≡ true) × (modeLength mode bs ≡ b)
 cost-takes mode b bs r e q = go (modeHas mode bs) refl e
@@ -178,30 +238,23 @@ cost-none mode bs r e q = go (modeHas mode bs) refl e
     go true h f = never cc
     go false h f = h
 
+-- what it leaves of the answer; f bounds the number of commands
 module _ (s p : List ℕ) (i j : ℕ) (h : i < length s) (lacks : Bool) (t : ℕ) (c : Command) (e : c ≡ commandAt (drop i s)) where
-  some : 0 < length (drop i s)
-  some = rw length-drop (omega arith)
-
-  now-opened : (k : ℕ) → commands (suc k) (drop i s) (drop j p) ≡ taking c (drop j p) (λ a b. commands k (drop a (drop i s)) (drop b (drop j p)))
-  now-opened k = opened k (drop i s) (drop j p) some ∙ rw (← e)
-
   pub settle-wrong : (f : ℕ) → 0 < f → c ≡ Wrong → settled lacks t (commands f (drop i s) (drop j p)) p ≡ Malformed
   settle-wrong zero l q = absurd (omega arith)
-  settle-wrong (suc k) l q = rw (now-opened k, q)
+  settle-wrong (suc k) l q = rw (at-wrong s p i j h c e k q)
 
-  pub settle-eci : (f : ℕ) → 0 < f → (v t′ : ℕ) → c ≡ Eci v → t′ ≡ capped (t + eciLength v) → settled lacks t (commands f (drop i s) (drop j p)) p ≡ settled lacks t′ (commands (f - 1) (drop (i + 4) s) (drop j p)) p
+  pub settle-eci : (f : ℕ) → 0 < f → (v t′ : ℕ) → c ≡ Eci v → t′ ≡ capped (t + eciLength v)
+      → settled lacks t (commands f (drop i s) (drop j p)) p ≡ settled lacks t′ (commands (f - 1) (drop (i + 4) s) (drop j p)) p
   settle-eci zero l v t′ q m = absurd (omega arith)
   settle-eci (suc k) l v t′ q m =
       let z : suc k - 1 ≡ k = omega arith in
-      rw (now-opened k, q, z, drop-drop 4 i s) (with-takes lacks t t′ (eciLength v) (eci v) (commands k (drop (i + 4) s) (drop j p)) p refl refl m)
+      rw (at-eci s p i j h c e k v q, z) (with-takes lacks t t′ (eciLength v) (eci v) (commands k (drop (i + 4) s) (drop j p)) p refl refl m)
 
   module _ (mode n : ℕ) (q : c ≡ Run mode n) where
     pub settle-short : (f : ℕ) → 0 < f → length p - j < n → settled lacks t (commands f (drop i s) (drop j p)) p ≡ Malformed
     settle-short zero l g = absurd (omega arith)
-    settle-short (suc k) l g = rw (now-opened k, q, length-drop, lt-ltb (length p - j) n g)
-
-    took : (k : ℕ) → n ≤ length p - j → commands (suc k) (drop i s) (drop j p) ≡ with (run mode (take n (drop j p))) (commands k (drop (i + commandSize mode) s) (drop (j + n) p))
-    took k g = now-opened k ∙ rw (q, length-drop, le-ltb (length p - j) n g, drop-drop (commandSize mode) i s, drop-drop n j p)
+    settle-short (suc k) l g = rw (at-short s p i j h c e k mode n q g)
 
     module _ (g : n ≤ length p - j) (r : Cost) (er : r ≡ costOf mode (take n (drop j p))) where
       pub settle-takes : (f : ℕ) → 0 < f → (b t′ : ℕ) → r ≡ Takes b → t′ ≡ capped (t + b)
@@ -210,19 +263,21 @@ module _ (s p : List ℕ) (i j : ℕ) (h : i < length s) (lacks : Bool) (t : ℕ
       settle-takes (suc k) l b t′ x m =
           let z : suc k - 1 ≡ k = omega arith in
           let y = cost-takes mode b (take n (drop j p)) r er x in
-          rw (took k g, z) (with-takes lacks t t′ b (run mode (take n (drop j p))) (commands k (drop (i + commandSize mode) s) (drop (j + n) p)) p (y .0) (y .1) m)
+          rw (at-run s p i j h c e k mode n q g, z)
+          (with-takes lacks t t′ b (run mode (take n (drop j p))) (commands k (drop (i + commandSize mode) s) (drop (j + n) p)) p (y .0) (y .1) m)
 
       pub settle-lacks : (f : ℕ) → 0 < f → r ≡ Lacks
           → settled lacks t (commands f (drop i s) (drop j p)) p ≡ settled true t (commands (f - 1) (drop (i + commandSize mode) s) (drop (j + n) p)) p
       settle-lacks zero l x = absurd (omega arith)
       settle-lacks (suc k) l x =
           let z : suc k - 1 ≡ k = omega arith in
-          rw (took k g, z) (with-lacks lacks t (run mode (take n (drop j p))) (commands k (drop (i + commandSize mode) s) (drop (j + n) p)) p (cost-none mode (take n (drop j p)) r er x))
+          rw (at-run s p i j h c e k mode n q g, z)
+          (with-lacks lacks t (run mode (take n (drop j p))) (commands k (drop (i + commandSize mode) s) (drop (j + n) p)) p (cost-none mode (take n (drop j p)) r er x))
 
 -- ---- the end of the script
 
 module _ (s p : List ℕ) (i j : ℕ) (lacks : Bool) (t : ℕ) (h : length s ≤ i) where
-  ended : (f : ℕ) → 0 < f → commands f (drop i s) (drop j p) ≡ cond (eqb (length p - j) 0) (these []) none
+  ended : (f : ℕ) → 0 < f → commands f (drop i s) (drop j p) ≡ cond (eqb (length p - j) 0) (some []) none
   unfolding commands
   ended zero l = absurd (omega arith)
   ended (suc k) l =
@@ -233,7 +288,7 @@ module _ (s p : List ℕ) (i j : ℕ) (lacks : Bool) (t : ℕ) (h : length s ≤
   end-left f l g = rw (ended f l, ne-eqb (length p - j) 0 (λ e. omega arith))
 
   module _ (f : ℕ) (l : 0 < f) (g : length p ≤ j) where
-    all-read : commands f (drop i s) (drop j p) ≡ these []
+    all-read : commands f (drop i s) (drop j p) ≡ some []
     all-read = ended f l ∙ rw (eq-eqb (length p - j) 0 (omega arith))
 
     pub end-lacks : lacks ≡ true → settled lacks t (commands f (drop i s) (drop j p)) p ≡ Lacking

@@ -1,6 +1,7 @@
 -- The segments that a script and its payload come to: their script and payload are these again, and each is as the check asks.
 use mathlib.Core.Path.{_≡_, refl}
 use mathlib.Core.Bool.{Bool, true, false, cond, _&&_}
+use mathlib.Core.Option.{Option, none, some, bind}
 use mathlib.Core.List.{List, [], _∷_, _++_}
 use Prim.Native.Nat.{ℕ, zero, suc, _+_, _*_, _/_, _%_, _<_, _≤_}
 use native.Mathlib.Omega.{arith}
@@ -9,19 +10,18 @@ use lib.Dec.{ltb, eqb, leb}
 use lib.ListN.{length, getD, take, drop, take-append-drop}
 use lib.Seq.{getD-drop, length-take-le}
 use Rattle.bits.proofs.Tests.{never}
-use Rattle.segments.specs.Script.{Segment, run, eci, runCommand, commandOf, payloadOf, scriptOf}
-use Rattle.script.specs.declared.Command.{Command}
-use Rattle.script.specs.declared.Command.the-variants.{Run, Eci, Wrong}
-use Rattle.script.specs.Check.{allowed, lengthOperand, valueOperand, runAt, eciAt, commandAt, commandSize, Commands, none, these, with, taking, commands}
+use Rattle.segments.specs.Script.{Segment, run, eci, bytesOf, runCommand, commandOf, payloadOf, scriptOf}
+use Rattle.script.specs.Check.{allowed, lengthOperand, valueOperand, taking, segmentAt, commands}
+use Rattle.script.specs.Inner.{with}
 use Rattle.script.proofs.Tests.{both}
-use Rattle.script.proofs.Back.{AllLegal}
+use Rattle.script.proofs.Back.{Legal, AllLegal}
 
--- ---- the command at the front
+-- ---- the segment at the front
 
-abbrev Front : List ℕ → Command → Type 0
-Front s Wrong = Unit {0}
-Front s (Eci v) = (commandOf (eci v) ++ drop 4 s ≡ s) × (v ≤ 2097151)
-Front s (Run mode n) = (runCommand mode n ++ drop (commandSize mode) s ≡ s) × (1 ≤ mode) × (mode ≤ 7) × (mode ≡ 1 → 0 < n) × (mode ≡ 3 → n ≤ 8191)
+-- a segment whose command and bytes stand at the front of script and payload
+abbrev Front : List ℕ → List ℕ → Option Segment → Type 0
+Front s p none = Unit {0}
+Front s p (some g) = (commandOf g ++ drop (length (commandOf g)) s ≡ s) × (bytesOf g ++ drop (length (bytesOf g)) p ≡ p) × Legal g
 
 front-3 : (s : List ℕ) (m : ℕ) → 3 ≤ length s → ((i : ℕ) → getD s i 0 < 256) → getD s 0 0 ≡ m → m ∷ lengthOperand s / 256 ∷ lengthOperand s % 256 ∷ drop 3 s ≡ s
 front-3 [] m h b e = absurd (omega arith)
@@ -61,45 +61,51 @@ bytes-allowed : (mode n : ℕ) → allowed mode n ≡ true → mode ≡ 3 → n 
 unfolding allowed
 bytes-allowed mode n h e = leb-true n 8191 (rw (ne-eqb mode 1 (λ g. omega arith), eq-eqb mode 3 e) at h)
 
-module _ (s : List ℕ) (b : (i : ℕ) → getD s i 0 < 256) (l : 0 < length s) where
-  front-run : (1 ≤ getD s 0 0) × (getD s 0 0 ≤ 6) → Front s (runAt s)
-  unfolding runAt runCommand commandSize
-  front-run m = go (ltb (length s) 3) refl (allowed (getD s 0 0) (lengthOperand s)) refl
-    where
-      go : (x : Bool) → ltb (length s) 3 ≡ x → (y : Bool) → allowed (getD s 0 0) (lengthOperand s) ≡ y
-          → Front s (cond x Wrong (cond y (Run (getD s 0 0) (lengthOperand s)) Wrong))
-      go true p y q = tt
-      go false p false q = tt
-      go false p true q =
-          let k = ltb-false (length s) 3 p in (
-            rw (ne-eqb (getD s 0 0) 7 (λ e. omega arith)) (front-3 s (getD s 0 0) k b refl),
-            m .0,
-            omega arith,
-            numeric-allowed (getD s 0 0) (lengthOperand s) q,
-            bytes-allowed (getD s 0 0) (lengthOperand s) q,
-          )
+module _ (s p : List ℕ) (b : (i : ℕ) → getD s i 0 < 256) (l : 0 < length s) where
+  abbrev mode : ℕ
+  mode = getD s 0 0
 
-  front-eci : getD s 0 0 ≡ 8 → Front s (eciAt s)
-  unfolding eciAt
-  front-eci e = go (ltb (length s) 4) refl (ltb 2097151 (valueOperand s)) refl
+  -- bytes taken for a command at the front
+  front-taking : (m n : ℕ) → runCommand m n ++ drop (length (runCommand m n)) s ≡ s → 1 ≤ m → m ≤ 7 → (m ≡ 1 → 0 < n) → (m ≡ 3 → n ≤ 8191)
+      → Front s p (taking m n p)
+  front-taking m n c m1 m7 d1 d3 = go (ltb (length p) n) refl
     where
-      go : (x : Bool) → ltb (length s) 4 ≡ x → (y : Bool) → ltb 2097151 (valueOperand s) ≡ y → Front s (cond x Wrong (cond y Wrong (Eci (valueOperand s))))
-      go true p y q = tt
-      go false p true q = tt
-      go false p false q = (front-4 s (ltb-false (length s) 4 p) b e, ltb-false 2097151 (valueOperand s) q)
+      go : (x : Bool) → ltb (length p) n ≡ x → Front s p (cond x none (some (run m (take n p))))
+      go true e = tt
+      go false e =
+          let k : length (take n p) ≡ n = length-take-le n p (ltb-false (length p) n e) in
+          (rw k c, rw k (take-append-drop n p), (m1, m7, λ q. rw k (d1 q), λ q. rw k (d3 q)))
 
-  front : Front s (commandAt s)
-  unfolding commandAt runCommand commandSize
-  front = go (eqb (getD s 0 0) 7) refl (eqb (getD s 0 0) 8) refl (leb 1 (getD s 0 0) && leb (getD s 0 0) 6) refl
+  front-run : (1 ≤ mode) × (mode ≤ 6) → (x : Bool) → ltb (length s) 3 ≡ x → (y : Bool) → allowed mode (lengthOperand s) ≡ y
+      → Front s p (cond x none (cond y (taking mode (lengthOperand s) p) none))
+  unfolding runCommand
+  front-run m true e y f = tt
+  front-run m false e false f = tt
+  front-run m false e true f =
+      front-taking mode (lengthOperand s) (rw (ne-eqb mode 7 (λ q. omega arith)) (front-3 s mode (ltb-false (length s) 3 e) b refl)) (m .0) (omega arith)
+      (numeric-allowed mode (lengthOperand s) f) (bytes-allowed mode (lengthOperand s) f)
+
+  front-eci : mode ≡ 8 → (x : Bool) → ltb (length s) 4 ≡ x → (y : Bool) → ltb 2097151 (valueOperand s) ≡ y
+      → Front s p (cond x none (cond y none (some (eci (valueOperand s)))))
+  front-eci e true f y g = tt
+  front-eci e false f true g = tt
+  front-eci e false f false g = (front-4 s (ltb-false (length s) 4 f) b e, refl, ltb-false 2097151 (valueOperand s) g)
+
+  front : Front s p (segmentAt s p)
+  unfolding segmentAt runCommand
+  front = go (eqb mode 7) refl (eqb mode 8) refl (leb 1 mode && leb mode 6) refl
     where
-      go : (x : Bool) → eqb (getD s 0 0) 7 ≡ x → (y : Bool) → eqb (getD s 0 0) 8 ≡ y → (z : Bool) → (leb 1 (getD s 0 0) && leb (getD s 0 0) 6) ≡ z
-          → Front s (cond x (Run 7 4) (cond y (eciAt s) (cond z (runAt s) Wrong)))
-      go true p y q z r = (front-1 s l (eqb-true (getD s 0 0) 7 p), omega arith, omega arith, λ e. omega arith, λ e. omega arith)
-      go false p true q z r = front-eci (eqb-true (getD s 0 0) 8 q)
-      go false p false q false r = tt
-      go false p false q true r =
-          let k = both (leb 1 (getD s 0 0)) (leb (getD s 0 0) 6) r in
-          front-run (leb-true 1 (getD s 0 0) (k .0), leb-true (getD s 0 0) 6 (k .1))
+      go : (x : Bool) → eqb mode 7 ≡ x → (y : Bool) → eqb mode 8 ≡ y → (z : Bool) → (leb 1 mode && leb mode 6) ≡ z
+          → Front s p
+          (cond x (taking 7 4 p)
+          (cond y (cond (ltb (length s) 4) none (cond (ltb 2097151 (valueOperand s)) none (some (eci (valueOperand s)))))
+          (cond z (cond (ltb (length s) 3) none (cond (allowed mode (lengthOperand s)) (taking mode (lengthOperand s) p) none)) none)))
+      go true e y f z g = front-taking 7 4 (front-1 s l (eqb-true mode 7 e)) (omega arith) (omega arith) (λ q. omega arith) (λ q. omega arith)
+      go false e true f z g = front-eci (eqb-true mode 8 f) (ltb (length s) 4) refl (ltb 2097151 (valueOperand s)) refl
+      go false e false f false g = tt
+      go false e false f true g =
+          let k = both (leb 1 mode) (leb mode 6) g in
+          front-run (leb-true 1 mode (k .0), leb-true mode 6 (k .1)) (ltb (length s) 3) refl (allowed mode (lengthOperand s)) refl
 
 -- ---- all of them
 
@@ -110,53 +116,40 @@ empty : (s : List ℕ) → length s ≡ 0 → s ≡ []
 empty [] e = refl
 empty (x ∷ s) e = absurd (omega arith)
 
-again-eci : (v : ℕ) (s p : List ℕ) (gs : List Segment) → Front s (Eci v) → Again (drop 4 s) p gs → Again s p (eci v ∷ gs)
-unfolding scriptOf payloadOf
-again-eci v s p gs f a = (rw (a .0) (f .0), a .1, (f .1, a .2))
-
-again-run : (mode n : ℕ) (s p : List ℕ) (gs : List Segment) → n ≤ length p → Front s (Run mode n) → Again (drop (commandSize mode) s) (drop n p) gs → Again s p (run mode (take n p) ∷ gs)
-unfolding scriptOf payloadOf
-again-run mode n s p gs h f a =
-    let l : length (take n p) ≡ n = length-take-le n p h in
-    (rw (l, a .0) (f .0), rw (a .1) (take-append-drop n p), ((f .1, f .2, λ e. rw l (f .3 e), λ e. rw l (f .4 e)), a .2))
-
-positive : (m : ℕ) → (m ≡ 0 → ⊥) → 0 < m
+pub positive : (m : ℕ) → (m ≡ 0 → ⊥) → 0 < m
 positive zero f = absurd (f refl)
 positive (suc m) f = omega arith
 
--- one command more, given what holds of the rest
+-- one segment more, given what holds of the rest
 module _ (k : ℕ) (s p : List ℕ) (gs : List Segment) (b : (i : ℕ) → getD s i 0 < 256)
-    (ih : (s p : List ℕ) (gs : List Segment) → ((i : ℕ) → getD s i 0 < 256) → commands k s p ≡ these gs → Again s p gs) where
-  rest : (g : Segment) (i j : ℕ) → (z : Commands) → commands k (drop i s) (drop j p) ≡ z → with g z ≡ these gs → (hs : List Segment) × (commands k (drop i s) (drop j p) ≡ these hs) × (gs ≡ g ∷ hs)
-  rest g i j none q h = never cc
-  rest g i j (these hs) q h = (hs, q, cc)
+    (ih : (s p : List ℕ) (gs : List Segment) → ((i : ℕ) → getD s i 0 < 256) → commands k s p ≡ some gs → Again s p gs) where
+  -- what the commands behind a segment make
+  abbrev behind : Segment → Option (List Segment)
+  behind g = commands k (drop (length (commandOf g)) s) (drop (length (bytesOf g)) p)
 
-  bytes : (i : ℕ) → (j : ℕ) → getD (drop i s) j 0 < 256
-  bytes i j = rw getD-drop (b (i + j))
+  rest : (g : Segment) → Front s p (some g) → (z : Option (List Segment)) → behind g ≡ z → with g z ≡ some gs → Again s p gs
+  unfolding scriptOf payloadOf
+  rest g f none q h = never cc
+  rest g f (some hs) q h =
+      let e : gs ≡ g ∷ hs = cc in
+      let a = ih (drop (length (commandOf g)) s) (drop (length (bytesOf g)) p) hs (λ j. rw getD-drop (b (length (commandOf g) + j))) q in
+      rw e (rw (a .0) (f .0), rw (a .1) (f .1), (f .2, a .2))
 
-  long : (mode n : ℕ) → Front s (Run mode n) → (x : Bool) → ltb (length p) n ≡ x → cond x none (with (run mode (take n p)) (commands k (drop (commandSize mode) s) (drop n p))) ≡ these gs → Again s p gs
-  long mode n f true q h = never cc
-  long mode n f false q h =
-      let r = rest (run mode (take n p)) (commandSize mode) n (commands k (drop (commandSize mode) s) (drop n p)) refl h in
-      rw (r .2) (again-run mode n s p (r .0) (ltb-false (length p) n q) f (ih (drop (commandSize mode) s) (drop n p) (r .0) (bytes (commandSize mode)) (r .1)))
-
-  taken : (c : Command) → Front s c → taking c p (λ i j. commands k (drop i s) (drop j p)) ≡ these gs → Again s p gs
-  taken Wrong f h = never cc
-  taken (Eci v) f h =
-      let r = rest (eci v) 4 0 (commands k (drop 4 s) (drop 0 p)) refl h in
-      rw (r .2) (again-eci v s p (r .0) f (ih (drop 4 s) (drop 0 p) (r .0) (bytes 4) (r .1)))
-  taken (Run mode n) f h = long mode n f (ltb (length p) n) refl h
+  taken : (z : Option Segment) → Front s p z → bind z (λ g. with g (behind g)) ≡ some gs → Again s p gs
+  unfolding bind
+  taken none f h = never cc
+  taken (some g) f h = rest g f (behind g) refl h
 
   more : (x : Bool) → eqb (length s) 0 ≡ x → (y : Bool) → eqb (length p) 0 ≡ y
-      → cond x (cond y (these []) none) (taking (commandAt s) p (λ i j. commands k (drop i s) (drop j p))) ≡ these gs → Again s p gs
+      → cond x (cond y (some []) none) (bind (segmentAt s p) (λ g. with g (behind g))) ≡ some gs → Again s p gs
   unfolding scriptOf payloadOf
   more true q false r h = never cc
   more true q true r h =
       let g : gs ≡ [] = cc in
       rw (g, empty s (eqb-true (length s) 0 q), empty p (eqb-true (length p) 0 r)) (refl, refl, tt)
-  more false q y r h = taken (commandAt s) (front s b (positive (length s) (eqb-false (length s) 0 q))) h
+  more false q y r h = taken (segmentAt s p) (front s p b (positive (length s) (eqb-false (length s) 0 q))) h
 
-pub commands-again : (k : ℕ) (s p : List ℕ) (gs : List Segment) → ((i : ℕ) → getD s i 0 < 256) → commands k s p ≡ these gs → Again s p gs
+pub commands-again : (k : ℕ) (s p : List ℕ) (gs : List Segment) → ((i : ℕ) → getD s i 0 < 256) → commands k s p ≡ some gs → Again s p gs
 unfolding commands
 commands-again zero s p gs b e = never cc
 commands-again (suc k) s p gs b e = more k s p gs b (commands-again k) (eqb (length s) 0) refl (eqb (length p) 0) refl e

@@ -1,16 +1,12 @@
--- SPECIFICATION 10.8: what Write a square asks of script and payload by themselves, with 11, 12 and 8 in this order, each tested over the
--- whole script.
+-- SPECIFICATION 10.8: the segments that the commands of a script make of a payload.
 use mathlib.Core.Bool.{Bool, true, cond, _&&_}
+use mathlib.Core.Option.{Option, none, some, Option·map, Option·getD, bind}
 use mathlib.Core.List.{List, [], _∷_}
 use Prim.Native.Nat.{ℕ, zero, suc, _+_, _*_, _%_}
 use lib.Dec.{ltb, eqb, leb}
-use lib.ListN.{length, getD, take, drop, replicate}
-use Rattle.segments.specs.Script.{Segment, run, eci}
-use Rattle.script.specs.declared.Command.{Command}
-use Rattle.script.specs.declared.Command.the-variants.{Run, Eci, Wrong}
-use Rattle.script.specs.declared.Check.{Check}
-use Rattle.script.specs.declared.Check.the-variants.{Bits, Malformed, Lacking, Empty}
-use Rattle.script.specs.Writer.{allHave, bitsOfSegments, dataOf}
+use lib.ListN.{length, getD, take, drop}
+use Rattle.segments.specs.Script.{Segment, run, eci, bytesOf, commandOf}
+use Rattle.script.specs.Writer.{dataOf}
 
 -- n payload bytes are allowed in a mode: no numeric segment is empty, a bytes segment has at most 8,191, modes 4 to 6 an even number
 unfoldable pub allowed : ℕ → ℕ → Bool
@@ -23,77 +19,35 @@ lengthOperand s = getD s 1 0 * 256 + getD s 2 0
 abbrev pub valueOperand : List ℕ → ℕ
 valueOperand s = getD s 1 0 * 65536 + getD s 2 0 * 256 + getD s 3 0
 
--- a command of modes 1 to 6 at the front of a script, and an ECI: wrong where the operand is cut short, the length not allowed or the
--- value too large
-unfoldable pub runAt : List ℕ → Command
-runAt s = cond (ltb (length s) 3) Wrong (cond (allowed (getD s 0 0) (lengthOperand s)) (Run (getD s 0 0) (lengthOperand s)) Wrong)
+-- the first n bytes of a payload as a segment of a mode, where there are so many
+abbrev pub taking : ℕ → ℕ → List ℕ → Option Segment
+taking mode n p = cond (ltb (length p) n) none (some (run mode (take n p)))
 
-unfoldable pub eciAt : List ℕ → Command
-eciAt s = cond (ltb (length s) 4) Wrong (cond (ltb 2097151 (valueOperand s)) Wrong (Eci (valueOperand s)))
+-- The segment that the command at the front of the script s makes of the payload p: mode 7 takes 4 bytes, mode 8 has a value below 2^21,
+-- modes 1 to 6 take as many bytes as their length says. None where the operand is cut short or not allowed, or the first byte is no command.
+unfoldable pub segmentAt : List ℕ → List ℕ → Option Segment
+segmentAt s p =
+    let mode = getD s 0 0 in
+    let n = lengthOperand s in
+    let v = valueOperand s in
+    cond (eqb mode 7) (taking 7 4 p)
+    (cond (eqb mode 8) (cond (ltb (length s) 4) none (cond (ltb 2097151 v) none (some (eci v))))
+    (cond (leb 1 mode && leb mode 6) (cond (ltb (length s) 3) none (cond (allowed mode n) (taking mode n p) none)) none))
 
--- the command at the front of a script; any other first byte is unknown
-unfoldable pub commandAt : List ℕ → Command
-commandAt s =
-    cond (eqb (getD s 0 0) 7) (Run 7 4)
-    (cond (eqb (getD s 0 0) 8) (eciAt s) (cond (leb 1 (getD s 0 0) && leb (getD s 0 0) 6) (runAt s) Wrong))
-
--- how many bytes a command of modes 1 to 7 has
-unfoldable pub commandSize : ℕ → ℕ
-commandSize mode = cond (eqb mode 7) 1 3
-
--- the segments of a script with its payload, or none
-pub data Commands : Type 0 where
-  none : Commands
-  these : List Segment → Commands
-
-abbrev pub with : Segment → Commands → Commands
-with g none = none
-with g (these gs) = these (g ∷ gs)
-
--- a command of the script s, and what the rest says, given the bytes of s and of the payload that the command takes
-abbrev pub taking : Command → List ℕ → (ℕ → ℕ → Commands) → Commands
-taking Wrong p rest = none
-taking (Eci v) p rest = with (eci v) (rest 4 0)
-taking (Run mode n) p rest = cond (ltb (length p) n) none (with (run mode (take n p)) (rest (commandSize mode) n))
-
--- k bounds the number of commands: each has a byte at least, so one more than the number of bytes is never reached
-unfoldable pub commands : ℕ → List ℕ → List ℕ → Commands
+-- The segments one after the other: the command of each is taken off the script, its bytes off the payload. None where a command makes
+-- none, and where payload is left at the end. k bounds the number of commands: each has a byte at least, so one more than the number of
+-- bytes is never reached.
+unfoldable pub commands : ℕ → List ℕ → List ℕ → Option (List Segment)
 commands zero s p = none
 commands (suc k) s p =
-    cond (eqb (length s) 0) (cond (eqb (length p) 0) (these []) none) (taking (commandAt s) p (λ i j. commands k (drop i s) (drop j p)))
+    cond (eqb (length s) 0) (cond (eqb (length p) 0) (some []) none)
+    (bind (segmentAt s p)
+    (λ g. Option·map (λ (gs : List Segment). g ∷ gs) (commands k (drop (length (commandOf g)) s) (drop (length (bytesOf g)) p))))
 
-abbrev pub commandsOf : List ℕ → List ℕ → Commands
+-- the segments that the commands of a script make of a payload
+abbrev pub commandsOf : List ℕ → List ℕ → Option (List Segment)
 commandsOf s p = commands (length s + 1) s p
 
--- no mark has more than 8 × 3,886 bits: a greater number of bits is answered as this one
-abbrev pub most : ℕ
-most = 31089
-
-abbrev pub capped : ℕ → ℕ
-capped n = cond (ltb n most) n most
-
--- 11, else 12, else 8, else the number of bits
-abbrev pub checkedOf : Commands → List ℕ → Check
-checkedOf none p = Malformed
-checkedOf (these gs) p = cond (allHave gs) (cond (eqb (length p) 0) Empty (Bits (capped (bitsOfSegments gs)))) Lacking
-
-abbrev pub checkOf : List ℕ → List ℕ → Check
-checkOf s p = checkedOf (commandsOf s p) p
-
--- the refusal number of each answer (SPECIFICATION 2.7), and the number of bits beside it
-abbrev pub refusalOf : Check → ℕ
-refusalOf (Bits n) = 0
-refusalOf Malformed = 11
-refusalOf Lacking = 12
-refusalOf Empty = 8
-
-abbrev pub bitsOfCheck : Check → ℕ
-bitsOfCheck (Bits n) = n
-bitsOfCheck Malformed = 0
-bitsOfCheck Lacking = 0
-bitsOfCheck Empty = 0
-
--- the n data bytes of a script with its payload
-abbrev pub encoded : ℕ → Commands → List ℕ
-encoded n none = replicate n 0
-encoded n (these gs) = dataOf n gs
+-- the n data bytes of these segments; where there are none, nothing is written
+abbrev pub encoded : ℕ → Option (List Segment) → List ℕ
+encoded n gs = dataOf n (Option·getD gs [])

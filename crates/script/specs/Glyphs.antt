@@ -1,6 +1,6 @@
 -- What the contracts of inner functions say: a run of characters word by word. Nobody has to believe anything here.
 use mathlib.Core.Path.{_≡_}
-use mathlib.Core.Bool.{Bool, false, cond, not, _&&_}
+use mathlib.Core.Bool.{Bool, false, cond, not}
 use mathlib.Core.List.{List, _∷_}
 use Prim.Native.Nat.{ℕ, _+_, _*_, _≤_, _<_}
 use lib.Dec.{eqb}
@@ -9,10 +9,7 @@ use Rattle.script.specs.declared.Glyph.{Glyph}
 use Rattle.script.specs.declared.Glyph.the-variants.{Same, Other, Lacking}
 use Rattle.script.specs.declared.Cost.{Cost}
 use Rattle.script.specs.declared.Cost.the-variants.{Takes, Lacks}
-use Rattle.script.specs.Writer.{all, allPairs, codeOf, inSubset, inText, pairCode, inRegion, inRegions, doubleCode, inDouble, textWords, regionWords, doubleWords, modeHas, modeLength, allHave, bitsOfSegments}
-use Rattle.script.specs.declared.Check.{Check}
-use Rattle.script.specs.declared.Check.the-variants.{Bits, Malformed, Lacking as LackingSome, Empty}
-use Rattle.script.specs.Check.{Commands, none, these, capped}
+use Rattle.script.specs.Writer.{all, allPairs, codeOf, inSubset, inText, pairCode, inRegion, inRegions, doubleCode, inDouble, textWords, regionWords, doubleWords, modeHas, modeLength}
 
 -- the modes 2, 4, 5 and 6: words of one width, one for each byte or pair, a switch before some, and an end
 unfoldable pub wordsOf : ℕ → Bool → List ℕ → List ℕ
@@ -66,8 +63,3 @@ costOf mode bs = cond (modeHas mode bs) (Takes (modeLength mode bs)) Lacks
 abbrev pub Limited : Cost → Type 0
 Limited (Takes b) = b < 100000000
 Limited Lacks = Unit {0}
-
--- the answer of the check where some commands are behind: whether one of them lacks some of its bytes, and their bits so far
-abbrev pub settled : Bool → ℕ → Commands → List ℕ → Check
-settled lacks t none p = Malformed
-settled lacks t (these gs) p = cond (not lacks && allHave gs) (cond (eqb (length p) 0) Empty (Bits (capped (t + bitsOfSegments gs)))) LackingSome

@@ -2,4 +2,5 @@
 -- has to believe it.
 pub mod Writer
 pub mod Check
+pub mod Inner
 pub mod Glyphs

@@ -6,7 +6,8 @@ ghost use Prim.Native.Nat.{_+_, _-_, _*_, _/_, _<_, _≤_};
 ghost use lib.Dec.{ltb};
 ghost use lib.ListN.{length, getD, take, drop};
 ghost use Rattle.script.specs.Writer.{all, isDigit, codeOf, inSubset, pairCode, inRegion, doubleCode, inDouble, fourCode, inFour, eciLength};
-ghost use Rattle.script.specs.Check.{allowed, runAt, eciAt, commandAt, commandSize, capped, checkOf};
+ghost use Rattle.script.specs.Check.{allowed};
+ghost use Rattle.script.specs.Inner.{runAt, eciAt, commandAt, commandSize, capped, checkOf};
 ghost use Rattle.script.specs.Glyphs.{textGlyph, regionGlyph, doubleGlyph, Glyphed, charCost, costOf, Limited, stepOf, widthOf};
 
 // A command with its operand: a mode of 1 to 7 with the number of its payload bytes, or an ECI with its value.
@@ -29,7 +30,7 @@ pub enum Cost {
     Lacks,
 }
 
-// The answers of the check; specs/Check.antt has their numbers.
+// The answers of the check: the number of bits, or what is turned away.
 pub enum Check {
     Bits(usize),
     Malformed,

@@ -13,7 +13,7 @@ use Rattle.bits.specs.Bits.{bitsOf}
 use Rattle.bits.proofs.Reading.{length-bits, length-left}
 use Rattle.bits.proofs.Words.{WordAt}
 use Rattle.segments.specs.declared.Count.the-variants.{Done, Cut}
-use Rattle.segments.specs.Segments.{cut, lacking, eciValue, eciOf}
+use Rattle.segments.specs.Segments.{cut, lacking, failed, eciValue, eciOf}
 use Rattle.segments.specs.Passes.{EciLeft}
 
 -- the field behind the prefix
@@ -34,7 +34,7 @@ unfolding eciOf
 one zero bs e = refl
 one (suc a) bs e = absurd (omega arith)
 
-one-cut : (a : ℕ) → (a ≡ 0 → ⊥) → eciOf (a ∷ []) ≡ cut
+one-cut : (a : ℕ) → (a ≡ 0 → ⊥) → eciOf (a ∷ []) ≡ failed cut
 unfolding eciOf
 one-cut zero f = absurd (f refl)
 one-cut (suc a) f = refl
@@ -45,7 +45,7 @@ two zero b bs f e = absurd (f refl)
 two (suc a) zero bs f e = refl
 two (suc a) (suc b) bs f e = absurd (omega arith)
 
-two-cut : (a b : ℕ) → (a ≡ 0 → ⊥) → (b ≡ 0 → ⊥) → eciOf (a ∷ b ∷ []) ≡ cut
+two-cut : (a b : ℕ) → (a ≡ 0 → ⊥) → (b ≡ 0 → ⊥) → eciOf (a ∷ b ∷ []) ≡ failed cut
 unfolding eciOf
 two-cut zero b f g = absurd (f refl)
 two-cut (suc a) zero f g = absurd (g refl)
@@ -58,7 +58,7 @@ three (suc a) zero c bs f g e = absurd (g refl)
 three (suc a) (suc b) zero bs f g e = refl
 three (suc a) (suc b) (suc c) bs f g e = absurd (omega arith)
 
-three-lacks : (a b c : ℕ) (bs : List ℕ) → (a ≡ 0 → ⊥) → (b ≡ 0 → ⊥) → (c ≡ 0 → ⊥) → eciOf (a ∷ b ∷ c ∷ bs) ≡ lacking
+three-lacks : (a b c : ℕ) (bs : List ℕ) → (a ≡ 0 → ⊥) → (b ≡ 0 → ⊥) → (c ≡ 0 → ⊥) → eciOf (a ∷ b ∷ c ∷ bs) ≡ failed lacking
 unfolding eciOf
 three-lacks zero b c bs f g e = absurd (f refl)
 three-lacks (suc a) zero c bs f g e = absurd (g refl)
@@ -73,7 +73,7 @@ first : (s : List ℕ) (i : ℕ) → i < 8 * length s → drop i (bitsOf s) ≡ 
 first s i h = rw add-one (drop-cons (bitsOf s) i 0 (rw length-bits h))
 
 module _ (s : List ℕ) (i : ℕ) where
-  pub eci-cut : 8 * length s ≤ i → eciOf (drop i (bitsOf s)) ≡ cut
+  pub eci-cut : 8 * length s ≤ i → eciOf (drop i (bitsOf s)) ≡ failed cut
   unfolding eciOf
   eci-cut h = rw (none s i h)
 
@@ -82,7 +82,7 @@ module _ (s : List ℕ) (i : ℕ) where
     eci-one e = rw (first s i h) (one (getD (bitsOf s) i 0) (drop (i + 1) (bitsOf s)) e)
 
     module _ (f : getD (bitsOf s) i 0 ≡ 0 → ⊥) where
-      pub eci-one-cut : 8 * length s ≤ i + 1 → eciOf (drop i (bitsOf s)) ≡ cut
+      pub eci-one-cut : 8 * length s ≤ i + 1 → eciOf (drop i (bitsOf s)) ≡ failed cut
       eci-one-cut l = rw (first s i h, none s (i + 1) l) (one-cut (getD (bitsOf s) i 0) f)
 
       module _ (h′ : i + 1 < 8 * length s) where
@@ -93,7 +93,7 @@ module _ (s : List ℕ) (i : ℕ) where
         eci-two e = rw (first s i h, next) (two (getD (bitsOf s) i 0) (getD (bitsOf s) (i + 1) 0) (drop (i + 2) (bitsOf s)) f e)
 
         module _ (g : getD (bitsOf s) (i + 1) 0 ≡ 0 → ⊥) where
-          pub eci-two-cut : 8 * length s ≤ i + 2 → eciOf (drop i (bitsOf s)) ≡ cut
+          pub eci-two-cut : 8 * length s ≤ i + 2 → eciOf (drop i (bitsOf s)) ≡ failed cut
           eci-two-cut l = rw (first s i h, next, none s (i + 2) l) (two-cut (getD (bitsOf s) i 0) (getD (bitsOf s) (i + 1) 0) f g)
 
           module _ (h″ : i + 2 < 8 * length s) where
@@ -103,5 +103,5 @@ module _ (s : List ℕ) (i : ℕ) where
             pub eci-three : getD (bitsOf s) (i + 2) 0 ≡ 0 → eciOf (drop i (bitsOf s)) ≡ eciValue 3 21 (drop (i + 3) (bitsOf s))
             eci-three e = rw (first s i h, next, last) (three (getD (bitsOf s) i 0) (getD (bitsOf s) (i + 1) 0) (getD (bitsOf s) (i + 2) 0) (drop (i + 3) (bitsOf s)) f g e)
 
-            pub eci-lacks : (getD (bitsOf s) (i + 2) 0 ≡ 0 → ⊥) → eciOf (drop i (bitsOf s)) ≡ lacking
+            pub eci-lacks : (getD (bitsOf s) (i + 2) 0 ≡ 0 → ⊥) → eciOf (drop i (bitsOf s)) ≡ failed lacking
             eci-lacks e = rw (first s i h, next, last) (three-lacks (getD (bitsOf s) i 0) (getD (bitsOf s) (i + 1) 0) (getD (bitsOf s) (i + 2) 0) (drop (i + 3) (bitsOf s)) f g e)

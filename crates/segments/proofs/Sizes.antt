@@ -12,15 +12,15 @@ use lib.Pow.{pow-pos}
 use lib.Seq.{getD-drop}
 use Rattle.bits.specs.Bits.{value, firstWords, words}
 use Rattle.bits.proofs.Reading.{value-bound}
-use Rattle.segments.specs.Script.{Segment, eci, bytesOf, commandOf, payloadOf, scriptOf}
-use Rattle.segments.specs.Segments.{Result, cut, lacking, got, before, inBits, longer, digits, groupsOf, numericOf, charOf, textOf, bytesRun, bytesMode, highOf, lowOf, regionSize, regionOf, firstOf, secondOf, doubleByteOf, fourBytes, fourByteOf, eciValue, eciOf, bytesOfMode, runOf, segmentOf, first, following, parse}
+use Rattle.segments.specs.Script.{Segment, run, eci, bytesOf, commandOf, payloadOf, scriptOf}
+use Rattle.segments.specs.Segments.{cut, lacking, Result, failed, got, andThen, before, inBits, digits, groupsOf, numericOf, charOf, textOf, bytesRun, bytesMode, highOf, lowOf, regionSize, regionOf, firstOf, secondOf, doubleByteOf, fourBytes, fourByteOf, eciValue, eciOf, bytesOfMode, segmentOf, Ending, endMark, fewBits, broken, Parsed, ended, following, parse}
 use Rattle.segments.proofs.Turns.{length-digits}
 use Rattle.segments.proofs.Steps.{command-length}
 
-abbrev Small : List ℕ → Type 0
+abbrev pub Small : List ℕ → Type 0
 Small bs = (i : ℕ) → getD bs i 0 < 2
 
-drop-small : (n : ℕ) (bs : List ℕ) → Small bs → Small (drop n bs)
+pub drop-small : (n : ℕ) (bs : List ℕ) → Small bs → Small (drop n bs)
 drop-small n bs h = λ i. rw getD-drop (h (n + i))
 
 -- ---- words
@@ -39,8 +39,7 @@ first-small w (suc k) bs h (suc i) = first-small w k (drop w bs) (drop-small w b
 -- ---- words that give at most c bytes each
 
 abbrev Sized : ℕ → List ℕ → Result (List ℕ) → Type 0
-Sized c ws cut = Unit {0}
-Sized c ws lacking = Unit {0}
+Sized c ws (failed bad) = Unit {0}
 Sized c ws (got bs u) = (length bs ≤ c * u) × (u ≤ length ws) × (0 < u)
 
 cond-sized : (c : ℕ) (ws : List ℕ) (b : Bool) (r q : Result (List ℕ)) → Sized c ws r → Sized c ws q → Sized c ws (cond b r q)
@@ -48,8 +47,7 @@ cond-sized c ws true r q h g = h
 cond-sized c ws false r q h g = g
 
 before-sized : (c w : ℕ) (cs ws : List ℕ) (r : Result (List ℕ)) → length cs ≤ c → Sized c ws r → Sized c (w ∷ ws) (before cs r)
-before-sized c w cs ws cut h g = tt
-before-sized c w cs ws lacking h g = tt
+before-sized c w cs ws (failed bad) h g = tt
 before-sized c w cs ws (got bs u) h g = (rw (length-append cs bs, mul-suc c u) (omega arith), omega arith, omega arith)
 
 end-sized : (c w : ℕ) (ws : List ℕ) → Sized c (w ∷ ws) (got [] 1)
@@ -62,7 +60,7 @@ groups-sized p (w ∷ ws) h =
     cond-sized 3 (w ∷ ws) (ltb w 1000) (before (digits 3 p) (groupsOf w ws)) _ (before-sized 3 w (digits 3 p) ws (groupsOf w ws) (rw length-digits (omega arith)) (groups-sized w ws (λ i. h (suc i))))
     (last (ltb 1020 w) (ltb p (10 ^ (w - 1020))))
   where
-    last : (a b : Bool) → Sized 3 (w ∷ ws) (cond a (cond b (got (digits (w - 1020) p) 1) lacking) lacking)
+    last : (a b : Bool) → Sized 3 (w ∷ ws) (cond a (cond b (got (digits (w - 1020) p) 1) (failed lacking)) (failed lacking))
     last false b = tt
     last true false = tt
     last true true = let k = h 0 in (rw length-digits (omega arith), omega arith, omega arith)
@@ -70,7 +68,7 @@ groups-sized p (w ∷ ws) h =
 numeric-sized : (ws : List ℕ) → ((i : ℕ) → getD ws i 0 < 1024) → Sized 3 ws (numericOf ws)
 unfolding numericOf
 numeric-sized [] h = tt
-numeric-sized (w ∷ ws) h = cond-sized 3 (w ∷ ws) (ltb w 1000) (before [] (groupsOf w ws)) lacking (before-sized 3 w [] ws (groupsOf w ws) (omega arith) (groups-sized w ws (λ i. h (suc i)))) tt
+numeric-sized (w ∷ ws) h = cond-sized 3 (w ∷ ws) (ltb w 1000) (before [] (groupsOf w ws)) (failed lacking) (before-sized 3 w [] ws (groupsOf w ws) (omega arith) (groups-sized w ws (λ i. h (suc i)))) tt
 
 text-sized : (f : Bool) (ws : List ℕ) → Sized 1 ws (textOf f ws)
 unfolding textOf
@@ -87,7 +85,7 @@ region-sized f [] = tt
 region-sized f (w ∷ ws) =
     cond-sized 2 (w ∷ ws) (eqb w 4095) (got [] 1) _ (end-sized 2 w ws)
     (cond-sized 2 (w ∷ ws) (eqb w 4094) (before [] (regionOf (not f) ws)) _ (before-sized 2 w [] ws (regionOf (not f) ws) (omega arith) (region-sized (not f) ws))
-    (cond-sized 2 (w ∷ ws) (ltb w (regionSize f)) (before (highOf f w ∷ lowOf f w ∷ []) (regionOf f ws)) lacking
+    (cond-sized 2 (w ∷ ws) (ltb w (regionSize f)) (before (highOf f w ∷ lowOf f w ∷ []) (regionOf f ws)) (failed lacking)
     (before-sized 2 w (highOf f w ∷ lowOf f w ∷ []) ws (regionOf f ws) (omega arith) (region-sized f ws)) tt))
 
 double-sized : (ws : List ℕ) → Sized 2 ws (doubleByteOf ws)
@@ -95,29 +93,26 @@ unfolding doubleByteOf
 double-sized [] = tt
 double-sized (w ∷ ws) =
     cond-sized 2 (w ∷ ws) (eqb w 32767) (got [] 1) _ (end-sized 2 w ws)
-    (cond-sized 2 (w ∷ ws) (ltb w 23940) (before (firstOf w ∷ secondOf w ∷ []) (doubleByteOf ws)) lacking
+    (cond-sized 2 (w ∷ ws) (ltb w 23940) (before (firstOf w ∷ secondOf w ∷ []) (doubleByteOf ws)) (failed lacking)
     (before-sized 2 w (firstOf w ∷ secondOf w ∷ []) ws (doubleByteOf ws) (omega arith) (double-sized ws)) tt)
 
 -- ---- bits
 
 abbrev BitSized : List ℕ → Result (List ℕ) → Type 0
-BitSized bs cut = Unit {0}
-BitSized bs lacking = Unit {0}
+BitSized bs (failed bad) = Unit {0}
 BitSized bs (got cs u) = (10 * length cs ≤ 3 * u) × (u ≤ length bs) × (5 ≤ u)
 
 in-bits : (w c : ℕ) (bs : List ℕ) (r : Result (List ℕ)) → ((u : ℕ) → 10 * (c * u) ≤ 3 * (w * u)) → ((u : ℕ) → 0 < u → 5 ≤ w * u) → ((u : ℕ) → u ≤ length bs / w → w * u ≤ length bs)
     → Sized c (words w bs) r → BitSized bs (inBits w r)
 unfolding words
-in-bits w c bs cut f g k s = tt
-in-bits w c bs lacking f g k s = tt
+in-bits w c bs (failed bad) f g k s = tt
 in-bits w c bs (got cs u) f g k s =
     let l : u ≤ length bs / w = rw first-length at (s .1) in
     let a = f u in
     (omega arith, k u l, g u (s .2))
 
 abbrev RunSized : List ℕ → Result (List ℕ) → Type 0
-RunSized ws cut = Unit {0}
-RunSized ws lacking = Unit {0}
+RunSized ws (failed bad) = Unit {0}
 RunSized ws (got cs u) = (length cs ≤ u) × (u ≤ length ws)
 
 bytes-sized : (n : ℕ) (ws : List ℕ) → RunSized ws (bytesRun n ws)
@@ -127,22 +122,20 @@ bytes-sized (suc n) [] = tt
 bytes-sized (suc n) (w ∷ ws) = more (bytesRun n ws) (bytes-sized n ws)
   where
     more : (r : Result (List ℕ)) → RunSized ws r → RunSized (w ∷ ws) (before (w ∷ []) r)
-    more cut h = tt
-    more lacking h = tt
+    more (failed bad) h = tt
     more (got cs u) h = (omega arith, omega arith)
 
 mode-3 : (bs : List ℕ) → BitSized bs (bytesMode bs)
 unfolding bytesMode words
 mode-3 bs = go (ltb (length bs) 13) refl
   where
-    inner : (r : Result (List ℕ)) → 13 ≤ length bs → RunSized (firstWords 8 (length (drop 13 bs) / 8) (drop 13 bs)) r → BitSized bs (longer 13 (inBits 8 r))
-    inner cut l s = tt
-    inner lacking l s = tt
+    inner : (r : Result (List ℕ)) → 13 ≤ length bs → RunSized (firstWords 8 (length (drop 13 bs) / 8) (drop 13 bs)) r → BitSized bs (andThen r (λ cs u. got cs (13 + 8 * u)))
+    inner (failed bad) l s = tt
     inner (got cs u) l s =
         let k : u ≤ (length bs - 13) / 8 = rw (first-length, length-drop) at (s .1) in
         (omega arith, omega arith, omega arith)
 
-    go : (b : Bool) → ltb (length bs) 13 ≡ b → BitSized bs (cond b cut (longer 13 (inBits 8 (bytesRun (value 0 (take 13 bs)) (firstWords 8 (length (drop 13 bs) / 8) (drop 13 bs))))))
+    go : (b : Bool) → ltb (length bs) 13 ≡ b → BitSized bs (cond b (failed cut) (andThen (bytesRun (value 0 (take 13 bs)) (firstWords 8 (length (drop 13 bs) / 8) (drop 13 bs))) (λ cs u. got cs (13 + 8 * u))))
     go true e = tt
     go false e = inner (bytesRun (value 0 (take 13 bs)) (firstWords 8 (length (drop 13 bs) / 8) (drop 13 bs))) (ltb-false (length bs) 13 e) (bytes-sized (value 0 (take 13 bs)) (firstWords 8 (length (drop 13 bs) / 8) (drop 13 bs)))
 
@@ -150,7 +143,7 @@ mode-7 : (bs : List ℕ) → BitSized bs (fourByteOf bs)
 unfolding fourByteOf fourBytes
 mode-7 bs = go (ltb (length bs) 21) refl (ltb (value 0 (take 21 bs)) 1587600)
   where
-    go : (a : Bool) → ltb (length bs) 21 ≡ a → (b : Bool) → BitSized bs (cond a cut (cond b (got (fourBytes (value 0 (take 21 bs))) 21) lacking))
+    go : (a : Bool) → ltb (length bs) 21 ≡ a → (b : Bool) → BitSized bs (cond a (failed cut) (cond b (got (fourBytes (value 0 (take 21 bs))) 21) (failed lacking)))
     go true e b = tt
     go false e false = tt
     go false e true = let k = ltb-false (length bs) 21 e in (omega arith, k, omega arith)
@@ -168,20 +161,19 @@ mode-sized mode bs h =
     (pick bs (eqb mode 4) (inBits 12 (regionOf true (words 12 bs))) _ (in-bits 12 2 bs (regionOf true (words 12 bs)) (λ u. omega arith) (λ u p. omega arith) (λ u p. omega arith) (region-sized true (words 12 bs)))
     (pick bs (eqb mode 5) (inBits 12 (regionOf false (words 12 bs))) _ (in-bits 12 2 bs (regionOf false (words 12 bs)) (λ u. omega arith) (λ u p. omega arith) (λ u p. omega arith) (region-sized false (words 12 bs)))
     (pick bs (eqb mode 6) (inBits 15 (doubleByteOf (words 15 bs))) _ (in-bits 15 2 bs (doubleByteOf (words 15 bs)) (λ u. omega arith) (λ u p. omega arith) (λ u p. omega arith) (double-sized (words 15 bs)))
-    (pick bs (eqb mode 7) (fourByteOf bs) lacking (mode-7 bs) tt))))))
+    (pick bs (eqb mode 7) (fourByteOf bs) (failed lacking) (mode-7 bs) tt))))))
 
 -- ---- segments
 
-abbrev SegmentSized : List ℕ → Result Segment → Type 0
-SegmentSized bs cut = Unit {0}
-SegmentSized bs lacking = Unit {0}
+abbrev pub SegmentSized : List ℕ → Result Segment → Type 0
+SegmentSized bs (failed bad) = Unit {0}
 SegmentSized bs (got g u) = (10 * length (bytesOf g) ≤ 3 * u) × (3 * length (commandOf g) ≤ 4 + u) × (u ≤ length bs)
 
 field-sized : (k w : ℕ) (bs cs : List ℕ) → 8 ≤ k + w → length bs ≡ k + length cs → SegmentSized bs (eciValue k w cs)
 unfolding eciValue
 field-sized k w bs cs h l = go (ltb (length cs) w) refl
   where
-    go : (b : Bool) → ltb (length cs) w ≡ b → SegmentSized bs (cond b cut (got (eci (value 0 (take w cs))) (k + w)))
+    go : (b : Bool) → ltb (length cs) w ≡ b → SegmentSized bs (cond b (failed cut) (got (eci (value 0 (take w cs))) (k + w)))
     go true e = tt
     go false e = let m = ltb-false (length cs) w e in (omega arith, omega arith, omega arith)
 
@@ -195,49 +187,47 @@ eci-sized (suc a ∷ suc b ∷ []) = tt
 eci-sized (suc a ∷ suc b ∷ zero ∷ bs) = field-sized 3 21 (suc a ∷ suc b ∷ zero ∷ bs) bs (omega arith) (omega arith)
 eci-sized (suc a ∷ suc b ∷ suc c ∷ bs) = tt
 
-segment-sized : (mode : ℕ) (bs : List ℕ) → Small bs → SegmentSized bs (segmentOf mode bs)
+pub segment-sized : (mode : ℕ) (bs : List ℕ) → Small bs → SegmentSized bs (segmentOf mode bs)
 unfolding segmentOf
 segment-sized mode bs h = go (eqb mode 8)
   where
-    as-run : (r : Result (List ℕ)) → BitSized bs r → SegmentSized bs (runOf mode r)
-    as-run cut s = tt
-    as-run lacking s = tt
+    as-run : (r : Result (List ℕ)) → BitSized bs r → SegmentSized bs (andThen r (λ cs u. got (run mode cs) u))
+    as-run (failed bad) s = tt
     as-run (got cs u) s = let k = command-length mode (length cs) in (s .0, omega arith, s .1)
 
-    go : (b : Bool) → SegmentSized bs (cond b (eciOf bs) (runOf mode (bytesOfMode mode bs)))
+    go : (b : Bool) → SegmentSized bs (cond b (eciOf bs) (andThen (bytesOfMode mode bs) (λ cs u. got (run mode cs) u)))
     go true = eci-sized bs
     go false = as-run (bytesOfMode mode bs) (mode-sized mode bs h)
 
-abbrev pub AllSized : List ℕ → Result (List Segment) → Type 0
-AllSized bs cut = Unit {0}
-AllSized bs lacking = Unit {0}
-AllSized bs (got gs v) = (10 * length (payloadOf gs) ≤ 3 * length bs) × (3 * length (scriptOf gs) ≤ length bs)
+abbrev pub AllSized : List ℕ → Parsed → Type 0
+AllSized bs z = (10 * length (payloadOf (z .segments)) ≤ 3 * length bs) × (3 * length (scriptOf (z .segments)) ≤ length bs)
+
+-- no segment
+none-sized : (bs : List ℕ) (e : Ending) → AllSized bs (ended e)
+unfolding payloadOf scriptOf
+none-sized bs e = (omega arith, omega arith)
 
 -- one segment more, given what holds of the rest
-more-sized : (bs : List ℕ) (r : Result Segment) (rest : ℕ → Result (List Segment)) → 4 ≤ length bs → SegmentSized (drop 4 bs) r → ((u : ℕ) → AllSized (drop u (drop 4 bs)) (rest u)) → AllSized bs (following r rest)
+more-sized : (bs : List ℕ) (r : Result Segment) (rest : ℕ → Parsed) → 4 ≤ length bs → SegmentSized (drop 4 bs) r → ((u : ℕ) → AllSized (drop u (drop 4 bs)) (rest u)) → AllSized bs (following r rest)
 unfolding payloadOf scriptOf
-more-sized bs cut rest l s a = tt
-more-sized bs lacking rest l s a = tt
-more-sized bs (got g u) rest l s a = go (rest u) (a u)
-  where
-    go : (z : Result (List Segment)) → AllSized (drop u (drop 4 bs)) z → AllSized bs (first g u z)
-    go cut t = tt
-    go lacking t = tt
-    go (got gs v) t =
-        let n : length (drop u (drop 4 bs)) ≡ length bs - 4 - u = rw (length-drop, length-drop) in
-        let m : length (drop 4 bs) ≡ length bs - 4 = length-drop 4 bs in
-        let p = length-append (bytesOf g) (payloadOf gs) in
-        let q = length-append (commandOf g) (scriptOf gs) in
-        (omega arith, omega arith)
+more-sized bs (failed bad) rest l s a = none-sized bs (broken bad)
+more-sized bs (got g u) rest l s a =
+    let gs = rest u .segments in
+    let t = a u in
+    let n : length (drop u (drop 4 bs)) ≡ length bs - 4 - u = rw (length-drop, length-drop) in
+    let m : length (drop 4 bs) ≡ length bs - 4 = length-drop 4 bs in
+    let p = length-append (bytesOf g) (payloadOf gs) in
+    let q = length-append (commandOf g) (scriptOf gs) in
+    (omega arith, omega arith)
 
 pub parse-sized : (k : ℕ) (bs : List ℕ) → Small bs → AllSized bs (parse k bs)
-unfolding parse payloadOf scriptOf
-parse-sized zero bs h = tt
+unfolding parse
+parse-sized zero bs h = none-sized bs (broken cut)
 parse-sized (suc k) bs h =
     go (ltb (length bs) 4) refl (eqb (value 0 (take 4 bs)) 0) (λ l. more-sized bs (segmentOf (value 0 (take 4 bs)) (drop 4 bs)) (λ u. parse k (drop u (drop 4 bs))) l (segment-sized (value 0 (take 4 bs)) (drop 4 bs) (drop-small 4 bs h)) (λ u. parse-sized k (drop u (drop 4 bs)) (drop-small u (drop 4 bs) (drop-small 4 bs h))))
   where
     go : (a : Bool) → ltb (length bs) 4 ≡ a → (b : Bool) → (4 ≤ length bs → AllSized bs (following (segmentOf (value 0 (take 4 bs)) (drop 4 bs)) (λ u. parse k (drop u (drop 4 bs)))))
-        → AllSized bs (cond a (got [] 0) (cond b (got [] 4) (following (segmentOf (value 0 (take 4 bs)) (drop 4 bs)) (λ u. parse k (drop u (drop 4 bs))))))
-    go true e b f = (omega arith, omega arith)
-    go false e true f = (omega arith, omega arith)
+        → AllSized bs (cond a (ended fewBits) (cond b (ended endMark) (following (segmentOf (value 0 (take 4 bs)) (drop 4 bs)) (λ u. parse k (drop u (drop 4 bs))))))
+    go true e b f = none-sized bs fewBits
+    go false e true f = none-sized bs endMark
     go false e false f = f (ltb-false (length bs) 4 e)

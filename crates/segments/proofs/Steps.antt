@@ -14,13 +14,35 @@ use Rattle.bits.proofs.Tests.{never}
 use Rattle.bits.proofs.Reading.{length-left}
 use Rattle.bits.proofs.Words.{WordAt, sets-append}
 use Rattle.segments.specs.declared.Count.{Count}
-use Rattle.segments.specs.declared.Count.the-variants.{Done, Cut, Lacking}
+use Rattle.segments.specs.declared.Count.the-variants.{Done}
 use Rattle.segments.specs.declared.Step.{Step}
-use Rattle.segments.specs.declared.Step.the-variants.{On, Cut as StepCut, Lacking as StepLacking}
+use Rattle.segments.specs.declared.Step.the-variants.{On}
 use Rattle.segments.specs.Script.{Segment, run, eci, bytesOf, runCommand, commandOf, payloadOf, scriptOf}
-use Rattle.segments.specs.Segments.{Result, cut, lacking, got, eciOf, bytesOfMode, runOf, segmentOf, first, following, parse}
-use Rattle.segments.specs.Passes.{behind, Left, Inside, numericAt, textAt, bytesAt, regionAt, doubleByteAt, fourByteAt, runAt, stoppedLacking, EciLeft, Stepped, Passed}
+use Rattle.segments.specs.Segments.{Fault, cut, lacking, Result, failed, got, andThen, eciOf, bytesOfMode, segmentOf, Ending, endMark, fewBits, broken, Parsed, following, parse}
+use Rattle.segments.specs.Passes.{stopped, behind, counted, stepped, Left, Inside, numericAt, textAt, bytesAt, regionAt, doubleByteAt, fourByteAt, runAt, EciLeft, Stepped, Reached, PassedTo, Passed}
 use Rattle.segments.proofs.Turns.{behind-bits}
+
+-- ---- faults and answers
+
+same-count : (a b : Fault) → counted a ≡ counted b → a ≡ b
+same-count cut cut e = refl
+same-count cut lacking e = never cc
+same-count lacking cut e = never cc
+same-count lacking lacking e = refl
+
+same-step : (a b : Fault) → stepped a ≡ stepped b → a ≡ b
+same-step cut cut e = refl
+same-step cut lacking e = never cc
+same-step lacking cut e = never cc
+same-step lacking lacking e = refl
+
+pub not-done : (bad : Fault) {a k : ℕ} {A : Type 0} → counted bad ≡ Done a k → A
+not-done cut e = never cc
+not-done lacking e = never cc
+
+not-on : (bad : Fault) {a k j : ℕ} {A : Type 0} → stepped bad ≡ On a k j → A
+not-on cut e = never cc
+not-on lacking e = never cc
 
 -- ---- the modes by their numbers
 
@@ -53,7 +75,7 @@ module _ (s : List ℕ) (i n : ℕ) (o : List ℕ) (mode : ℕ) where
   unfolding bytesOfMode
   run-four e = rw e
 
-  pub run-none : (mode ≡ 1 → ⊥) → (mode ≡ 2 → ⊥) → (mode ≡ 3 → ⊥) → (mode ≡ 4 → ⊥) → (mode ≡ 5 → ⊥) → (mode ≡ 6 → ⊥) → (mode ≡ 7 → ⊥) → runAt s i n o mode ≡ stoppedLacking
+  pub run-none : (mode ≡ 1 → ⊥) → (mode ≡ 2 → ⊥) → (mode ≡ 3 → ⊥) → (mode ≡ 4 → ⊥) → (mode ≡ 5 → ⊥) → (mode ≡ 6 → ⊥) → (mode ≡ 7 → ⊥) → runAt s i n o mode ≡ stopped lacking
   unfolding bytesOfMode
   run-none a b c d e f g = rw (ne-eqb mode 1 a, ne-eqb mode 2 b, ne-eqb mode 3 c, ne-eqb mode 4 d, ne-eqb mode 5 e, ne-eqb mode 6 f, ne-eqb mode 7 g)
 
@@ -74,8 +96,7 @@ module _ (s : List ℕ) (i n m : ℕ) (o c : List ℕ) (mode : ℕ) (h : m + 4 �
   eci-on e a v r y p q w = rw (eq-eqb mode 8 e) (go (eciOf (drop i (bitsOf s))) p)
     where
       go : (z : Result Segment) → EciLeft s i z r → Stepped s i n m o c z (On a n (m + 4)) o y
-      go cut k = never cc
-      go lacking k = never cc
+      go (failed bad) k = not-done bad (sym k ∙ q)
       go (got (run x bs) u) k = absurd k
       go (got (eci v′) u) k =
           let k0 = k .0 in
@@ -87,30 +108,19 @@ module _ (s : List ℕ) (i n m : ℕ) (o c : List ℕ) (mode : ℕ) (h : m + 4 �
   eci-bound r a v p q = go (eciOf (drop i (bitsOf s))) p
     where
       go : (z : Result Segment) → EciLeft s i z r → v < 2097152
-      go cut k = never cc
-      go lacking k = never cc
+      go (failed bad) k = not-done bad (sym k ∙ q)
       go (got (run x bs) u) k = absurd k
       go (got (eci v′) u) k = let k0 = k .0 in let ev : v ≡ v′ = cc in rw ev (k .2)
 
-  pub eci-stop-cut : mode ≡ 8 → (r : Count) (x y : List ℕ) → EciLeft s i (eciOf (drop i (bitsOf s))) r → r ≡ Cut → Stepped s i n m o c (segmentOf mode (drop i (bitsOf s))) StepCut x y
+  pub eci-stop : mode ≡ 8 → (bad : Fault) (r : Count) (x y : List ℕ) → EciLeft s i (eciOf (drop i (bitsOf s))) r → r ≡ counted bad
+      → Stepped s i n m o c (segmentOf mode (drop i (bitsOf s))) (stepped bad) x y
   unfolding segmentOf
-  eci-stop-cut e r x y p q = rw (eq-eqb mode 8 e) (go (eciOf (drop i (bitsOf s))) p)
+  eci-stop e bad r x y p q = rw (eq-eqb mode 8 e) (go (eciOf (drop i (bitsOf s))) p)
     where
-      go : (z : Result Segment) → EciLeft s i z r → Stepped s i n m o c z StepCut x y
-      go cut k = refl
-      go lacking k = never cc
+      go : (z : Result Segment) → EciLeft s i z r → Stepped s i n m o c z (stepped bad) x y
+      go (failed b) k = ap stepped (same-count bad b (sym q ∙ k))
       go (got (run x bs) u) k = absurd k
-      go (got (eci v′) u) k = let k0 = k .0 in never cc
-
-  pub eci-stop-lacks : mode ≡ 8 → (r : Count) (x y : List ℕ) → EciLeft s i (eciOf (drop i (bitsOf s))) r → r ≡ Lacking → Stepped s i n m o c (segmentOf mode (drop i (bitsOf s))) StepLacking x y
-  unfolding segmentOf
-  eci-stop-lacks e r x y p q = rw (eq-eqb mode 8 e) (go (eciOf (drop i (bitsOf s))) p)
-    where
-      go : (z : Result Segment) → EciLeft s i z r → Stepped s i n m o c z StepLacking x y
-      go cut k = never cc
-      go lacking k = refl
-      go (got (run x bs) u) k = absurd k
-      go (got (eci v′) u) k = let k0 = k .0 in never cc
+      go (got (eci v′) u) k = not-done bad (sym q ∙ k .0)
 
   module _ (f : mode ≡ 8 → ⊥) (r : Count) (x : List ℕ) (p : Left (runAt s i n o mode) r x) where
     pub run-on : (a k used : ℕ) (y : List ℕ) → r ≡ Done a k → a ≤ 8 * length s → k ≤ a → used ≡ length (runCommand mode (k - n)) → y ≡ sets c m (runCommand mode (k - n))
@@ -118,9 +128,8 @@ module _ (s : List ℕ) (i n m : ℕ) (o c : List ℕ) (mode : ℕ) (h : m + 4 �
     unfolding segmentOf
     run-on a k used y q la lk eu ey = rw (ne-eqb mode 8 f) (go (bytesOfMode mode (drop i (bitsOf s))) p)
       where
-        go : (z : Result (List ℕ)) → Left (behind 1 i n o z) r x → Stepped s i n m o c (runOf mode z) (On a k (m + used)) x y
-        go cut g = never cc
-        go lacking g = never cc
+        go : (z : Result (List ℕ)) → Left (behind 1 i n o z) r x → Stepped s i n m o c (andThen z (λ cs u. got (run mode cs) u)) (On a k (m + used)) x y
+        go (failed bad) g = not-done bad (sym g ∙ q)
         go (got bs u) g =
             let g0 = g .0 in
             let ea : a ≡ i + 1 * u = cc in
@@ -131,23 +140,13 @@ module _ (s : List ℕ) (i n m : ℕ) (o c : List ℕ) (mode : ℕ) (h : m + 4 �
             let three = command-length mode (length bs) in
             (rw (ea′, ek, eu′), g .1, rw d at ey, omega arith, omega arith, omega arith)
 
-    pub run-stop-cut : (x′ y : List ℕ) → r ≡ Cut → Stepped s i n m o c (segmentOf mode (drop i (bitsOf s))) StepCut x′ y
+    pub run-stop : (bad : Fault) (x′ y : List ℕ) → r ≡ counted bad → Stepped s i n m o c (segmentOf mode (drop i (bitsOf s))) (stepped bad) x′ y
     unfolding segmentOf
-    run-stop-cut x′ y q = rw (ne-eqb mode 8 f) (go (bytesOfMode mode (drop i (bitsOf s))) p)
+    run-stop bad x′ y q = rw (ne-eqb mode 8 f) (go (bytesOfMode mode (drop i (bitsOf s))) p)
       where
-        go : (z : Result (List ℕ)) → Left (behind 1 i n o z) r x → Stepped s i n m o c (runOf mode z) StepCut x′ y
-        go cut g = refl
-        go lacking g = never cc
-        go (got bs u) g = let g0 = g .0 in never cc
-
-    pub run-stop-lacks : (x′ y : List ℕ) → r ≡ Lacking → Stepped s i n m o c (segmentOf mode (drop i (bitsOf s))) StepLacking x′ y
-    unfolding segmentOf
-    run-stop-lacks x′ y q = rw (ne-eqb mode 8 f) (go (bytesOfMode mode (drop i (bitsOf s))) p)
-      where
-        go : (z : Result (List ℕ)) → Left (behind 1 i n o z) r x → Stepped s i n m o c (runOf mode z) StepLacking x′ y
-        go cut g = never cc
-        go lacking g = refl
-        go (got bs u) g = let g0 = g .0 in never cc
+        go : (z : Result (List ℕ)) → Left (behind 1 i n o z) r x → Stepped s i n m o c (andThen z (λ cs u. got (run mode cs) u)) (stepped bad) x′ y
+        go (failed b) g = ap stepped (same-count bad b (sym q ∙ g))
+        go (got bs u) g = not-done bad (sym q ∙ g .0)
 
 -- an answer of a mode that is at a place lies inside
 pub inside : (s : List ℕ) (from to : ℕ) (r : Count) (a k : ℕ) → Inside s from to r → r ≡ Done a k → (from ≤ a) × (a ≤ 8 * length s) × (to ≤ k) × (k ≤ a)
@@ -157,8 +156,7 @@ inside s from to r a k h e = subst (λ (z : Count). Inside s from to z) e h
 
 pub step-room : (s : List ℕ) (i n m : ℕ) (o c : List ℕ) (z : Result Segment) (r : Step) (a k j : ℕ) (x y : List ℕ)
     → Stepped s i n m o c z r x y → r ≡ On a k j → (i ≤ a) × (a ≤ 8 * length s) × (k ≤ a) × (j ≤ a)
-step-room s i n m o c cut r a k j x y p e = never cc
-step-room s i n m o c lacking r a k j x y p e = never cc
+step-room s i n m o c (failed bad) r a k j x y p e = not-on bad (sym p ∙ e)
 step-room s i n m o c (got g u) r a k j x y p e =
     let p0 = p .0 in
     let ea : a ≡ i + u = cc in
@@ -188,27 +186,14 @@ module _ (s : List ℕ) (i n m : ℕ) (o c : List ℕ) where
     opened f h = simp (le-ltb (length (drop i (bitsOf s))) 4 enough, sym (w .is), ne-eqb mode 0 h, drop-drop 4 i (bitsOf s))
 
     module _ (f : ℕ) (p : 0 < f) (h : mode ≡ 0 → ⊥) (t : Step) (x y : List ℕ) (g : Stepped s (i + 4) n m o c (segmentOf mode (drop (i + 4) (bitsOf s))) t x y) where
-      pub pass-cut : t ≡ StepCut → Passed n m o c (parse f (drop i (bitsOf s))) Cut x y
-      pass-cut e = go f p
+      pub pass-stop : (bad : Fault) → t ≡ stepped bad → Passed n m o c (parse f (drop i (bitsOf s))) (counted bad) x y
+      pass-stop bad e = go f p
         where
-          here : (z : Result Segment) (k : ℕ → Result (List Segment)) → Stepped s (i + 4) n m o c z t x y → Passed n m o c (following z k) Cut x y
-          here cut k q = refl
-          here lacking k q = never cc
-          here (got b u) k q = let q0 = q .0 in never cc
+          here : (z : Result Segment) (k : ℕ → Parsed) → Stepped s (i + 4) n m o c z t x y → Passed n m o c (following z k) (counted bad) x y
+          here (failed b) k q = ap counted (same-step bad b (sym e ∙ q))
+          here (got b u) k q = not-on bad (sym e ∙ q .0)
 
-          go : (f : ℕ) → 0 < f → Passed n m o c (parse f (drop i (bitsOf s))) Cut x y
-          go zero p = absurd (omega arith)
-          go (suc f) p = rw (opened f h) (here (segmentOf mode (drop (i + 4) (bitsOf s))) (λ u. parse f (drop u (drop (i + 4) (bitsOf s)))) g)
-
-      pub pass-lacks : t ≡ StepLacking → Passed n m o c (parse f (drop i (bitsOf s))) Lacking x y
-      pass-lacks e = go f p
-        where
-          here : (z : Result Segment) (k : ℕ → Result (List Segment)) → Stepped s (i + 4) n m o c z t x y → Passed n m o c (following z k) Lacking x y
-          here cut k q = never cc
-          here lacking k q = refl
-          here (got b u) k q = let q0 = q .0 in never cc
-
-          go : (f : ℕ) → 0 < f → Passed n m o c (parse f (drop i (bitsOf s))) Lacking x y
+          go : (f : ℕ) → 0 < f → Passed n m o c (parse f (drop i (bitsOf s))) (counted bad) x y
           go zero p = absurd (omega arith)
           go (suc f) p = rw (opened f h) (here (segmentOf mode (drop (i + 4) (bitsOf s))) (λ u. parse f (drop u (drop (i + 4) (bitsOf s)))) g)
 
@@ -216,25 +201,28 @@ module _ (s : List ℕ) (i n m : ℕ) (o c : List ℕ) where
       unfolding payloadOf scriptOf
       pass-on a k j e r x′ y′ q = go f p q
         where
-          join : (b : Segment) (u : ℕ) (z : Result (List Segment)) → Passed (n + length (bytesOf b)) (m + length (commandOf b)) (sets o n (bytesOf b)) (sets c m (commandOf b)) z r x′ y′
-              → Passed n m o c (first b u z) r x′ y′
-          join b u cut d = d
-          join b u lacking d = d
-          join b u (got gs v) d =
+          reached : (b : Segment) (gs : List Segment) → Reached (n + length (bytesOf b)) (m + length (commandOf b)) (sets o n (bytesOf b)) (sets c m (commandOf b)) gs r x′ y′
+              → Reached n m o c (b ∷ gs) r x′ y′
+          reached b gs d =
               let e1 : n + length (bytesOf b ++ payloadOf gs) ≡ n + length (bytesOf b) + length (payloadOf gs) = rw length-append (omega arith) in
               let e2 : m + length (commandOf b ++ scriptOf gs) ≡ m + length (commandOf b) + length (scriptOf gs) = rw length-append (omega arith) in
               (rw (e1, e2) (d .0), rw sets-append (d .1), rw sets-append (d .2))
 
+          join : (b : Segment) (gs : List Segment) (z : Ending) → PassedTo (n + length (bytesOf b)) (m + length (commandOf b)) (sets o n (bytesOf b)) (sets c m (commandOf b)) gs z r x′ y′
+              → PassedTo n m o c (b ∷ gs) z r x′ y′
+          join b gs endMark d = reached b gs d
+          join b gs fewBits d = reached b gs d
+          join b gs (broken bad) d = d
+
           here : (f′ : ℕ) (z : Result Segment) → Stepped s (i + 4) n m o c z t x y → Passed k j x y (parse f′ (drop a (bitsOf s))) r x′ y′
               → Passed n m o c (following z (λ u. parse f′ (drop u (drop (i + 4) (bitsOf s))))) r x′ y′
-          here f′ cut d q = never cc
-          here f′ lacking d q = never cc
+          here f′ (failed bad) d q = not-on bad (sym d ∙ e)
           here f′ (got b u) d q =
               let d0 = d .0 in
               let ea : a ≡ i + 4 + u = cc in
               let ek : k ≡ n + length (bytesOf b) = cc in
               let ej : j ≡ m + length (commandOf b) = cc in
-              join b u (parse f′ (drop u (drop (i + 4) (bitsOf s)))) (rw (drop-drop u (i + 4) (bitsOf s), ← ea, ← ek, ← ej, ← (d .1), ← (d .2)) q)
+              join b (parse f′ (drop u (drop (i + 4) (bitsOf s))) .segments) (parse f′ (drop u (drop (i + 4) (bitsOf s))) .end) (rw (drop-drop u (i + 4) (bitsOf s), ← ea, ← ek, ← ej, ← (d .1), ← (d .2)) q)
 
           go : (f : ℕ) → 0 < f → Passed k j x y (parse (f - 1) (drop a (bitsOf s))) r x′ y′ → Passed n m o c (parse f (drop i (bitsOf s))) r x′ y′
           go zero p q = absurd (omega arith)

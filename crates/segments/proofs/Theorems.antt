@@ -1,18 +1,17 @@
 -- What a customer can quote of Segments from data.
-use mathlib.Core.Path.{_≡_}
 use mathlib.Core.List.{List}
 use Prim.Native.Nat.{ℕ, _+_, _*_, _≤_}
 use native.Mathlib.Omega.{arith}
 use lib.ListN.{length}
 use Rattle.bits.specs.Bits.{bitsOf}
 use Rattle.bits.proofs.Reading.{bit-lt, length-bits}
-use Rattle.segments.specs.Script.{Segment, payloadOf, scriptOf}
-use Rattle.segments.specs.Segments.{got, segmentsOf}
-use Rattle.segments.proofs.Sizes.{AllSized, parse-sized}
+use Rattle.segments.specs.Script.{payloadOf, scriptOf}
+use Rattle.segments.specs.Segments.{segmentsOf}
+use Rattle.segments.proofs.Sizes.{parse-sized}
 
 -- Data of at most 3,886 bytes give a payload and a script of at most 12,288 bytes each.
-pub room-enough : (s : List ℕ) (gs : List Segment) (u : ℕ) → length s ≤ 3886 → segmentsOf s ≡ got gs u → (length (payloadOf gs) ≤ 12288) × (length (scriptOf gs) ≤ 12288)
-room-enough s gs u h e =
-    let a : AllSized (bitsOf s) (got gs u) = rw e at (parse-sized (8 * length s + 1) (bitsOf s) (bit-lt s)) in
+pub room-enough : (s : List ℕ) → length s ≤ 3886 → (length (payloadOf (segmentsOf s .segments)) ≤ 12288) × (length (scriptOf (segmentsOf s .segments)) ≤ 12288)
+room-enough s h =
+    let a = parse-sized (8 * length s + 1) (bitsOf s) (bit-lt s) in
     let l = length-bits s in
     (omega arith, omega arith)

@@ -11,15 +11,14 @@ use lib.Seq.{sets, drop-drop}
 use Rattle.bits.specs.Bits.{bitsOf, words}
 use Rattle.bits.proofs.Reading.{length-left}
 use Rattle.bits.proofs.Words.{WordAt, sets-append}
-use Rattle.segments.specs.Segments.{Result, cut, lacking, got, before, inBits, longer, digits, groupsOf, numericOf, charOf, textOf, bytesRun, bytesMode, highOf, lowOf, regionSize, regionOf, firstOf, secondOf, doubleByteOf, fourBytes, fourByteOf}
+use Rattle.segments.specs.Segments.{cut, lacking, Result, failed, got, andThen, before, inBits, digits, groupsOf, numericOf, charOf, textOf, bytesRun, bytesMode, highOf, lowOf, regionSize, regionOf, firstOf, secondOf, doubleByteOf, fourBytes, fourByteOf}
 use Rattle.segments.specs.declared.Count.{Count}
 use Rattle.segments.specs.declared.Count.the-variants.{Done, Cut, Lacking}
-use Rattle.segments.specs.Passes.{Inside, stoppedCut, stoppedLacking, at, behind, groupsAt, numericAt, textAt, bytesRunAt, bytesAt, regionAt, doubleByteAt, fourByteAt}
+use Rattle.segments.specs.Passes.{stopped, Inside, at, behind, groupsAt, numericAt, textAt, bytesRunAt, bytesAt, regionAt, doubleByteAt, fourByteAt}
 
 -- one word and the bytes that it gives
 behind-before : (w i n : ℕ) (o cs : List ℕ) (p : Result (List ℕ)) → behind w i n o (before cs p) ≡ behind w (i + w) (n + length cs) (sets o n cs) p
-behind-before w i n o cs cut = refl
-behind-before w i n o cs lacking = refl
+behind-before w i n o cs (failed bad) = refl
 behind-before w i n o cs (got bs u) =
     let e : i + w * suc u ≡ i + w + w * u = rw mul-suc (omega arith) in
     let g : n + length (cs ++ bs) ≡ n + length cs + length bs = rw length-append (omega arith) in
@@ -31,43 +30,42 @@ behind-none w i n o p = behind-before w i n o [] p ∙ rw add-zero
 
 -- words counted in bits
 pub behind-bits : (w i n : ℕ) (o : List ℕ) (p : Result (List ℕ)) → behind 1 i n o (inBits w p) ≡ behind w i n o p
-behind-bits w i n o cut = refl
-behind-bits w i n o lacking = refl
+behind-bits w i n o (failed bad) = refl
 behind-bits w i n o (got bs u) = rw one-mul
 
 -- ---- no word is left
 
 module _ (s : List ℕ) (i n : ℕ) (o : List ℕ) where
-  pub numeric-cut : words 10 (drop i (bitsOf s)) ≡ [] → numericAt s i n o ≡ stoppedCut
+  pub numeric-cut : words 10 (drop i (bitsOf s)) ≡ [] → numericAt s i n o ≡ stopped cut
   unfolding numericOf
   numeric-cut e = rw e
 
-  pub groups-cut : (p : ℕ) → words 10 (drop i (bitsOf s)) ≡ [] → groupsAt s i n o p ≡ stoppedCut
+  pub groups-cut : (p : ℕ) → words 10 (drop i (bitsOf s)) ≡ [] → groupsAt s i n o p ≡ stopped cut
   unfolding groupsOf
   groups-cut p e = rw e
 
-  pub text-cut : (f : Bool) → words 6 (drop i (bitsOf s)) ≡ [] → textAt s i n o f ≡ stoppedCut
+  pub text-cut : (f : Bool) → words 6 (drop i (bitsOf s)) ≡ [] → textAt s i n o f ≡ stopped cut
   unfolding textOf
   text-cut f e = rw e
 
-  pub bytes-run-cut : (k : ℕ) → 0 < k → words 8 (drop i (bitsOf s)) ≡ [] → bytesRunAt s i n o k ≡ stoppedCut
+  pub bytes-run-cut : (k : ℕ) → 0 < k → words 8 (drop i (bitsOf s)) ≡ [] → bytesRunAt s i n o k ≡ stopped cut
   unfolding bytesRun
   bytes-run-cut zero h e = absurd (omega arith)
   bytes-run-cut (suc k) h e = rw e
 
-  pub region-cut : (f : Bool) → words 12 (drop i (bitsOf s)) ≡ [] → regionAt s i n o f ≡ stoppedCut
+  pub region-cut : (f : Bool) → words 12 (drop i (bitsOf s)) ≡ [] → regionAt s i n o f ≡ stopped cut
   unfolding regionOf
   region-cut f e = rw e
 
-  pub double-cut : words 15 (drop i (bitsOf s)) ≡ [] → doubleByteAt s i n o ≡ stoppedCut
+  pub double-cut : words 15 (drop i (bitsOf s)) ≡ [] → doubleByteAt s i n o ≡ stopped cut
   unfolding doubleByteOf
   double-cut e = rw e
 
-  pub bytes-cut : length (drop i (bitsOf s)) < 13 → bytesAt s i n o ≡ stoppedCut
+  pub bytes-cut : length (drop i (bitsOf s)) < 13 → bytesAt s i n o ≡ stopped cut
   unfolding bytesMode
   bytes-cut h = rw (lt-ltb (length (drop i (bitsOf s))) 13 h)
 
-  pub four-cut : length (drop i (bitsOf s)) < 21 → fourByteAt s i n o ≡ stoppedCut
+  pub four-cut : length (drop i (bitsOf s)) < 21 → fourByteAt s i n o ≡ stopped cut
   unfolding fourByteOf
   four-cut h = rw (lt-ltb (length (drop i (bitsOf s))) 21 h)
 
@@ -84,7 +82,7 @@ length-digits zero v = refl
 length-digits (suc k) v = ap suc (length-digits k v)
 
 module _ (s : List ℕ) (i n : ℕ) (o : List ℕ) (w : ℕ) (r : WordAt 10 i w s) where
-  pub numeric-lacks : 1000 ≤ w → numericAt s i n o ≡ stoppedLacking
+  pub numeric-lacks : 1000 ≤ w → numericAt s i n o ≡ stopped lacking
   unfolding numericOf
   numeric-lacks h = rw (r .next, le-ltb w 1000 h)
 
@@ -97,11 +95,11 @@ module _ (s : List ℕ) (i n : ℕ) (o : List ℕ) (w : ℕ) (r : WordAt 10 i w 
     unfolding groupsOf
     groups-more h = rw (r .next, lt-ltb w 1000 h) (behind-before 10 i n o (digits 3 p) (groupsOf w (words 10 (drop (i + 10) (bitsOf s)))) ∙ rw length-digits)
 
-    pub groups-lack : 1000 ≤ w → w ≤ 1020 → groupsAt s i n o p ≡ stoppedLacking
+    pub groups-lack : 1000 ≤ w → w ≤ 1020 → groupsAt s i n o p ≡ stopped lacking
     unfolding groupsOf
     groups-lack h g = rw (r .next, le-ltb w 1000 h, le-ltb 1020 w g)
 
-    pub groups-large : 1000 ≤ w → 1020 < w → 10 ^ (w - 1020) ≤ p → groupsAt s i n o p ≡ stoppedLacking
+    pub groups-large : 1000 ≤ w → 1020 < w → 10 ^ (w - 1020) ≤ p → groupsAt s i n o p ≡ stopped lacking
     unfolding groupsOf
     groups-large h g l = rw (r .next, le-ltb w 1000 h, lt-ltb 1020 w g, le-ltb p (10 ^ (w - 1020)) l)
 
@@ -153,9 +151,8 @@ bytes-length s i n o k r =
     let m = r .room in
     rw (le-ltb (length (drop i (bitsOf s))) 13 (omega (arith, length-left s i)), ← (r .is), drop-drop 13 i (bitsOf s)) (go (bytesRun k (words 8 (drop (i + 13) (bitsOf s)))))
   where
-    go : (p : Result (List ℕ)) → behind 1 i n o (longer 13 (inBits 8 p)) ≡ behind 8 (i + 13) n o p
-    go cut = refl
-    go lacking = refl
+    go : (p : Result (List ℕ)) → behind 1 i n o (andThen p (λ cs u. got cs (13 + 8 * u))) ≡ behind 8 (i + 13) n o p
+    go (failed bad) = refl
     go (got bs u) = let e : i + 1 * (13 + 8 * u) ≡ i + 13 + 8 * u = omega arith in rw e
 
 -- ---- regions
@@ -169,7 +166,7 @@ module _ (s : List ℕ) (i n : ℕ) (o : List ℕ) (w : ℕ) (f : Bool) (r : Wor
   unfolding regionOf
   region-switch h e = rw (r .next, ne-eqb w 4095 h, eq-eqb w 4094 e) (behind-none 12 i n o (regionOf (not f) (words 12 (drop (i + 12) (bitsOf s)))))
 
-  pub region-lacks : (w ≡ 4095 → ⊥) → (w ≡ 4094 → ⊥) → regionSize f ≤ w → regionAt s i n o f ≡ stoppedLacking
+  pub region-lacks : (w ≡ 4095 → ⊥) → (w ≡ 4094 → ⊥) → regionSize f ≤ w → regionAt s i n o f ≡ stopped lacking
   unfolding regionOf
   region-lacks h g l = rw (r .next, ne-eqb w 4095 h, ne-eqb w 4094 g, le-ltb w (regionSize f) l)
 
@@ -186,7 +183,7 @@ module _ (s : List ℕ) (i n : ℕ) (o : List ℕ) (w : ℕ) (r : WordAt 15 i w 
   unfolding doubleByteOf
   double-end e = rw (r .next, eq-eqb w 32767 e, add-zero)
 
-  pub double-lacks : (w ≡ 32767 → ⊥) → 23940 ≤ w → doubleByteAt s i n o ≡ stoppedLacking
+  pub double-lacks : (w ≡ 32767 → ⊥) → 23940 ≤ w → doubleByteAt s i n o ≡ stopped lacking
   unfolding doubleByteOf
   double-lacks h l = rw (r .next, ne-eqb w 32767 h, le-ltb w 23940 l)
 
@@ -199,7 +196,7 @@ module _ (s : List ℕ) (i n : ℕ) (o : List ℕ) (w : ℕ) (r : WordAt 15 i w 
 -- ---- four-byte
 
 module _ (s : List ℕ) (i n : ℕ) (o : List ℕ) (w : ℕ) (r : WordAt 21 i w s) where
-  pub four-lacks : 1587600 ≤ w → fourByteAt s i n o ≡ stoppedLacking
+  pub four-lacks : 1587600 ≤ w → fourByteAt s i n o ≡ stopped lacking
   unfolding fourByteOf
   four-lacks l =
       let m = r .room in

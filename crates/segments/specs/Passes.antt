@@ -14,18 +14,16 @@ use Rattle.segments.specs.declared.Region.the-variants.{End, Switch, Cut
 use Rattle.segments.specs.declared.Step.{Step}
 use Rattle.segments.specs.declared.Step.the-variants.{On, Cut as StepCut, Lacking as StepLacking}
 use Rattle.segments.specs.Script.{Segment, run, eci, bytesOf, commandOf, payloadOf, scriptOf}
-use Rattle.segments.specs.Segments.{Result, cut, lacking, got, groupsOf, numericOf, textOf, bytesRun, bytesMode, regionOf, doubleByteOf, fourByteOf, bytesOfMode}
+use Rattle.segments.specs.Segments.{Fault, cut, lacking, Result, failed, got, groupsOf, numericOf, textOf, bytesRun, bytesMode, regionOf, doubleByteOf, fourByteOf, bytesOfMode, Ending, endMark, fewBits, broken, Parsed}
 
--- where a mode's function stops: cut, lacking, or at a position with n bytes stored in a buffer
+-- where a mode's function stops: at a fault, or at a position with n bytes stored in a buffer
 pub data State : Type 0 where
-  stoppedCut : State
-  stoppedLacking : State
+  stopped : Fault → State
   at : ℕ → ℕ → List ℕ → State
 
 -- the state behind words of w bits, from the position i, with n bytes in the buffer o before
 abbrev pub behind : ℕ → ℕ → ℕ → List ℕ → Result (List ℕ) → State
-behind w i n o cut = stoppedCut
-behind w i n o lacking = stoppedLacking
+behind w i n o (failed bad) = stopped bad
 behind w i n o (got bs u) = at (i + w * u) (n + length bs) (sets o n bs)
 
 -- the states of the modes, from a position on
@@ -56,10 +54,18 @@ fourByteAt s i n o = behind 1 i n o (fourByteOf (drop i (bitsOf s)))
 abbrev pub runAt : List ℕ → ℕ → ℕ → List ℕ → ℕ → State
 runAt s i n o mode = behind 1 i n o (bytesOfMode mode (drop i (bitsOf s)))
 
+-- the answers for a fault
+abbrev pub counted : Fault → Count
+counted cut = Cut
+counted lacking = Lacking
+
+abbrev pub stepped : Fault → Step
+stepped cut = StepCut
+stepped lacking = StepLacking
+
 -- the answer r and the buffer x that a function leaves at a state; after a stop the buffer is not told
 abbrev pub Left : State → Count → List ℕ → Type 0
-Left stoppedCut r x = r ≡ Cut
-Left stoppedLacking r x = r ≡ Lacking
+Left (stopped bad) r x = r ≡ counted bad
 Left (at i n o) r x = (r ≡ Done i n) × (x ≡ o)
 
 -- the answer of a region as one number
@@ -77,26 +83,31 @@ abbrev pub RegionLeft : List ℕ → ℕ → ℕ → List ℕ → Bool → Regio
 RegionLeft s from to o region (End i n) x = (regionAt s from to o region ≡ at i n x) × (from ≤ i) × (i ≤ 8 * length s) × (to ≤ n) × (n ≤ i)
 RegionLeft s from to o region (Switch i n) x =
     (from + 12 ≤ i) × (i ≤ 8 * length s) × (n ≤ i) × (regionAt s from to o region ≡ regionAt s i n x (not region)) × (to ≤ n)
-RegionLeft s from to o region RegionCut x = regionAt s from to o region ≡ stoppedCut
-RegionLeft s from to o region RegionLacking x = regionAt s from to o region ≡ stoppedLacking
+RegionLeft s from to o region RegionCut x = regionAt s from to o region ≡ stopped cut
+RegionLeft s from to o region RegionLacking x = regionAt s from to o region ≡ stopped lacking
 
 -- the position and the value behind an ECI at the position i
 abbrev pub EciLeft : List ℕ → ℕ → Result Segment → Count → Type 0
-EciLeft s i cut r = r ≡ Cut
-EciLeft s i lacking r = r ≡ Lacking
+EciLeft s i (failed bad) r = r ≡ counted bad
 EciLeft s i (got (eci v) u) r = (r ≡ Done (i + u) v) × (i + u ≤ 8 * length s) × (v < 2097152)
 EciLeft s i (got (run mode bs) u) r = ⊥
 
 -- one segment from the position i, with n payload bytes in o and m script bytes in c before it
 abbrev pub Stepped : List ℕ → ℕ → ℕ → ℕ → List ℕ → List ℕ → Result Segment → Step → List ℕ → List ℕ → Type 0
-Stepped s i n m o c cut r x y = r ≡ StepCut
-Stepped s i n m o c lacking r x y = r ≡ StepLacking
+Stepped s i n m o c (failed bad) r x y = r ≡ stepped bad
 Stepped s i n m o c (got g u) r x y =
     (r ≡ On (i + u) (n + length (bytesOf g)) (m + length (commandOf g))) × (x ≡ sets o n (bytesOf g)) × (y ≡ sets c m (commandOf g))
     × (i + u ≤ 8 * length s) × (n + length (bytesOf g) ≤ i + u) × (m + length (commandOf g) ≤ i + u)
 
--- a pass that has stored n payload bytes in o and m script bytes in c, with these segments to come
-abbrev pub Passed : ℕ → ℕ → List ℕ → List ℕ → Result (List Segment) → Count → List ℕ → List ℕ → Type 0
-Passed n m o c cut r x y = r ≡ Cut
-Passed n m o c lacking r x y = r ≡ Lacking
-Passed n m o c (got gs u) r x y = (r ≡ Done (n + length (payloadOf gs)) (m + length (scriptOf gs))) × (x ≡ sets o n (payloadOf gs)) × (y ≡ sets c m (scriptOf gs))
+-- a pass that has stored n payload bytes in o and m script bytes in c, and reached the end of these segments
+abbrev pub Reached : ℕ → ℕ → List ℕ → List ℕ → List Segment → Count → List ℕ → List ℕ → Type 0
+Reached n m o c gs r x y = (r ≡ Done (n + length (payloadOf gs)) (m + length (scriptOf gs))) × (x ≡ sets o n (payloadOf gs)) × (y ≡ sets c m (scriptOf gs))
+
+-- a pass with these segments and this end to come
+abbrev pub PassedTo : ℕ → ℕ → List ℕ → List ℕ → List Segment → Ending → Count → List ℕ → List ℕ → Type 0
+PassedTo n m o c gs endMark r x y = Reached n m o c gs r x y
+PassedTo n m o c gs fewBits r x y = Reached n m o c gs r x y
+PassedTo n m o c gs (broken bad) r x y = r ≡ counted bad
+
+abbrev pub Passed : ℕ → ℕ → List ℕ → List ℕ → Parsed → Count → List ℕ → List ℕ → Type 0
+Passed n m o c z r x y = PassedTo n m o c (z .segments) (z .end) r x y

@@ -7,24 +7,28 @@ use lib.ListN.{length, take, drop}
 use Rattle.bits.specs.Bits.{bitsOf, value, words}
 use Rattle.segments.specs.Script.{Segment, run, eci}
 
--- What words or bits come to: they are cut by the end of the data; or they have a value or mode that the rule lacks; or they say
--- something, and take so many words or bits.
+-- Why words or bits say nothing: they are cut by the end of the data, or they have a value or mode that the rule lacks.
+pub data Fault : Type 0 where
+  cut : Fault
+  lacking : Fault
+
+-- What words or bits come to: a fault; or they say something, and take so many words or bits.
 pub data Result (A : Type 0) : Type 0 where
-  cut : Result A
-  lacking : Result A
+  failed : Fault → Result A
   got : A → ℕ → Result A
+
+-- what comes of something that was got; a fault stays
+abbrev pub andThen : {A B : Type 0} → Result A → (A → ℕ → Result B) → Result B
+andThen (failed bad) next = failed bad
+andThen (got a u) next = next a u
 
 -- bytes of one word before those of the next words
 abbrev pub before : List ℕ → Result (List ℕ) → Result (List ℕ)
-before cs cut = cut
-before cs lacking = lacking
-before cs (got bs u) = got (cs ++ bs) (suc u)
+before cs r = andThen r (λ bs u. got (cs ++ bs) (suc u))
 
 -- words of w bits counted in bits
 abbrev pub inBits : ℕ → Result (List ℕ) → Result (List ℕ)
-inBits w cut = cut
-inBits w lacking = lacking
-inBits w (got bs u) = got bs (w * u)
+inBits w r = andThen r (λ bs u. got bs (w * u))
 
 -- ---- numeric (8.5): groups of 10 bits, ended by 1020 + the digits of the last group
 
@@ -35,14 +39,14 @@ digits (suc k) v = (48 + v / 10 ^ k % 10) ∷ digits k v
 
 -- the words after a group p, which waits until it is known whether it is the last
 unfoldable pub groupsOf : ℕ → List ℕ → Result (List ℕ)
-groupsOf p [] = cut
+groupsOf p [] = failed cut
 groupsOf p (w ∷ ws) =
     cond (ltb w 1000) (before (digits 3 p) (groupsOf w ws))
-    (cond (ltb 1020 w) (cond (ltb p (10 ^ (w - 1020))) (got (digits (w - 1020) p) 1) lacking) lacking)
+    (cond (ltb 1020 w) (cond (ltb p (10 ^ (w - 1020))) (got (digits (w - 1020) p) 1) (failed lacking)) (failed lacking))
 
 unfoldable pub numericOf : List ℕ → Result (List ℕ)
-numericOf [] = cut
-numericOf (w ∷ ws) = cond (ltb w 1000) (before [] (groupsOf w ws)) lacking
+numericOf [] = failed cut
+numericOf (w ∷ ws) = cond (ltb w 1000) (before [] (groupsOf w ws)) (failed lacking)
 
 -- ---- text (8.6): words of 6 bits in two subsets (`true` is the first), switched by 62 and ended by 63
 
@@ -51,7 +55,7 @@ charOf true w = cond (ltb w 10) (48 + w) (cond (ltb w 36) (55 + w) (61 + w))
 charOf false w = cond (ltb w 28) w (cond (ltb w 44) (4 + w) (cond (ltb w 51) (14 + w) (cond (ltb w 57) (40 + w) (66 + w))))
 
 unfoldable pub textOf : Bool → List ℕ → Result (List ℕ)
-textOf subset [] = cut
+textOf subset [] = failed cut
 textOf subset (w ∷ ws) =
     let same = before (charOf subset w ∷ []) (textOf subset ws) in
     let other = before [] (textOf (not subset) ws) in
@@ -61,17 +65,11 @@ textOf subset (w ∷ ws) =
 
 unfoldable pub bytesRun : ℕ → List ℕ → Result (List ℕ)
 bytesRun zero ws = got [] 0
-bytesRun (suc n) [] = cut
+bytesRun (suc n) [] = failed cut
 bytesRun (suc n) (w ∷ ws) = before (w ∷ []) (bytesRun n ws)
 
--- so many bits before a result
-abbrev pub longer : ℕ → Result (List ℕ) → Result (List ℕ)
-longer k cut = cut
-longer k lacking = lacking
-longer k (got bs u) = got bs (k + u)
-
 unfoldable pub bytesMode : List ℕ → Result (List ℕ)
-bytesMode bs = cond (ltb (length bs) 13) cut (longer 13 (inBits 8 (bytesRun (value 0 (take 13 bs)) (words 8 (drop 13 bs)))))
+bytesMode bs = cond (ltb (length bs) 13) (failed cut) (andThen (bytesRun (value 0 (take 13 bs)) (words 8 (drop 13 bs))) (λ cs u. got cs (13 + 8 * u)))
 
 -- ---- regions (8.8; `true` is region one): words of 12 bits, 4094 hands over to the other region, 4095 ends
 
@@ -89,11 +87,11 @@ regionSize true = 4074
 regionSize false = 3008
 
 unfoldable pub regionOf : Bool → List ℕ → Result (List ℕ)
-regionOf region [] = cut
+regionOf region [] = failed cut
 regionOf region (w ∷ ws) =
     let other = before [] (regionOf (not region) ws) in
     let same = before (highOf region w ∷ lowOf region w ∷ []) (regionOf region ws) in
-    cond (eqb w 4095) (got [] 1) (cond (eqb w 4094) other (cond (ltb w (regionSize region)) same lacking))
+    cond (eqb w 4095) (got [] 1) (cond (eqb w 4094) other (cond (ltb w (regionSize region)) same (failed lacking)))
 
 -- ---- two-byte (8.8): words of 15 bits, ended by 32767
 
@@ -104,8 +102,8 @@ unfoldable pub secondOf : ℕ → ℕ
 secondOf w = cond (ltb (w % 190) 63) (0x40 + w % 190) (0x41 + w % 190)
 
 unfoldable pub doubleByteOf : List ℕ → Result (List ℕ)
-doubleByteOf [] = cut
-doubleByteOf (w ∷ ws) = cond (eqb w 32767) (got [] 1) (cond (ltb w 23940) (before (firstOf w ∷ secondOf w ∷ []) (doubleByteOf ws)) lacking)
+doubleByteOf [] = failed cut
+doubleByteOf (w ∷ ws) = cond (eqb w 32767) (got [] 1) (cond (ltb w 23940) (before (firstOf w ∷ secondOf w ∷ []) (doubleByteOf ws)) (failed lacking))
 
 -- ---- four-byte (8.9): one character in 21 bits
 
@@ -114,22 +112,22 @@ fourBytes w = (0x81 + w / 12600) ∷ (0x30 + w % 12600 / 1260) ∷ (0x81 + w % 1
 
 unfoldable pub fourByteOf : List ℕ → Result (List ℕ)
 fourByteOf bs =
-    cond (ltb (length bs) 21) cut (cond (ltb (value 0 (take 21 bs)) 1587600) (got (fourBytes (value 0 (take 21 bs))) 21) lacking)
+    cond (ltb (length bs) 21) (failed cut) (cond (ltb (value 0 (take 21 bs)) 1587600) (got (fourBytes (value 0 (take 21 bs))) 21) (failed lacking))
 
 -- ---- ECI (8.10): prefix 0, 10 or 110 and 7, 14 or 21 bits
 
 -- the value in the w bits behind a prefix of k bits
 unfoldable pub eciValue : ℕ → ℕ → List ℕ → Result Segment
-eciValue k w bs = cond (ltb (length bs) w) cut (got (eci (value 0 (take w bs))) (k + w))
+eciValue k w bs = cond (ltb (length bs) w) (failed cut) (got (eci (value 0 (take w bs))) (k + w))
 
 unfoldable pub eciOf : List ℕ → Result Segment
-eciOf [] = cut
+eciOf [] = failed cut
 eciOf (zero ∷ bs) = eciValue 1 7 bs
-eciOf (suc _ ∷ []) = cut
+eciOf (suc _ ∷ []) = failed cut
 eciOf (suc _ ∷ zero ∷ bs) = eciValue 2 14 bs
-eciOf (suc _ ∷ suc _ ∷ []) = cut
+eciOf (suc _ ∷ suc _ ∷ []) = failed cut
 eciOf (suc _ ∷ suc _ ∷ zero ∷ bs) = eciValue 3 21 bs
-eciOf (suc _ ∷ suc _ ∷ suc _ ∷ bs) = lacking
+eciOf (suc _ ∷ suc _ ∷ suc _ ∷ bs) = failed lacking
 
 -- ---- one segment, and all of them (8.2)
 
@@ -142,39 +140,40 @@ bytesOfMode mode bs =
     (cond (eqb mode 4) (inBits 12 (regionOf true (words 12 bs)))
     (cond (eqb mode 5) (inBits 12 (regionOf false (words 12 bs)))
     (cond (eqb mode 6) (inBits 15 (doubleByteOf (words 15 bs)))
-    (cond (eqb mode 7) (fourByteOf bs) lacking))))))
-
--- bytes as those of a segment of a mode
-abbrev pub runOf : ℕ → Result (List ℕ) → Result Segment
-runOf mode cut = cut
-runOf mode lacking = lacking
-runOf mode (got bs u) = got (run mode bs) u
+    (cond (eqb mode 7) (fourByteOf bs) (failed lacking)))))))
 
 -- the segment of a mode
 unfoldable pub segmentOf : ℕ → List ℕ → Result Segment
-segmentOf mode bs = cond (eqb mode 8) (eciOf bs) (runOf mode (bytesOfMode mode bs))
+segmentOf mode bs = cond (eqb mode 8) (eciOf bs) (andThen (bytesOfMode mode bs) (λ cs u. got (run mode cs) u))
 
--- a segment of u bits before others
-abbrev pub first : Segment → ℕ → Result (List Segment) → Result (List Segment)
-first g u cut = cut
-first g u lacking = lacking
-first g u (got gs v) = got (g ∷ gs) (4 + u + v)
+-- how data end: at mode 0, with fewer than 4 bits left, or at a segment with a fault
+pub data Ending : Type 0 where
+  endMark : Ending
+  fewBits : Ending
+  broken : Fault → Ending
 
--- a segment before those that the bits behind it say
-abbrev pub following : Result Segment → (ℕ → Result (List Segment)) → Result (List Segment)
-following cut rest = cut
-following lacking rest = lacking
-following (got g u) rest = first g u (rest u)
+-- what data say: the whole segments read, and how the data end behind them
+pub record Parsed : Type 0 where
+  pub segments : List Segment
+  pub end : Ending
 
--- Segments one after the other; fewer than 4 bits left, or mode 0, ends. k bounds their number: each takes more than 4 bits, so
--- one more than the number of bits is never reached.
-unfoldable pub parse : ℕ → List ℕ → Result (List Segment)
-parse zero bs = cut
+-- the end behind no segment
+abbrev pub ended : Ending → Parsed
+ended e = record { segments = []; end = e }
+
+-- a segment before what the bits behind it say
+abbrev pub following : Result Segment → (ℕ → Parsed) → Parsed
+following (failed bad) rest = ended (broken bad)
+following (got g u) rest = record { segments = g ∷ rest u .segments; end = rest u .end }
+
+-- Segments one after the other. k bounds their number: each takes more than 4 bits, so one more than the number of bits is never reached.
+unfoldable pub parse : ℕ → List ℕ → Parsed
+parse zero bs = ended (broken cut)
 parse (suc k) bs =
-    cond (ltb (length bs) 4) (got [] 0)
-    (cond (eqb (value 0 (take 4 bs)) 0) (got [] 4)
+    cond (ltb (length bs) 4) (ended fewBits)
+    (cond (eqb (value 0 (take 4 bs)) 0) (ended endMark)
     (following (segmentOf (value 0 (take 4 bs)) (drop 4 bs)) (λ u. parse k (drop u (drop 4 bs)))))
 
--- the segments of the data codewords
-abbrev pub segmentsOf : List ℕ → Result (List Segment)
+-- what the data codewords say
+abbrev pub segmentsOf : List ℕ → Parsed
 segmentsOf s = parse (8 * length s + 1) (bitsOf s)

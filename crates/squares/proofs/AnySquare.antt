@@ -25,9 +25,9 @@ use Rattle.blockwise.specs.Blockwise.{refusalOf, countOf, blocksOf, corrected, 
 use Rattle.blockwise.proofs.Corrects.{blocks-shaped}
 use Rattle.blockwise.proofs.Settle.{block-small, at-settled}
 use Rattle.blockwise.proofs.Theorems as blocks
-use Rattle.segments.specs.Segments.{Result, cut as cutShort, lacking, got, segmentsOf}
+use Rattle.segments.specs.Segments.{segmentsOf}
 use Rattle.segments.specs.Script.{Segment, payloadOf, scriptOf}
-use Rattle.segments.specs.FromData.{Outcome as Given, refused as refusedData, given, givenOr7, fromData}
+use Rattle.segments.specs.FromData.{Outcome as Given, refused as refusedData, given, isBroken, fromData}
 use Rattle.squares.specs.Read.{Reading, refused, unless, levelIn, maskIn, distanceIn, streamFrom, blocksIn, readRefusal, knownRefusal}
 use Rattle.squares.specs.Read.{told, bodyOf, withReceipt, readOf, readKnownOf}
 use Rattle.squares.specs.Promise.{InReach, EachInReach, setTo, correctionsAt}
@@ -52,13 +52,10 @@ given-not-six gs p s =
     (not-six (ltb (length p) (length (payloadOf gs))) (refusedData 9 p s) _ (λ e. omega arith)
     (not-six (ltb (length s) (length (scriptOf gs))) (refusedData 10 p s) _ (λ e. omega arith) (λ e. omega arith)))
 
-segments-not-six : (g : Result (List Segment)) (p s : List ℕ) → givenOr7 g p s .refusal ≢ 6
-segments-not-six cutShort p s = λ e. omega arith
-segments-not-six lacking p s = λ e. omega arith
-segments-not-six (got gs u) p s = given-not-six gs p s
-
 data-not-six : (ds p s : List ℕ) → fromData ds p s .refusal ≢ 6
-data-not-six ds p s = not-six (ltb 3886 (length ds)) (refusedData 2 p s) (givenOr7 (segmentsOf ds) p s) (λ e. omega arith) (segments-not-six (segmentsOf ds) p s)
+data-not-six ds p s =
+    not-six (ltb 3886 (length ds)) (refusedData 2 p s) _ (λ e. omega arith)
+    (not-six (isBroken (segmentsOf ds .end)) (refusedData 7 p s) _ (λ e. omega arith) (given-not-six (segmentsOf ds .segments) p s))
 
 -- ---- a search does not find nothing and something
 

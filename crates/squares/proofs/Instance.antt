@@ -2,23 +2,24 @@
 -- computed. Assumes nothing.
 use mathlib.Core.Path.{_≡_, refl, ap}
 use mathlib.Core.Bool.{Bool, true, false, cond, _&&_}
+use mathlib.Core.Option.{bind}
 use mathlib.Core.List.{List, [], _∷_}
-use Prim.Native.Nat.{ℕ, zero, suc, _+_, _*_, _<_}
+use Prim.Native.Nat.{ℕ, zero, suc, _+_, _<_}
 use native.Mathlib.Omega.{arith}
 use borrow.Author.Tests.{eq-eqb}
-use lib.Dec.{eqb, leb}
+use lib.Dec.{eqb}
 use lib.ListN.{getD, replicate}
 use Rattle.symbol.specs.Version.{isVersion}
 use Rattle.symbol.specs.Layout.{layoutOf, plotAll, corners, table, cornerAt, ring, edge, finderAt, finderRow, half, within, finders}
 use Rattle.information.specs.Information.{isInfo, infoFlips}
 use Rattle.blocks.specs.Table.{blocks, totals}
 use Rattle.blocks.specs.Blocks.{hasBlocks, rowHolds, batchHolds, rowLength, rowOf, rowAt, totalOf, dataModules, shapesOf, shapes, batch, totalData}
+use Rattle.segments.specs.Script.{runCommand}
 use Rattle.script.specs.Writer.{isDigit, modeHas, modeLength, allHave, bitsOfSegments}
-use Rattle.script.specs.Check.{allowed, runAt, commandAt, commandSize, commands, checkOf, bitsOfCheck}
-use Rattle.script.specs.Check.{refusalOf as checkRefusal}
+use Rattle.script.specs.Check.{allowed, segmentAt, commands, commandsOf}
 use Rattle.corrector.proofs.Settle.{distance-self}
 use Rattle.squares.specs.Read.{Reading, firstRefusal, unless, readOf, readKnownOf}
-use Rattle.squares.specs.Write.{roomOf, markOf, writeRefusal, writeOf}
+use Rattle.squares.specs.Write.{roomOf, markOf, scriptRefusals, writeRefusal, writeOf}
 use Rattle.squares.specs.Promise.{blockIn}
 use Rattle.squares.proofs.Marks.{Ranges, mark-below}
 use Rattle.squares.proofs.Theorems.{mark-is-read, mark-is-read-known}
@@ -41,10 +42,10 @@ unfolding hasBlocks rowHolds batchHolds rowLength rowOf rowAt totalOf dataModule
 blocked = refl
 
 accepted : writeRefusal 1 0 0 script payload before ≡ 0
-unfolding writeRefusal firstRefusal isInfo isVersion commands commandAt runAt allowed commandSize allHave modeHas isDigit bitsOfSegments modeLength shapesOf shapes rowOf rowAt blocks batch totalData
+unfolding writeRefusal firstRefusal isInfo isVersion commands bind segmentAt allowed runCommand allHave modeHas isDigit bitsOfSegments modeLength shapesOf shapes rowOf rowAt blocks batch totalData
 accepted =
     ap
-    (λ (b : Bool). firstRefusal (0 ∷ unless b 1 ∷ 0 ∷ checkRefusal (checkOf script payload) ∷ unless (leb (bitsOfCheck (checkOf script payload)) (8 * roomOf 1 0)) 13 ∷ []))
+    (λ (b : Bool). firstRefusal (0 ∷ unless b 1 ∷ 0 ∷ scriptRefusals (commandsOf script payload) payload (roomOf 1 0)))
     blocked
 
 made : writeOf 1 0 0 script payload before ≡ record { number = 0; square = mark }

@@ -1,12 +1,13 @@
 -- A mark made by the writer: what its making says, and what is read of its information. Assumes nothing.
 use mathlib.Core.Path.{_≡_, refl, sym, ap, ap₂, _∙_, subst}
 use mathlib.Core.Bool.{Bool, true, false, cond, _&&_}
+use mathlib.Core.Option.{Option, none, some}
 use mathlib.Core.List.{List, [], _∷_}
 use Prim.Native.Nat.{ℕ, _+_, _*_, _/_, _%_, _^_, _-_, _<_, _≤_}
 use native.Mathlib.Omega.{arith}
 use native.Mathlib.Decide.{ℕ-discrete}
-use borrow.Author.Tests.{eq-eqb, ne-eqb, le-leb}
-use lib.Dec.{eqb, leb}
+use borrow.Author.Tests.{eq-eqb, ne-eqb, le-leb, ltb-true}
+use lib.Dec.{eqb, ltb, leb}
 use lib.ListN.{length}
 use Rattle.symbol.specs.Version.{sideOf, isVersion, isSide, sideVersion}
 use Rattle.symbol.specs.Layout.{layoutOf}
@@ -18,13 +19,13 @@ use Rattle.blocks.specs.Blocks.{shapesOf, hasBlocks}
 use Rattle.codewords.specs.Codewords.{maskBit, squareOf}
 use Rattle.codewords.proofs.Back.{length-square}
 use Rattle.blockwise.specs.Blockwise.{streamOf}
-use Rattle.script.specs.declared.Check.{Check}
-use Rattle.script.specs.declared.Check.the-variants.{Bits, Malformed, Lacking, Empty}
-use Rattle.script.specs.Check.{commandsOf, checkOf, bitsOfCheck, encoded}
-use Rattle.script.specs.Check.{refusalOf as checkRefusal}
-use Rattle.squares.specs.Read.{unless, levelIn, maskIn, distanceIn, nearestIn}
-use Rattle.squares.specs.Write.{Writing, roomOf, writeRefusal, markOf, writeOf}
-use Rattle.squares.proofs.Refusals.{true-unless, first-none, both-true, true-both, leb-fact, eqb-fact}
+use Rattle.segments.specs.Script.{Segment}
+use Rattle.script.specs.Writer.{allHave, bitsOfSegments}
+use Rattle.script.specs.Check.{commandsOf, encoded}
+use Rattle.script.specs.Inner.{Fits}
+use Rattle.squares.specs.Read.{firstRefusal, unless, levelIn, maskIn, distanceIn, nearestIn}
+use Rattle.squares.specs.Write.{Writing, roomOf, scriptRefusals, writeRefusal, markOf, writeOf}
+use Rattle.squares.proofs.Refusals.{true-unless, first-none, first-one, both-true, true-both, leb-fact, eqb-fact}
 use Rattle.codewords.proofs.Masks.{mask-bit-lt}
 use Rattle.codewords.proofs.Small.{Below, square-below}
 
@@ -71,19 +72,27 @@ pub record Written (v l k : ℕ) (s p sq : List ℕ) : Type 0 where
   pub ranged : Ranges v l k
   pub blocked : hasBlocks v l ≡ true
   pub size : length sq ≡ sideOf v * sideOf v
-  pub bits : ℕ
-  pub check : checkOf s p ≡ Bits bits
-  pub fits : bits ≤ 8 * roomOf v l
+  pub fits : Fits s p (roomOf v l)
 
-bits-of : (c : Check) (n : ℕ) → checkRefusal c ≡ 0 → unless (leb (bitsOfCheck c) n) 13 ≡ 0 → (b : ℕ) × (c ≡ Bits b) × (b ≤ n)
-bits-of (Bits b) n e f = (b, refl, leb-fact b n (true-unless (leb b n) 12 f))
-bits-of Malformed n e f = absurd (omega arith)
-bits-of Lacking n e f = absurd (omega arith)
-bits-of Empty n e f = absurd (omega arith)
+-- no refusal of script and payload
+script-fits : (s p : List ℕ) (n : ℕ) (z : Option (List Segment)) → commandsOf s p ≡ z → firstRefusal (scriptRefusals z p n) ≡ 0 → Fits s p n
+script-fits s p n none q e = absurd (omega (arith, first-one 11))
+script-fits s p n (some gs) q e =
+    let bits = unless (leb (bitsOfSegments gs) (8 * n)) 13 in
+    let a = first-none (unless (allHave gs) 12) (unless (ltb 0 (length p)) 8 ∷ bits ∷ []) e in
+    let b = first-none (unless (ltb 0 (length p)) 8) (bits ∷ []) (a .1) in
+    let c = first-none bits [] (b .1) in
+    record {
+      segments = gs;
+      are = q;
+      have = true-unless (allHave gs) 11 (a .0);
+      filled = ltb-true 0 (length p) (true-unless (ltb 0 (length p)) 7 (b .0));
+      room = leb-fact (bitsOfSegments gs) (8 * n) (true-unless (leb (bitsOfSegments gs) (8 * n)) 12 (c .0));
+    }
 
 module _ (v l k : ℕ) (s p sq : List ℕ) where
-  abbrev four : ℕ
-  four = unless (leb (bitsOfCheck (checkOf s p)) (8 * roomOf v l)) 13
+  abbrev texts : List ℕ
+  texts = scriptRefusals (commandsOf s p) p (roomOf v l)
 
   abbrev sized : Bool
   sized = eqb (length sq) (sideOf v * sideOf v)
@@ -91,19 +100,14 @@ module _ (v l k : ℕ) (s p sq : List ℕ) where
   pub no-refusal : writeRefusal v l k s p sq ≡ 0 → Written v l k s p sq
   unfolding writeRefusal
   no-refusal e =
-      let a = first-none (unless (isInfo v l k) 1) (unless (hasBlocks v l) 1 ∷ unless sized 2 ∷ checkRefusal (checkOf s p) ∷ four ∷ []) e in
-      let b = first-none (unless (hasBlocks v l) 1) (unless sized 2 ∷ checkRefusal (checkOf s p) ∷ four ∷ []) (a .1) in
-      let c = first-none (unless sized 2) (checkRefusal (checkOf s p) ∷ four ∷ []) (b .1) in
-      let d = first-none (checkRefusal (checkOf s p)) (four ∷ []) (c .1) in
-      let f = first-none four [] (d .1) in
-      let g = bits-of (checkOf s p) (8 * roomOf v l) (d .0) (f .0) in
+      let a = first-none (unless (isInfo v l k) 1) (unless (hasBlocks v l) 1 ∷ unless sized 2 ∷ texts) e in
+      let b = first-none (unless (hasBlocks v l) 1) (unless sized 2 ∷ texts) (a .1) in
+      let c = first-none (unless sized 2) texts (b .1) in
       record {
         ranged = ranges v l k (true-unless (isInfo v l k) 0 (a .0));
         blocked = true-unless (hasBlocks v l) 0 (b .0);
         size = eqb-fact (length sq) (sideOf v * sideOf v) (true-unless sized 1 (c .0));
-        bits = g .0;
-        check = g .1;
-        fits = g .2;
+        fits = script-fits s p (roomOf v l) (commandsOf s p) refl (c .1);
       }
 
   pub written : (m : List ℕ) → writeOf v l k s p sq ≡ record { number = 0; square = m } → Written v l k s p sq × (m ≡ markOf v l k s p)

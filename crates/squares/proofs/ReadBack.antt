@@ -83,11 +83,10 @@ module _ (v l k : ℕ) (script payload before : List ℕ) (bytes : Below 256 scr
 
   ds-bytes : Below 256 ds
   ds-bytes =
-      let D = encoded-data script payload (roomOf v l) (W .bits) bytes (W .check) (W .fits) room-small in
-      subst (Below 256) (sym (D .1)) (data-below (roomOf v l) (D .0))
+      subst (Below 256) (sym (encoded-data script payload (roomOf v l) bytes (W .fits) .0)) (data-below (roomOf v l) (W .fits .segments))
 
   ds-length : length ds ≡ roomOf v l
-  ds-length = let D = encoded-data script payload (roomOf v l) (W .bits) bytes (W .check) (W .fits) room-small in ap length (D .1) ∙ D .2
+  ds-length = let D = encoded-data script payload (roomOf v l) bytes (W .fits) in ap length (D .0) ∙ D .1
 
   -- the stream of the mark is that of the script
   pub mark-stream : streamFrom v k mark ≡ streamOf bs ds
@@ -118,7 +117,7 @@ module _ (v l k : ℕ) (script payload before : List ℕ) (bytes : Below 256 scr
         let c : countOf (corrected bs stream) ≡ count = I .3 ∙ ap (λ (x : List ℕ). differences (cut bs stream) (cut bs x)) (sym mark-stream) in
         ap (λ (b : Bool). cond b (told v l k d (countOf (corrected bs stream)) (fromData (dataOf bs stream) p s)) (refused (refusalOf (corrected bs stream)) p s)) (eq-eqb (refusalOf (corrected bs stream)) 0 (I .0))
         ∙ ap₂ (told v l k d) c
-        (ap (λ (x : List ℕ). fromData x p s) (I .2) ∙ round-trip script payload (roomOf v l) (W .bits) p s bytes (W .check) (W .fits) room-small room-p room-s)
+        (ap (λ (x : List ℕ). fromData x p s) (I .2) ∙ round-trip script payload (roomOf v l) p s bytes (W .fits) room-small room-p room-s)
 
     module _ (r : List ℕ) (receipt : length r ≡ 12) where
       square-tests : (ns : List ℕ) → firstRefusal ns ≡ 0 → firstRefusal (unless (eqb (length square) (sideOf v * sideOf v)) 2 ∷ unless (areModules square) 3 ∷ ns) ≡ 0

@@ -1,8 +1,9 @@
 -- SPECIFICATION 10.11: Write a square.
 use mathlib.Core.Bool.{cond}
+use mathlib.Core.Option.{Option, none, some}
 use mathlib.Core.List.{List, [], _∷_}
 use Prim.Native.Nat.{ℕ, _*_}
-use lib.Dec.{leb, eqb}
+use lib.Dec.{ltb, leb, eqb}
 use lib.ListN.{length}
 use Rattle.symbol.specs.Version.{sideOf}
 use Rattle.symbol.specs.Layout.{layoutOf}
@@ -10,8 +11,9 @@ use Rattle.information.specs.Information.{isInfo, infoBits, infoWritten}
 use Rattle.blocks.specs.Blocks.{shapesOf, hasBlocks, totalData}
 use Rattle.codewords.specs.Codewords.{maskBit, squareOf}
 use Rattle.blockwise.specs.Blockwise.{streamOf}
-use Rattle.script.specs.Check.{commandsOf, checkOf, bitsOfCheck, encoded}
-use Rattle.script.specs.Check.{refusalOf as checkRefusal}
+use Rattle.segments.specs.Script.{Segment}
+use Rattle.script.specs.Writer.{allHave, bitsOfSegments}
+use Rattle.script.specs.Check.{commandsOf, encoded}
 use Rattle.squares.specs.Read.{firstRefusal, unless}
 
 -- what writing gives: the refusal number or 0, and what the square holds afterwards
@@ -27,13 +29,18 @@ writingOf n sq = record { number = n; square = sq }
 abbrev pub roomOf : ℕ → ℕ → ℕ
 roomOf v level = totalData (shapesOf v level)
 
--- 1 version, level or mask outside its range, or by SPECIFICATION 7.4; 2 square not s × s; 11, 12 or 8 for script and payload;
--- 13 more bits than 8 × data codewords
+-- the tests of the segments that a script makes of the payload p, for so many data codewords: 11 the commands make none; 12 a segment has
+-- a byte, pair or four bytes that its mode lacks; 8 payload empty; 13 more bits than 8 × data codewords
+abbrev pub scriptRefusals : Option (List Segment) → List ℕ → ℕ → List ℕ
+scriptRefusals none p room = 11 ∷ []
+scriptRefusals (some gs) p room = unless (allHave gs) 12 ∷ unless (ltb 0 (length p)) 8 ∷ unless (leb (bitsOfSegments gs) (8 * room)) 13 ∷ []
+
+-- 1 version, level or mask outside its range, or by SPECIFICATION 7.4; 2 square not s × s; then script and payload
 unfoldable pub writeRefusal : ℕ → ℕ → ℕ → List ℕ → List ℕ → List ℕ → ℕ
 writeRefusal v level mask s p sq =
     firstRefusal
     (unless (isInfo v level mask) 1 ∷ unless (hasBlocks v level) 1 ∷ unless (eqb (length sq) (sideOf v * sideOf v)) 2
-    ∷ checkRefusal (checkOf s p) ∷ unless (leb (bitsOfCheck (checkOf s p)) (8 * roomOf v level)) 13 ∷ [])
+    ∷ scriptRefusals (commandsOf s p) p (roomOf v level))
 
 -- the mark: the bits of the script in the data codewords, blocks with their parity, the stream in the masked data modules, and the word
 unfoldable pub markOf : ℕ → ℕ → ℕ → List ℕ → List ℕ → List ℕ

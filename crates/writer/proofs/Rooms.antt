@@ -7,7 +7,7 @@ use lib.ListN.{length, take, drop, length-append, length-drop}
 use lib.Seq.{length-take-le}
 use Rattle.symbol.specs.Version.{sideOf}
 use Rattle.blocks.specs.Blocks.{totalOf, rowOf, shapes, shapesOf, totalData}
-use Rattle.encoding.specs.Fits.{Fits}
+use Rattle.script.specs.Inner.{Fits}
 use Rattle.squares.specs.Write.{roomOf, writeRefusal}
 use Rattle.squares.proofs.Marks.{no-refusal}
 use Rattle.blocks.proofs.Rows.{total-shapes}
@@ -26,9 +26,15 @@ room-is {m} R r is n e = (
   omega (arith, data-le (shapes r), total-shapes r, row-total (m .version) (m .level) (R .low) (R .high) (R .level) r is),
 )
 
+-- and the data codewords of a version and level are at most 3,886
+pub room-small : {m : Mark} → Ranged m → roomOf (m .version) (m .level) ≤ 3886
+unfolding shapesOf
+room-small {m} R = row-data (m .version) (m .level) (R .low) (R .high) (R .level) (rowOf (m .version) (m .level)) refl
+
 -- script and payload that fit, where the first n bytes of a buffer are lent for the data codewords
-pub fits-lent : (s p xs : List ℕ) (n room : ℕ) → n ≡ room → n ≤ length xs → Fits s p room → Fits s p (length (take n xs))
-fits-lent s p xs n room e h f = subst (Fits s p) (sym (length-take-le n xs h ∙ e)) f
+pub fits-lent : (s p xs : List ℕ) (n room : ℕ) → n ≡ room → n ≤ 3886 → n ≤ length xs → Fits s p room
+    → Fits s p (length (take n xs)) × (length (take n xs) ≤ 3886)
+fits-lent s p xs n room e m h f = let l = length-take-le n xs h in (subst (Fits s p) (sym (l ∙ e)) f, omega arith)
 
 -- the buffer afterwards, where what is lent keeps its length
 pub lent-back : (n t : ℕ) (front xs : List ℕ) → length front ≡ length (take n xs) → n ≤ length xs → t ≤ length xs → t ≤ length (front ++ drop n xs)
@@ -37,10 +43,7 @@ lent-back n t front xs e h k = omega (arith, length-append front (drop n xs), le
 -- where nothing is turned away, script and payload fit the data codewords, and the square has its size
 module _ (v l k : ℕ) (s p sq : List ℕ) (e : writeRefusal v l k s p sq ≡ 0) where
   pub fits : Fits s p (roomOf v l)
-  unfolding shapesOf
-  fits =
-      let W = no-refusal v l k s p sq e in
-      record { bits = W .bits; accepted = W .check; room = W .fits; long = row-data v l (W .ranged .low) (W .ranged .high) (W .ranged .level) (rowOf v l) refl }
+  fits = no-refusal v l k s p sq e .fits
 
   pub size : length sq ≡ sideOf v * sideOf v
   size = no-refusal v l k s p sq e .size

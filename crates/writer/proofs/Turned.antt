@@ -1,23 +1,28 @@
 -- The refusals of writing, part by part: each function's number is the one that writing gives. Assumes nothing.
 use mathlib.Core.Path.{_≡_, refl, sym, ap, _∙_}
 use mathlib.Core.Logic.{_≢_}
-use mathlib.Core.Bool.{Bool, false, cond}
+use mathlib.Core.Bool.{Bool, true, false, cond}
+use mathlib.Core.Option.{Option, none, some}
 use mathlib.Core.List.{List, [], _∷_, _++_}
 use Prim.Native.Nat.{ℕ, _*_, _≤_, _<_}
 use native.Mathlib.Omega.{arith}
-use borrow.Author.Tests.{eq-eqb, ne-eqb, le-leb, lt-leb}
-use lib.Dec.{eqb, leb}
+use borrow.Author.Tests.{eq-eqb, ne-eqb, le-leb, lt-leb, eqb-true, eqb-false, lt-ltb}
+use lib.Dec.{eqb, ltb, leb}
 use lib.ListN.{length, take}
 use Rattle.symbol.specs.Version.{sideOf}
 use Rattle.symbol.specs.Layout.{layoutOf}
 use Rattle.information.specs.Information.{isInfo}
 use Rattle.blocks.specs.Blocks.{totalOf, hasBlocks, dataModules}
+use Rattle.segments.specs.Script.{Segment}
 use Rattle.script.specs.declared.Check.{Check}
-use Rattle.script.specs.declared.Check.the-variants.{Bits}
-use Rattle.script.specs.Check.{checkOf, bitsOfCheck}
-use Rattle.script.specs.Check.{refusalOf as checkRefusal}
+use Rattle.script.specs.declared.Check.the-variants.{Bits, Malformed, Lacking, Empty}
+use Rattle.script.specs.Writer.{allHave, bitsOfSegments}
+use Rattle.script.specs.Check.{commandsOf}
+use Rattle.script.specs.Inner.{capped, checkedOf, checkOf}
+use Rattle.script.proofs.Scripts.{positive}
+use Rattle.script.proofs.Theorems.{capped-fits}
 use Rattle.squares.specs.Read.{firstRefusal, unless}
-use Rattle.squares.specs.Write.{Writing, roomOf, writingOf, writeRefusal, markOf, writeOf}
+use Rattle.squares.specs.Write.{Writing, roomOf, writingOf, scriptRefusals, writeRefusal, markOf, writeOf}
 use Rattle.squares.proofs.Marks.{info-is}
 use Rattle.squares.proofs.Refusals.{unless-true, unless-false, first-skips, first-takes, first-left, first-right, first-one}
 use Rattle.squares.proofs.Starts.{has-blocks, no-blocks}
@@ -36,20 +41,37 @@ module _ (v l bits n : ℕ) (e : n ≡ roomOf v l) where
 
 -- ---- 11, 12, 8, 13: script and payload, by the case c of the check's answer
 
-module _ (v l : ℕ) (s p : List ℕ) where
-  of-check : Check → ℕ
-  of-check c = firstRefusal (checkRefusal c ∷ unless (leb (bitsOfCheck c) (8 * roomOf v l)) 13 ∷ [])
+-- the number of an answer, where there is room for so many data codewords
+abbrev pub answered : ℕ → Check → ℕ
+answered room Malformed = 11
+answered room Lacking = 12
+answered room Empty = 8
+answered room (Bits n) = unless (leb n (8 * room)) 13
 
+-- it is that of the segments, though the number of bits stops at some
+checked : (room : ℕ) (p : List ℕ) (z : Option (List Segment)) → room ≤ 3886
+    → answered room (checkedOf z p) ≡ firstRefusal (scriptRefusals z p room)
+unfolding firstRefusal
+checked room p none h = refl
+checked room p (some gs) h = go (allHave gs) (eqb (length p) 0) refl
+  where
+    go : (x y : Bool) → eqb (length p) 0 ≡ y
+        → answered room (cond x (cond y Empty (Bits (capped (bitsOfSegments gs)))) Lacking)
+        ≡ firstRefusal (unless x 12 ∷ unless (ltb 0 (length p)) 8 ∷ unless (leb (bitsOfSegments gs) (8 * room)) 13 ∷ [])
+    go false y e = refl
+    go true true e = rw (eqb-true (length p) 0 e)
+    go true false e =
+        rw (lt-ltb 0 (length p) (positive (length p) (eqb-false (length p) 0 e)), capped-fits (bitsOfSegments gs) room h)
+        (sym (first-one (unless (leb (bitsOfSegments gs) (8 * room)) 13)))
+
+module _ (v l : ℕ) (s p : List ℕ) (small : roomOf v l ≤ 3886) where
   pub script-bits : (c : Check) (n x : ℕ) → c ≡ Bits n → c ≡ checkOf s p → x ≡ unless (leb n (8 * roomOf v l)) 13 → x ≡ scriptRefusal v l s p
-  unfolding scriptRefusal of-check
-  script-bits c n x e f h =
-      let u = unless (leb n (8 * roomOf v l)) 13 in
-      h ∙ sym (first-skips 0 (u ∷ []) refl ∙ first-one u) ∙ ap of-check (sym e ∙ f)
+  unfolding scriptRefusal
+  script-bits c n x e f h = h ∙ ap (answered (roomOf v l)) (sym e ∙ f) ∙ checked (roomOf v l) p (commandsOf s p) small
 
-  pub script-other : (c k : Check) → c ≡ k → c ≡ checkOf s p → 0 < checkRefusal k → checkRefusal k ≡ scriptRefusal v l s p
-  unfolding scriptRefusal of-check
-  script-other c k e f h =
-      sym (first-takes (checkRefusal k) (unless (leb (bitsOfCheck k) (8 * roomOf v l)) 13 ∷ []) (λ z. omega arith)) ∙ ap of-check (sym e ∙ f)
+  pub script-other : (c k : Check) → c ≡ k → c ≡ checkOf s p → answered (roomOf v l) k ≡ scriptRefusal v l s p
+  unfolding scriptRefusal
+  script-other c k e f = ap (answered (roomOf v l)) (sym e ∙ f) ∙ checked (roomOf v l) p (commandsOf s p) small
 
 -- ---- 1 and 2: the version's data modules, and the size of the square
 
@@ -109,7 +131,7 @@ module _ (v l k : ℕ) (s p sq : List ℕ) where
   places = unless (hasBlocks v l) 1 ∷ unless (eqb (length sq) (sideOf v * sideOf v)) 2 ∷ []
 
   abbrev texts : List ℕ
-  texts = checkRefusal (checkOf s p) ∷ unless (leb (bitsOfCheck (checkOf s p)) (8 * roomOf v l)) 13 ∷ []
+  texts = scriptRefusals (commandsOf s p) p (roomOf v l)
 
   -- version, level or mask outside its range
   pub answers-one : isInfo v l k ≡ false → writingOf 1 sq ≡ writeOf v l k s p sq

@@ -2,15 +2,15 @@
 use mathlib.Core.Path.{_≡_}
 use mathlib.Core.List.{List, [], _∷_}
 use Prim.Native.Nat.{ℕ, _*_, _≤_}
-use lib.Dec.{leb, eqb}
+use lib.Dec.{eqb}
 use lib.ListN.{length, take}
 use Rattle.symbol.specs.Version.{sideOf}
 use Rattle.symbol.specs.Layout.{layoutOf}
 use Rattle.information.specs.Information.{infoBits}
 use Rattle.blocks.specs.Blocks.{rowOf, hasBlocks}
-use Rattle.script.specs.Check.{checkOf, bitsOfCheck, refusalOf}
+use Rattle.script.specs.Check.{commandsOf}
 use Rattle.squares.specs.Read.{firstRefusal, unless}
-use Rattle.squares.specs.Write.{roomOf}
+use Rattle.squares.specs.Write.{roomOf, scriptRefusals}
 use Rattle.writer.specs.declared.Mark.{Mark}
 
 -- version, level and mask are in their ranges, and the word is theirs
@@ -38,4 +38,4 @@ placeRefusal v level size = firstRefusal (unless (hasBlocks v level) 1 ∷ unles
 
 -- .. and those of script and payload
 unfoldable pub scriptRefusal : ℕ → ℕ → List ℕ → List ℕ → ℕ
-scriptRefusal v level s p = firstRefusal (refusalOf (checkOf s p) ∷ unless (leb (bitsOfCheck (checkOf s p)) (8 * roomOf v level)) 13 ∷ [])
+scriptRefusal v level s p = firstRefusal (scriptRefusals (commandsOf s p) p (roomOf v level))

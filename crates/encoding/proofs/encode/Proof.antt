@@ -6,7 +6,7 @@ use borrow.Author.Needs.{needs}
 use lib.ListN.{length, take, drop}
 use Rattle.segments.specs.Script.{run, eci}
 use Rattle.script.specs.Writer.{encodingOf}
-use Rattle.script.specs.Check.{commandSize}
+use Rattle.script.specs.Inner.{commandSize}
 use Rattle.script.proofs.Checks.{run-bounds, eci-bounds}
 use Rattle.encoding.specs.Written.{Written}
 use Rattle.encoding.proofs.Segments.{Left, begun, never-wrong, run-front, eci-front, front-has, front-room, front-done, end-room, ended}
@@ -25,7 +25,7 @@ loop-holds c =
     let y = c .before .before in
     let s = y .before in
     let a = s .args in
-    (refl, omega arith, omega arith, s .pre .long, begun (a .script .now) (a .payload .now) (length (a .codewords .now)) (a .codewords .now) (λ k. omega (arith, y .shared-slice-known .given k)) (s .pre))
+    (refl, omega arith, omega arith, s .pre .1, begun (a .script .now) (a .payload .now) (length (a .codewords .now)) (a .codewords .now) (λ k. omega (arith, y .shared-slice-known .given k)) (s .pre .0))
 
 add-end : tie.Need-add-end Inv-loop μ-loop
 add-end c =

@@ -1,4 +1,5 @@
-use Rattle.parse.proofs.Outcomes.{too-long, is-cut, is-lacking, is-empty, is-payload-full, is-script-full, is-read, is-copied}
+use Rattle.segments.specs.Segments.{cut, lacking}
+use Rattle.parse.proofs.Outcomes.{too-long, is-broken, is-empty, is-payload-full, is-script-full, is-read, is-copied}
 use borrow.Author.Needs.{needs}
 use Rattle.parse.proofs.from_data_with.Statement.{statement}
 use Rattle.parse.proofs.from_data_with.Tie as tie
@@ -74,14 +75,14 @@ returns-8 c =
     let b = c .before .before .before .before .before .before in
     let a = b .before .before .before .before .before .before .before .before .before .args in
     let d = b .pass in
-    is-cut (a .«data» .now) (a .payload .now) (a .script .now) (b .before .before .before .if1 .left) (a .spare .now) (a .other .now) (d .result) (d .last .1 .0) (d .last .1 .1 .0) (d .ensures) (c .enum-told .given .1)
+    is-broken (a .«data» .now) (a .payload .now) (a .script .now) (b .before .before .before .if1 .left) (a .spare .now) (a .other .now) (d .result) (d .last .1 .0) (d .last .1 .1 .0) (d .ensures) cut (c .enum-told .given .1)
 
 returns-9 : tie.Need-returns-9
 returns-9 c =
     let b = c .before .before .before .before .before .before in
     let a = b .before .before .before .before .before .before .before .before .before .args in
     let d = b .pass in
-    is-lacking (a .«data» .now) (a .payload .now) (a .script .now) (b .before .before .before .if1 .left) (a .spare .now) (a .other .now) (d .result) (d .last .1 .0) (d .last .1 .1 .0) (d .ensures) (c .enum-told2 .given .1)
+    is-broken (a .«data» .now) (a .payload .now) (a .script .now) (b .before .before .before .if1 .left) (a .spare .now) (a .other .now) (d .result) (d .last .1 .0) (d .last .1 .1 .0) (d .ensures) lacking (c .enum-told2 .given .1)
 
 pub from-data-with-spec : {M : Type 1} → statement M
 from-data-with-spec =

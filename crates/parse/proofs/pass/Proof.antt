@@ -8,9 +8,9 @@ use Rattle.bits.specs.Bits.{bitsOf}
 use Rattle.bits.proofs.Words.{WordAt, word-read, word-few}
 use Rattle.bit_reader.proofs.Inside.{read-inside}
 use Rattle.segments.specs.declared.Count.{Count}
-use Rattle.segments.specs.Segments.{segmentOf, parse, segmentsOf}
+use Rattle.segments.specs.Segments.{cut, lacking, segmentOf, parse, segmentsOf}
 use Rattle.segments.specs.Passes.{Passed}
-use Rattle.segments.proofs.Steps.{step-room, pass-few, pass-end, pass-cut, pass-lacks, pass-on}
+use Rattle.segments.proofs.Steps.{step-room, pass-few, pass-end, pass-stop, pass-on}
 use Rattle.parse.proofs.pass.Statement.{statement}
 use Rattle.parse.proofs.pass.Tie as tie
 
@@ -123,7 +123,7 @@ returns-3 c =
     let l = k .before .before .before .before .loop in
     let a = k .before .before .before .before .before .before .before .before .args in
     let q = g .segment in
-    l .inv .5 .2 _ _ _ (pass-cut (a .s .now) (l .at) (l .n) (l .m) (l .out) (l .script) (k .before .got .given .0 .0) (word k) (l .inv .5 .0) (omega arith) (e .if1 .left) (q .result) (q .last .1 .1 .1 .0) (q .last .1 .1 .1 .1 .0) (q .ensures) (c .enum-told2 .given .1))
+    l .inv .5 .2 _ _ _ (pass-stop (a .s .now) (l .at) (l .n) (l .m) (l .out) (l .script) (k .before .got .given .0 .0) (word k) (l .inv .5 .0) (omega arith) (e .if1 .left) (q .result) (q .last .1 .1 .1 .0) (q .last .1 .1 .1 .1 .0) (q .ensures) cut (c .enum-told2 .given .1))
 
 same-length-7 : tie.Need-same-length-7 Inv-loop μ-loop
 same-length-7 c =
@@ -146,7 +146,7 @@ returns-4 c =
     let l = k .before .before .before .before .loop in
     let a = k .before .before .before .before .before .before .before .before .args in
     let q = g .segment in
-    l .inv .5 .2 _ _ _ (pass-lacks (a .s .now) (l .at) (l .n) (l .m) (l .out) (l .script) (k .before .got .given .0 .0) (word k) (l .inv .5 .0) (omega arith) (e .if1 .left) (q .result) (q .last .1 .1 .1 .0) (q .last .1 .1 .1 .1 .0) (q .ensures) (c .enum-told3 .given .1))
+    l .inv .5 .2 _ _ _ (pass-stop (a .s .now) (l .at) (l .n) (l .m) (l .out) (l .script) (k .before .got .given .0 .0) (word k) (l .inv .5 .0) (omega arith) (e .if1 .left) (q .result) (q .last .1 .1 .1 .0) (q .last .1 .1 .1 .1 .0) (q .ensures) lacking (c .enum-told3 .given .1))
 
 pub pass-spec : {M : Type 1} → statement M
 pass-spec =

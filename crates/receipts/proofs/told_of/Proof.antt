@@ -11,19 +11,19 @@ returns : tie.Need-returns
 returns c = answers-read _ _ _ _ _ (c .before .answer .given .1) refl refl refl refl
 
 returns-2 : tie.Need-returns-2
-returns-2 c = answers-refused TooLong _ _ _ (c .before .enum-told .given .1) (λ n. omega arith) refl refl (c .refused .ensures)
+returns-2 c = answers-refused _ TooLong _ _ _ (c .before .enum-told .given .1) (λ p s. refl) (λ n. omega arith) (c .refused .ensures)
 
 returns-3 : tie.Need-returns-3
-returns-3 c = answers-refused Broken _ _ _ (c .before .enum-told2 .given .1) (λ n. omega arith) refl refl (c .refused2 .ensures)
+returns-3 c = answers-refused _ Broken _ _ _ (c .before .enum-told2 .given .1) (λ p s. refl) (λ n. omega arith) (c .refused2 .ensures)
 
 returns-4 : tie.Need-returns-4
-returns-4 c = answers-refused Empty _ _ _ (c .before .enum-told3 .given .1) (λ n. omega arith) refl refl (c .refused3 .ensures)
+returns-4 c = answers-refused _ Empty _ _ _ (c .before .enum-told3 .given .1) (λ p s. refl) (λ n. omega arith) (c .refused3 .ensures)
 
 returns-5 : tie.Need-returns-5
-returns-5 c = answers-refused PayloadFull _ _ _ (c .before .enum-told4 .given .1) (λ n. omega arith) refl refl (c .refused4 .ensures)
+returns-5 c = answers-refused _ PayloadFull _ _ _ (c .before .enum-told4 .given .1) (λ p s. refl) (λ n. omega arith) (c .refused4 .ensures)
 
 returns-6 : tie.Need-returns-6
-returns-6 c = answers-refused ScriptFull _ _ _ (c .before .enum-told5 .given .1) (λ n. omega arith) refl refl (c .refused5 .ensures)
+returns-6 c = answers-refused _ ScriptFull _ _ _ (c .before .enum-told5 .given .1) (λ p s. refl) (λ n. omega arith) (c .refused5 .ensures)
 
 pub told-of-spec : {M : Type 1} → statement M
 told-of-spec =

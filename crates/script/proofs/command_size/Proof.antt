@@ -1,6 +1,6 @@
 use native.Mathlib.Omega.{arith}
 use borrow.Author.Tests.{eq-eqb, ne-eqb}
-use Rattle.script.specs.Check.{commandSize}
+use Rattle.script.specs.Inner.{commandSize}
 use Rattle.script.proofs.command_size.Statement.{statement}
 use Rattle.script.proofs.command_size.Tie as tie
 

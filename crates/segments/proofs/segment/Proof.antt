@@ -1,7 +1,8 @@
 use Prim.Native.Nat.{_-_}
 use native.Mathlib.Omega.{arith}
-use Rattle.segments.proofs.Steps.{command-length, eci-on, eci-bound, eci-stop-cut, eci-stop-lacks, run-on, run-stop-cut, run-stop-lacks, inside}
+use Rattle.segments.proofs.Steps.{command-length, eci-on, eci-bound, eci-stop, run-on, run-stop, inside}
 use borrow.Author.Needs.{needs}
+use Rattle.segments.specs.Segments.{cut, lacking}
 use Rattle.segments.proofs.segment.Statement.{statement}
 use Rattle.segments.proofs.segment.Tie as tie
 
@@ -27,13 +28,13 @@ returns-2 : tie.Need-returns-2
 returns-2 c =
     let b = c .before .before in
     let a = b .before .before .before .before .before .args in
-    eci-stop-cut (a .s .now) (a .place .at) (a .place .payload) (a .place .script) (a .out .now) (a .script .now) (a .mode) (omega arith) (omega arith) (b .before .if1 .taken) (b .eci-value .result) (a .out .now) (a .script .now) (b .eci-value .ensures) (c .enum-told .given .1)
+    eci-stop (a .s .now) (a .place .at) (a .place .payload) (a .place .script) (a .out .now) (a .script .now) (a .mode) (omega arith) (omega arith) (b .before .if1 .taken) cut (b .eci-value .result) (a .out .now) (a .script .now) (b .eci-value .ensures) (c .enum-told .given .1)
 
 returns-3 : tie.Need-returns-3
 returns-3 c =
     let b = c .before .before in
     let a = b .before .before .before .before .before .args in
-    eci-stop-lacks (a .s .now) (a .place .at) (a .place .payload) (a .place .script) (a .out .now) (a .script .now) (a .mode) (omega arith) (omega arith) (b .before .if1 .taken) (b .eci-value .result) (a .out .now) (a .script .now) (b .eci-value .ensures) (c .enum-told2 .given .1)
+    eci-stop (a .s .now) (a .place .at) (a .place .payload) (a .place .script) (a .out .now) (a .script .now) (a .mode) (omega arith) (omega arith) (b .before .if1 .taken) lacking (b .eci-value .result) (a .out .now) (a .script .now) (b .eci-value .ensures) (c .enum-told2 .given .1)
 
 sub-put-command : tie.Need-sub-put-command
 sub-put-command c =
@@ -75,14 +76,14 @@ returns-5 c =
     let b = c .before .before .before .before in
     let a = b .before .before .before .before .before .before .args in
     let q = b .run-of-mode in
-    run-stop-cut (a .s .now) (a .place .at) (a .place .payload) (a .place .script) (a .out .now) (a .script .now) (a .mode) (omega arith) (omega arith) (b .before .before .if1 .left) (q .result) (q .last .1 .1 .0) (q .ensures .0) (q .last .1 .1 .0) (a .script .now) (c .enum-told3 .given .1)
+    run-stop (a .s .now) (a .place .at) (a .place .payload) (a .place .script) (a .out .now) (a .script .now) (a .mode) (omega arith) (omega arith) (b .before .before .if1 .left) (q .result) (q .last .1 .1 .0) (q .ensures .0) cut (q .last .1 .1 .0) (a .script .now) (c .enum-told3 .given .1)
 
 returns-6 : tie.Need-returns-6
 returns-6 c =
     let b = c .before .before .before .before in
     let a = b .before .before .before .before .before .before .args in
     let q = b .run-of-mode in
-    run-stop-lacks (a .s .now) (a .place .at) (a .place .payload) (a .place .script) (a .out .now) (a .script .now) (a .mode) (omega arith) (omega arith) (b .before .before .if1 .left) (q .result) (q .last .1 .1 .0) (q .ensures .0) (q .last .1 .1 .0) (a .script .now) (c .enum-told4 .given .1)
+    run-stop (a .s .now) (a .place .at) (a .place .payload) (a .place .script) (a .out .now) (a .script .now) (a .mode) (omega arith) (omega arith) (b .before .before .if1 .left) (q .result) (q .last .1 .1 .0) (q .ensures .0) lacking (q .last .1 .1 .0) (a .script .now) (c .enum-told4 .given .1)
 
 pub segment-spec : {M : Type 1} → statement M
 segment-spec =

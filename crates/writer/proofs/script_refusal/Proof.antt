@@ -1,6 +1,6 @@
 -- `script_refusal` meets its contract: one case of the check's answer after the other. Assumes nothing.
-use native.Mathlib.Omega.{arith}
 use Rattle.script.specs.declared.Check.the-variants.{Malformed, Lacking, Empty}
+use Rattle.writer.proofs.Rooms.{room-small}
 use Rattle.writer.proofs.Turned.{script-bits, script-other}
 use borrow.Author.Needs.{needs}
 use Rattle.writer.proofs.script_refusal.Statement.{statement}
@@ -8,19 +8,23 @@ use Rattle.writer.proofs.script_refusal.Tie as tie
 
 returns : tie.Need-returns
 returns c =
-    script-bits _ _ _ _ _ _ _ (c .before .before .n .given .1) (c .before .before .before .before .check-script .ensures) (c .bits-refusal .ensures)
+    let start = c .before .before .before .before .before .before .before .before in
+    script-bits _ _ _ _ (room-small (start .pre .0)) _ _ _ (c .before .before .n .given .1) (c .before .before .before .before .check-script .ensures) (c .bits-refusal .ensures)
 
 returns-2 : tie.Need-returns-2
 returns-2 c =
-    script-other _ _ _ _ _ Malformed (c .enum-told .given .1) (c .before .before .check-script .ensures) (omega arith)
+    let start = c .before .before .before .before .before .before in
+    script-other _ _ _ _ (room-small (start .pre .0)) _ Malformed (c .enum-told .given .1) (c .before .before .check-script .ensures)
 
 returns-3 : tie.Need-returns-3
 returns-3 c =
-    script-other _ _ _ _ _ Lacking (c .enum-told2 .given .1) (c .before .before .check-script .ensures) (omega arith)
+    let start = c .before .before .before .before .before .before in
+    script-other _ _ _ _ (room-small (start .pre .0)) _ Lacking (c .enum-told2 .given .1) (c .before .before .check-script .ensures)
 
 returns-4 : tie.Need-returns-4
 returns-4 c =
-    script-other _ _ _ _ _ Empty (c .enum-told3 .given .1) (c .before .before .check-script .ensures) (omega arith)
+    let start = c .before .before .before .before .before .before in
+    script-other _ _ _ _ (room-small (start .pre .0)) _ Empty (c .enum-told3 .given .1) (c .before .before .check-script .ensures)
 
 pub script-refusal-spec : {M : Type 1} → statement M
 script-refusal-spec =

@@ -32,7 +32,7 @@ encode-stream-requires c κs =
     let n = c .before .before .data-length .ensures in
     let e = room-is R _ (r .is) _ n in (
       (r .nine, row-own _ _ (R .low) (R .high) (R .level) _ (r .is), omega (arith, o .pre .1 .1, row-total _ _ (R .low) (R .high) (R .level) _ (r .is)), length-take-le _ _ (omega (arith, e .2, o .pre .1 .2)) ∙ n),
-      fits-lent (o .args .script .now) (o .args .payload .now) (o .args .spare .now) _ _ (e .0) (omega (arith, e .2, o .pre .1 .2)) (fits _ _ _ (o .args .script .now) (o .args .payload .now) (o .args .square .now) (o .pre .0 .1)),
+      fits-lent (o .args .script .now) (o .args .payload .now) (o .args .spare .now) _ _ (e .0) (e .1) (omega (arith, e .2, o .pre .1 .2)) (fits _ _ _ (o .args .script .now) (o .args .payload .now) (o .args .square .now) (o .pre .0 .1)),
     )
 
 place-stream-requires : tie.Need-place-stream-requires
