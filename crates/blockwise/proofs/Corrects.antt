@@ -3,12 +3,11 @@ use mathlib.Core.Path.{_≡_, refl, sym, ap, ap₂, _∙_}
 use mathlib.Core.Logic.{_⊎_, inl, inr, _≢_}
 use mathlib.Core.Bool.{Bool, true, false, cond}
 use mathlib.Core.Option.{Option, none, some}
-use mathlib.Core.List.{List, [], _∷_, _++_, append-assoc, append-nil}
+use mathlib.Core.List.{List, [], _∷_, _++_, append-assoc}
 use Prim.Native.Nat.{ℕ, zero, suc, _+_, _-_, _≤_, zero-le}
 use native.Mathlib.Nat.{add-zero, add-assoc}
 use native.Mathlib.Omega.{arith}
 use lib.Dec.{eqb, eqb·suc-zero}
-use borrow.Author.Tests.{ne-eqb}
 use lib.ListN.{length, take, drop, length-take, length-drop, take-append-drop}
 use lib.Seq.{drop-drop, length-take-le}
 use Rattle.reed_solomon.specs.Block.{nearest, unfit}
@@ -29,7 +28,7 @@ use Rattle.blockwise.proofs.Splice.{part-back, opened, spliced-front, s
 -- ---- one block
 
 -- it keeps its length, has no more corrections than codewords, and is as it was if it is refused
-block-facts : (p : ℕ) (w : List ℕ)
+pub block-facts : (p : ℕ) (w : List ℕ)
     → let o = correctOf 0x163 1 p w in (length (o .block) ≡ length w) × (o .count ≤ length w) × (o .number ≢ 0 → o .block ≡ w)
 unfolding correctOf settled refused
 block-facts p w = go (unfit p w) (nearest 0x163 1 p w) refl
@@ -73,7 +72,7 @@ first-zero (suc n) r e = absurd (omega (arith, ap (λ (t : Bool). cond t r (suc 
 
 -- ---- the stream that is left
 
-left-behind : (bs cs : List Shape) (s : List ℕ) → refusalOf (corrected bs s) ≡ 0
+pub left-behind : (bs cs : List Shape) (s : List ℕ) → refusalOf (corrected bs s) ≡ 0
     → leftOf (bs ++ cs) s ≡ joined (blocksOf (corrected bs s)) ++ leftOf cs (drop (totalSize bs) s)
 unfolding leftOf outcomes cut refusalOf blocksOf joined totalSize
 left-behind [] cs s e = refl
@@ -85,23 +84,6 @@ left-behind (b ∷ bs) cs s e =
     ap (λ (n : ℕ). o .block ++ cond (eqb n 0) (leftOf (bs ++ cs) t) t) (z .0)
     ∙ ap (λ (l : List ℕ). o .block ++ l) (left-behind bs cs t (z .1) ∙ ap (λ (l : List ℕ). us ++ leftOf cs l) (drop-drop (totalSize bs) (size b) s))
     ∙ sym (append-assoc (o .block) us (leftOf cs (drop (size b + totalSize bs) s)))
-
-pub left-accepted : (bs : List Shape) (s : List ℕ) → refusalOf (corrected bs s) ≡ 0
-    → leftOf bs s ≡ joined (blocksOf (corrected bs s)) ++ drop (totalSize bs) s
-unfolding leftOf
-left-accepted bs s e = ap (λ (l : List Shape). leftOf l s) (sym (append-nil bs)) ∙ left-behind bs [] s e
-
-pub left-refused : (bs cs : List Shape) (b : Shape) (s : List ℕ) → refusalOf (corrected bs s) ≡ 0
-    → correctOf 0x163 1 (b .parity) (take (size b) (drop (totalSize bs) s)) .number ≢ 0
-    → leftOf (bs ++ (b ∷ cs)) s ≡ joined (blocksOf (corrected bs s)) ++ drop (totalSize bs) s
-unfolding leftOf
-left-refused bs cs b s e d =
-    let t = drop (totalSize bs) s in
-    let w = take (size b) t in
-    left-behind bs (b ∷ cs) s e
-    ∙ ap₂ (λ (l : List ℕ) (x : Bool). joined (blocksOf (corrected bs s)) ++ (l ++ cond x (leftOf cs (drop (size b) t)) (drop (size b) t)))
-    (block-facts (b .parity) w .2 d) (ne-eqb (correctOf 0x163 1 (b .parity) w .number) 0 d)
-    ∙ ap (λ (l : List ℕ). joined (blocksOf (corrected bs s)) ++ l) (take-append-drop (size b) t)
 
 -- ---- one pass behind another
 

@@ -180,10 +180,6 @@ written-row r t s S bytes h l =
 
 -- ---- one block
 
-pub one-gathered : (d p a f : ℕ) (t s : List ℕ) → spliced a d (take d (drop f t)) s ≡ poured gathering (batch 1 d p) a f t s
-unfolding poured batch
-one-gathered d p a f t s = refl
-
 -- a part has the length that its ends say
 pub part-length : (a e n : ℕ) (s : List ℕ) → e ≡ a + n → e ≤ length s → length (take (e - a) (drop a s)) ≡ n
 part-length a e n s h l = let m : e - a ≡ n = omega arith in length-take-le (e - a) (drop a s) (omega (arith, length-drop a s)) ∙ m

@@ -22,9 +22,6 @@ batch-fit (suc c) d p t h = go (sound-batch (suc c) d p t)
     go : Sound (batch (suc c) d p) → (0 < d) × (0 < p) × (d + p ≤ 255)
     go (more i o s S) = (i, o, s)
 
-pub row-holds-own : (r : List ℕ) (total : ℕ) → T (rowHolds r total) → (rowLength r ≡ total) × T (rowHolds r (rowLength r))
-row-holds-own r total t = let e = row-rules r total t .3 in (e, rw e t)
-
 module _ (r : List ℕ) where
   pub row-batch : (total k : ℕ) → T (rowHolds r total) → k < 3 → (b : Batch) → b ≡ batchOf r k → T (batchHolds (b .count) (b .info) (b .parity))
   row-batch total k t h b e = rw e (go k h)

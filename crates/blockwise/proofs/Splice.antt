@@ -15,20 +15,6 @@ part-back a n e s xs h =
     let m : a + (e - a) ≡ a + n = omega arith in
     ap (λ (l : List ℕ). take a s ++ (xs ++ l)) (drop-drop (e - a) a s ∙ ap (λ (k : ℕ). drop k s) m)
 
-pub part-kept : (a e : ℕ) (s ys : List ℕ) → a ≤ e → e ≤ length s → length ys ≡ length (take (e - a) (drop a s))
-    → length (take a s ++ (ys ++ drop (e - a) (drop a s))) ≡ length s
-part-kept a e s ys h l k =
-    length-append (take a s) (ys ++ drop (e - a) (drop a s))
-    ∙ omega (
-      arith,
-      k,
-      length-append ys (drop (e - a) (drop a s)),
-      length-take-le a s (omega arith),
-      length-drop (e - a) (drop a s),
-      length-drop a s,
-      length-take-le (e - a) (drop a s) (omega (arith, length-drop a s)),
-    )
-
 module _ (a n : ℕ) (xs s : List ℕ) (size : length xs ≡ n) (room : a + n ≤ length s) where
   front-length : length (take a s ++ xs) ≡ a + n
   front-length = length-append (take a s) xs ∙ ap₂ _+_ (length-take-le a s (omega arith)) size
@@ -56,6 +42,12 @@ module _ (a n : ℕ) (xs s : List ℕ) (size : length xs ≡ n) (room : a + n �
       ap₂ (λ (x z : List ℕ). x ++ (ys ++ z)) spliced-front behind
       ∙ append-assoc (take a s) xs (ys ++ drop (a + (n + m)) s)
       ∙ ap (λ (l : List ℕ). take a s ++ l) (sym (append-assoc xs ys (drop (a + (n + m)) s)))
+
+pub part-kept : (a e : ℕ) (s ys : List ℕ) → a ≤ e → e ≤ length s → length ys ≡ length (take (e - a) (drop a s))
+    → length (take a s ++ (ys ++ drop (e - a) (drop a s))) ≡ length s
+part-kept a e s ys h l k =
+    ap length (part-back a (e - a) e s ys (omega arith))
+    ∙ spliced-length a (e - a) ys s (k ∙ length-take-le (e - a) (drop a s) (omega (arith, length-drop a s))) (omega arith)
 
 -- a copy, byte by byte
 pub copy-more : (d s t : List ℕ) (to from i : ℕ) → d ≡ paste t to (drop from s) i → to + i < length t → from + i < length s

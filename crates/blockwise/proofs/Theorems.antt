@@ -1,40 +1,50 @@
 -- What a customer may quote of blocks that are corrected and made one after the other. Each holds for any blocks that hold the rule of a
 -- row: data, parity, and at most 255 codewords. Assumes nothing.
-use mathlib.Core.Path.{_≡_, sym, ap, subst, _∙_}
+use mathlib.Core.Path.{_≡_, sym, ap, ap₂, subst, _∙_}
 use mathlib.Core.Logic.{_⊎_, inl, inr, _≢_}
 use mathlib.Core.Option.{none, some}
-use mathlib.Core.List.{List, _∷_, _++_}
+use mathlib.Core.Bool.{Bool, cond}
+use mathlib.Core.List.{List, [], _∷_, _++_, append-nil}
 use Prim.Native.Nat.{ℕ, _/_, _≤_, _<_}
 use native.Mathlib.Omega.{arith}
 use lib.Dec.{T}
-use lib.ListN.{length, take, drop}
+use lib.ListN.{length, take, drop, take-append-drop}
+use borrow.Author.Tests.{ne-eqb}
 use Rattle.reed_solomon.specs.Block.{distance, nearest}
 use Rattle.reed_solomon.proofs.Search.{Bytes}
 use Rattle.corrector.specs.Correct.{correctOf}
 use Rattle.blocks.specs.Blocks.{rowLength, rowHolds, Shape, size, totalSize, totalData, cut, joined, dataParts, cutData}
-use Rattle.blocks.proofs.Rows.{Sound}
+use Rattle.blocks.proofs.Rows.{Sound, row-rules}
 use Rattle.blocks.proofs.Cuts.{Shaped, cut-shaped, cut-joined, length-joined, data-back}
 use Rattle.blockwise.specs.Blockwise.{refusalOf, countOf, blocksOf, corrected, leftOf, dataOf, encoded, streamOf, differences, blockAt, parityAt}
-use Rattle.blockwise.proofs.Corrects.{blocks-shaped, joined-size}
-use Rattle.blockwise.proofs.Corrects as corrects
-use Rattle.blockwise.proofs.Rule as rule
+use Rattle.blockwise.proofs.Corrects.{block-facts, blocks-shaped, joined-size, left-behind}
 use Rattle.blockwise.proofs.Rule.{cut-front}
 use Rattle.blockwise.proofs.Settle.{Coded, lost-refused, each-settled, either, coded-shaped, coded-each}
 use Rattle.blockwise.proofs.Written.{encoded-coded, joined-bytes}
 
 -- The length of a row that holds the rule for a total is that total, so that the row holds it for its own length.
 pub row-holds-own : (r : List ℕ) (total : ℕ) → T (rowHolds r total) → (rowLength r ≡ total) × T (rowHolds r (rowLength r))
-row-holds-own = rule.row-holds-own
+row-holds-own r total t = let e = row-rules r total t .3 in (e, rw e t)
 
 -- The stream that is left where no block is refused: each block as it was corrected, and what is behind them as it was.
-pub left-accepted : (bs : List Shape) (s : List ℕ) → refusalOf (corrected bs s) ≡ 0 → leftOf bs s ≡ joined (blocksOf (corrected bs s)) ++ drop (totalSize bs) s
-left-accepted = corrects.left-accepted
+pub left-accepted : (bs : List Shape) (s : List ℕ) → refusalOf (corrected bs s) ≡ 0
+    → leftOf bs s ≡ joined (blocksOf (corrected bs s)) ++ drop (totalSize bs) s
+unfolding leftOf
+left-accepted bs s e = ap (λ (l : List Shape). leftOf l s) (sym (append-nil bs)) ∙ left-behind bs [] s e
 
 -- Where the first of the blocks to be refused is b: those before it as they were corrected, and b and what is behind it as they were.
 pub left-refused : (bs cs : List Shape) (b : Shape) (s : List ℕ) → refusalOf (corrected bs s) ≡ 0
     → correctOf 0x163 1 (b .parity) (take (size b) (drop (totalSize bs) s)) .number ≢ 0
     → leftOf (bs ++ (b ∷ cs)) s ≡ joined (blocksOf (corrected bs s)) ++ drop (totalSize bs) s
-left-refused = corrects.left-refused
+unfolding leftOf
+left-refused bs cs b s e d =
+    let us = joined (blocksOf (corrected bs s)) in
+    let t = drop (totalSize bs) s in
+    let w = take (size b) t in
+    left-behind bs (b ∷ cs) s e
+    ∙ ap₂ (λ (l : List ℕ) (x : Bool). us ++ (l ++ cond x (leftOf cs (drop (size b) t)) (drop (size b) t)))
+    (block-facts (b .parity) w .2 d) (ne-eqb (correctOf 0x163 1 (b .parity) w .number) 0 d)
+    ∙ ap (λ (l : List ℕ). us ++ l) (take-append-drop (size b) t)
 
 module _ (bs : List Shape) (sound : Sound bs) where
   -- ---- any stream

@@ -1,11 +1,10 @@
 -- `gather_batch` meets its contract: the data part of one block more in each turn. Assumes nothing.
-use mathlib.Core.Path.{_∙_}
 use Prim.Native.Nat.{_+_, _-_}
 use native.Mathlib.Omega.{arith}
 use Rattle.blocks.specs.Blocks.{batch}
-use Rattle.blockwise.specs.Inner.{blocksIn, gathering}
+use Rattle.blockwise.specs.Inner.{blocksIn, gathering, poured}
 use Rattle.blockwise.proofs.Rule.{batch-none}
-use Rattle.blockwise.proofs.Pours.{Pouring, pouring-start, one-room, one-gathered, one-next, pouring-end}
+use Rattle.blockwise.proofs.Pours.{Pouring, pouring-start, one-room, one-next, pouring-end}
 use borrow.Author.Needs.{needs}
 use Rattle.blockwise.proofs.gather_batch.Statement.{statement}
 use Rattle.blockwise.proofs.gather_batch.Tie as tie
@@ -28,10 +27,11 @@ next : (c : tie.After-struct-known Inv-loop μ-loop) →
     let loop = c .before .before .before .before .before .before .loop in
     Pouring gathering (blocksIn b) (start .args .to) (start .args .from) (start .args .stream .now) (start .args .out .now)
     (batch (loop .left - 1) (b .info) (b .parity)) (loop .into + b .info) (loop .at + (b .info + b .parity)) (c .before .before .before .copy .last .0)
+unfolding poured batch
 next c =
     let copy = c .before .before .before .copy in
     one-next _ _ _ (c .before .before .before .before .before .before .loop .inv) (c .before .before .before .before .before .loop-test .taken)
-    (copy .ensures ∙ one-gathered _ _ _ _ _ _) (copy .kept .0)
+    (copy .ensures) (copy .kept .0)
 
 pub gather-batch-spec : {M : Type 1} → statement M
 gather-batch-spec =
