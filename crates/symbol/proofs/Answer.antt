@@ -2,7 +2,7 @@
 use mathlib.Core.Path.{_≡_, refl, ap, subst, _∙_}
 use mathlib.Core.Bool.{Bool, true, false, cond, _&&_}
 use mathlib.Core.List.{List, [], _∷_, _++_}
-use Prim.Native.Nat.{ℕ, _+_, _-_, _*_, _<_, _≤_}
+use Prim.Native.Nat.{ℕ, _*_, _<_, _≤_}
 use native.Mathlib.Omega.{arith}
 use lib.Dec.{ltb, eqb, lit<}
 use lib.IntN.{ℤ}
@@ -75,10 +75,10 @@ module _ (v : ℕ) (out : List ℕ) where
         unfolding layoutWritten layoutOf plotAll
         small t = (answered, rw (← answered) (simp (lt-ltb v 4 t) filled))
 
-        pub large : 4 ≤ v → {w : ℕ} {g' : List ℕ} → w ≡ v → Plotted (sideOf w) (alignment w) g g' → (0 ≡ layoutRefusal v out) × (g' ≡ layoutWritten v out)
+        pub large : 4 ≤ v → {w k : ℕ} {g' : List ℕ} → w ≡ v → k ≡ sideOf w → Plotted k (alignment w) g g' → (0 ≡ layoutRefusal v out) × (g' ≡ layoutWritten v out)
         unfolding layoutWritten layoutOf
-        large t {w} {g'} d p =
-            let q : Plotted (sideOf v) (alignment v) g g' = subst (λ (k : ℕ). Plotted (sideOf k) (alignment k) g g') d p in (
+        large t {w} {k} {g'} d z p =
+            let q : Plotted (sideOf v) (alignment v) g g' = subst (λ (n : ℕ). Plotted (sideOf n) (alignment n) g g') d (subst (λ (n : ℕ). Plotted n (alignment w) g g') z p) in (
               answered,
               rw (← answered)
                   (simp (le-ltb v 4 t)

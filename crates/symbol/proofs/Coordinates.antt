@@ -4,14 +4,15 @@ use mathlib.Core.Bool.{Bool, true, false, cond}
 use Prim.Native.Nat.{ℕ, zero, suc, _+_, _-_, _*_, _<_, _≤_, _^_}
 use native.Mathlib.Nat.{mul-le-mul}
 use native.Mathlib.Omega.{arith}
-use lib.Dec.{T, ltb, leb}
+use lib.Dec.{T, ltb}
 use lib.IntN.{ℤ, pos, negsuc, natAbs, negℤ, _+ℤ_, _-ℤ_, subℕ, +ℤ-assoc, negℤ-+ℤ}
-use lib.Signed.{ltZ, leZ, mag, nonNeg}
-use borrow.Author.Tests.{lt-ltb, le-ltb, ltb-true, ltb-false, le-leb, lt-leb}
+use lib.Signed.{ltZ, mag, nonNeg}
+use borrow.Author.Tests.{lt-ltb, le-ltb, ltb-true, ltb-false}
 use mir.Syntax.{w64}
 use mir.Val.{Fits, SFits, toZ, ofZ}
 use mir.Facts.{toZ-ofZ, fits-natAbs}
 use Rattle.symbol.specs.Layout.{placeAt}
+use Rattle.symbol.specs.Inner.{Inside}
 
 true-false : true ≡ false → ⊥
 true-false e = subst (λ (b : Bool). T b) e tt
@@ -134,28 +135,7 @@ ok x h = record { sfits = h }
 pub near : {x : ℤ} (n : ℕ) → SFits w64 x → mag x < n → mag (toZ w64 (ofZ w64 x)) < n
 near n f h = subst (λ (z : ℤ). mag z < n) (sym (toZ-ofZ f)) h
 
-pub whole-near : {x : ℤ} {n : ℕ} (k : ℕ) → SFits w64 x → x ≡ pos n → n < k → mag (toZ w64 (ofZ w64 x)) < k
-whole-near {x} {n} k f e h = near k f (subst (λ (z : ℤ). mag z < k) (sym e) h)
-
-pub room-of : {s t : ℕ} {n : ℕ} → s ≡ t → t * t ≤ n → s * s ≤ n
-room-of {s} {t} {n} e h = subst (λ (k : ℕ). k * k ≤ n) (sym e) h
-
--- a signed loop variable against a signed bound
-pub less : {y e : ℤ} {a b : ℕ} → y ≡ pos a → e ≡ pos b → ltZ y e ≡ true → a < b
-less {y} {e} {a} {b} p q h = ltb-true a b (subst (λ (z : ℤ). ltZ (pos a) z ≡ true) q (subst (λ (z : ℤ). ltZ z e ≡ true) p h))
-
-pub not-less : {y e : ℤ} {a b : ℕ} → y ≡ pos a → e ≡ pos b → ltZ y e ≡ false → b ≤ a
-not-less {y} {e} {a} {b} p q h = ltb-false a b (subst (λ (z : ℤ). ltZ (pos a) z ≡ false) q (subst (λ (z : ℤ). ltZ z e ≡ false) p h))
-
--- a difference of two numbers, and a further number taken off
-pub above-difference : (a b : ℕ) → leZ (pos 0) (pos a -ℤ pos b) ≡ leb b a
-above-difference a zero = le-leb 0 (a + 0) (omega arith) ∙ sym (le-leb 0 a (omega arith))
-above-difference a (suc b) = by (ltb a (suc b)) refl
-  where
-    by : (t : Bool) → ltb a (suc b) ≡ t → leZ (pos 0) (cond t (negsuc (suc b - suc a)) (pos (a - suc b))) ≡ leb (suc b) a
-    by true e = sym (lt-leb (suc b) a (ltb-true a (suc b) e))
-    by false e = le-leb 0 (a - suc b) (omega arith) ∙ sym (le-leb (suc b) a (ltb-false a (suc b) e))
-
+-- a further number taken off
 pub take-off : (a b c : ℕ) → pos a -ℤ pos b -ℤ pos c ≡ pos a -ℤ pos (b + c)
 take-off a b c = +ℤ-assoc (pos a) (negℤ (pos b)) (negℤ (pos c)) ∙ ap (λ (z : ℤ). pos a +ℤ z) (sym (negℤ-+ℤ (pos b) (pos c)))
 
@@ -175,3 +155,17 @@ negative a (suc b) h = by (ltb a (suc b)) refl
     by : (t : Bool) → ltb a (suc b) ≡ t → ltZ (cond t (negsuc (suc b - suc a)) (pos (a - suc b))) (pos 0) ≡ true
     by true e = refl
     by false e = absurd (let k : suc b ≤ a = ltb-false a (suc b) e in omega arith)
+
+-- a coordinate of the square
+pub inside-of : {s n : ℕ} {z : ℤ} → z ≡ pos n → n < s → Inside s z
+inside-of {s} e h = subst (λ (z : ℤ). Inside s z) (sym e) (record { whole = refl; within = h })
+
+module _ {s : ℕ} {x : ℤ} (f : SFits w64 x) (i : Inside s x) where
+  pub inside : Inside s (toZ w64 (ofZ w64 x))
+  inside = subst (λ (z : ℤ). Inside s z) (sym (toZ-ofZ f)) i
+
+  pub cast-inside : s ≤ 189 → T (nonNeg (toZ w64 (ofZ w64 x))) × Fits w64 (natAbs (toZ w64 (ofZ w64 x)))
+  cast-inside h = (subst (λ (z : ℤ). T (nonNeg z)) (sym (inside .whole)) tt, omega (arith, inside .within))
+
+  pub near-inside : s ≤ 189 → mag (toZ w64 (ofZ w64 x)) < 200
+  near-inside h = subst (λ (z : ℤ). mag z < 200) (sym (inside .whole)) (omega (arith, inside .within))

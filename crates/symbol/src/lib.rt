@@ -9,8 +9,8 @@ ghost use lib.IntN.{pos, _+ℤ_, _-ℤ_};
 ghost use lib.Signed.{mag};
 ghost use Rattle.symbol.specs.Version.{sideOf, sideRefusal, sideVersion, versionOf};
 ghost use Rattle.symbol.specs.Version as version;
-ghost use Rattle.symbol.specs.Layout.{finders, edge, half, within, finderRow, cornerKind, plot, each, when, stepOf, mOf, rowOf, columnOf, threeAt, assistant, rowEnds, columnEnds, lineModule, lineLeft, lineDown, crossing, crossings, alignment, layoutRefusal, layoutWritten, refusalOf};
-ghost use Rattle.symbol.specs.Inner.{Stored, Ends, UpTo, Beyond, Plotted, Spaced, Roomy, OnLine, InSquare, drawn, fourModules};
+ghost use Rattle.symbol.specs.Layout.{finders, edge, half, within, finderRow, cornerKind, plot, each, when, stepOf, mOf, lineOf, rowOf, columnOf, odd, threeAt, assistant, rowEnds, columnEnds, lineModule, lineLeft, lineDown, crossing, crossings, alignment, layoutRefusal, layoutWritten, refusalOf};
+ghost use Rattle.symbol.specs.Inner.{Stored, Ends, UpTo, Beyond, Plotted, Spaced, Roomy, Inside, drawn, fourModules};
 
 pub struct Version {
     pub number: usize,
@@ -56,7 +56,7 @@ impl Version {
     }
 }
 
-// k, r and m of each version (han_xin.rs: `MODULE_K`, `MODULE_R`, `MODULE_M`).
+// k and m of each version (han_xin.rs: `MODULE_K`, `MODULE_M`); its `MODULE_R` is side - m * k.
 const MODULE_K: [u8; 84] = [
     0,
     0,
@@ -142,93 +142,6 @@ const MODULE_K: [u8; 84] = [
     18,
     17,
     17,
-];
-
-const MODULE_R: [u8; 84] = [
-    0,
-    0,
-    0,
-    15,
-    15,
-    17,
-    18,
-    19,
-    20,
-    21,
-    15,
-    15,
-    15,
-    17,
-    17,
-    19,
-    19,
-    19,
-    19,
-    21,
-    21,
-    17,
-    16,
-    18,
-    17,
-    19,
-    18,
-    20,
-    19,
-    21,
-    20,
-    17,
-    19,
-    17,
-    19,
-    17,
-    19,
-    21,
-    19,
-    21,
-    18,
-    20,
-    17,
-    19,
-    21,
-    18,
-    20,
-    22,
-    17,
-    19,
-    15,
-    17,
-    19,
-    21,
-    17,
-    19,
-    21,
-    18,
-    20,
-    15,
-    17,
-    19,
-    21,
-    16,
-    18,
-    17,
-    19,
-    21,
-    15,
-    17,
-    19,
-    21,
-    15,
-    17,
-    18,
-    20,
-    22,
-    15,
-    17,
-    19,
-    21,
-    23,
-    17,
-    19,
 ];
 
 const MODULE_M: [u8; 84] = [
@@ -545,13 +458,15 @@ fn assistant(grid: &mut [u8], side: usize, x: i64, y: i64)
     three(grid, side, x, forth(y, 1), 2);
 }
 
-fn assistant_if(grid: &mut [u8], side: usize, on: bool, x: i64, y: i64)
-    requires { ⌜ (side ≤ 189) × (side * side ≤ length (now grid)) × (mag x < 1000) × (mag y < 1000) ⌝ }
-    ensures { λ _. ⌜ Plotted side (when on (assistant x y)) (now (grid .entry)) (now (grid .exit)) ⌝ }
+// An assistant pattern where n is odd.
+fn assistant_if_odd(grid: &mut [u8], p: Spacing, n: usize, x: i64, y: i64)
+    requires { ⌜ Roomy p (now grid) × Inside (p .side) x × Inside (p .side) y ⌝ }
+    ensures { λ _. ⌜ Plotted (p .side) (when (odd n) (assistant x y)) (now (grid .entry)) (now (grid .exit)) ⌝ }
 {
-    if on {
-        assistant(grid, side, x, y);
+    if n % 2 == 0 {
+        return;
     }
+    assistant(grid, p.side, x, y);
 }
 
 // A dark module of a line, and the light one at its lower left.
@@ -610,7 +525,7 @@ fn left_runs(grid: &mut [u8], side: usize, column: usize, row: usize, width: usi
 
 // The same of signed coordinates.
 fn line_left(grid: &mut [u8], side: usize, x: i64, y: i64, width: usize)
-    requires { ⌜ (side ≤ 189) × (side * side ≤ length (now grid)) × InSquare side x y × (width < 200) ⌝ }
+    requires { ⌜ (side ≤ 189) × (side * side ≤ length (now grid)) × Inside side x × Inside side y × (width < 200) ⌝ }
     ensures { λ _. ⌜ Plotted side (lineLeft x y width) (now (grid .entry)) (now (grid .exit)) ⌝ }
 {
     left_runs(grid, side, x as usize, y as usize, width);
@@ -651,7 +566,7 @@ fn run_down(grid: &mut [u8], side: usize, column: usize, row: usize, height: usi
 
 // The rest of a line down of height modules.
 fn line_down(grid: &mut [u8], side: usize, x: i64, y: i64, height: usize)
-    requires { ⌜ (side ≤ 189) × (side * side ≤ length (now grid)) × InSquare side x y × (1 ≤ height) × (height < 200) ⌝ }
+    requires { ⌜ (side ≤ 189) × (side * side ≤ length (now grid)) × Inside side x × Inside side y × (1 ≤ height) × (height < 200) ⌝ }
     ensures { λ _. ⌜ Plotted side (lineDown x y height) (now (grid .entry)) (now (grid .exit)) ⌝ }
 {
     let column = x as usize;
@@ -681,12 +596,14 @@ fn spacing_of(version: usize) -> Spacing
     ensures { λ r. ⌜ Spaced r × (r .version ≡ version) ⌝ }
 {
     let side = Version { number: version }.side();
+    let k = wide(MODULE_K[version - 1]);
+    let m = wide(MODULE_M[version - 1]);
     Spacing {
         version,
         side,
-        k: wide(MODULE_K[version - 1]),
-        r: wide(MODULE_R[version - 1]),
-        m: wide(MODULE_M[version - 1]),
+        k,
+        r: side - m * k,
+        m,
     }
 }
 
@@ -701,48 +618,57 @@ fn step(p: Spacing, n: usize) -> usize
     p.r - 1
 }
 
-// Rows are counted from the top.
-fn next_row(p: Spacing, n: usize, y: i64) -> i64
-    requires { ⌜ Spaced p × OnLine p rowOf n y ⌝ }
-    ensures { λ r. ⌜ r ≡ rowOf (p .version) (n + 1) ⌝ }
+// Where line n lies: after n steps of k, and the last line at the edge.
+fn line_of(p: Spacing, n: usize) -> usize
+    requires { ⌜ Spaced p × (n < p .m + 2) ⌝ }
+    ensures { λ r. ⌜ (r ≡ lineOf (p .version) n) × (r < p .side) ⌝ }
 {
-    forth(y, step(p, n))
+    if n <= p.m {
+        return n * p.k;
+    }
+    p.side - 1
+}
+
+// Rows are counted from the top.
+fn row_of(p: Spacing, n: usize) -> i64
+    requires { ⌜ Spaced p × (n < p .m + 2) ⌝ }
+    ensures { λ r. ⌜ (r ≡ rowOf (p .version) n) × Inside (p .side) r ⌝ }
+{
+    signed(line_of(p, n))
 }
 
 // Columns are counted from the right.
-fn next_column(p: Spacing, n: usize, x: i64) -> i64
-    requires { ⌜ Spaced p × OnLine p columnOf n x ⌝ }
-    ensures { λ r. ⌜ r ≡ columnOf (p .version) (n + 1) ⌝ }
+fn column_of(p: Spacing, n: usize) -> i64
+    requires { ⌜ Spaced p × (n < p .m + 2) ⌝ }
+    ensures { λ r. ⌜ (r ≡ columnOf (p .version) n) × Inside (p .side) r ⌝ }
 {
-    back(x, step(p, n))
+    signed(p.side - 1 - line_of(p, n))
 }
 
 // The assistants at the left and right end of row n.
-fn row_ends(grid: &mut [u8], p: Spacing, n: usize, y: i64)
-    requires { ⌜ Roomy p (now grid) × OnLine p rowOf n y ⌝ }
-    ensures { λ _. ⌜ Plotted (sideOf (p .version)) (rowEnds (p .version) n) (now (grid .entry)) (now (grid .exit)) ⌝ }
+fn row_ends(grid: &mut [u8], p: Spacing, n: usize)
+    requires { ⌜ Roomy p (now grid) × (n < p .m + 2) ⌝ }
+    ensures { λ _. ⌜ Plotted (p .side) (rowEnds (p .version) n) (now (grid .entry)) (now (grid .exit)) ⌝ }
 {
-    let left = signed(0);
-    let right = signed(p.side - 1);
-    assistant_if(grid, p.side, (n + p.m) % 2 == 1, left, y);
-    assistant_if(grid, p.side, n % 2 == 1, right, y);
+    let y = row_of(p, n);
+    assistant_if_odd(grid, p, n + p.m, signed(0), y);
+    assistant_if_odd(grid, p, n, signed(p.side - 1), y);
 }
 
 // The assistants at the lower and upper end of column n.
-fn column_ends(grid: &mut [u8], p: Spacing, n: usize, x: i64)
-    requires { ⌜ Roomy p (now grid) × OnLine p columnOf n x ⌝ }
-    ensures { λ _. ⌜ Plotted (sideOf (p .version)) (columnEnds (p .version) n) (now (grid .entry)) (now (grid .exit)) ⌝ }
+fn column_ends(grid: &mut [u8], p: Spacing, n: usize)
+    requires { ⌜ Roomy p (now grid) × (n < p .m + 2) ⌝ }
+    ensures { λ _. ⌜ Plotted (p .side) (columnEnds (p .version) n) (now (grid .entry)) (now (grid .exit)) ⌝ }
 {
-    let low = signed(p.side - 1);
-    let high = signed(0);
-    assistant_if(grid, p.side, (n + p.m) % 2 == 1, x, low);
-    assistant_if(grid, p.side, n % 2 == 1, x, high);
+    let x = column_of(p, n);
+    assistant_if_odd(grid, p, n + p.m, x, signed(p.side - 1));
+    assistant_if_odd(grid, p, n, x, signed(0));
 }
 
 // The two lines from row n and column j.
-fn crossing(grid: &mut [u8], p: Spacing, n: usize, j: usize, x: i64, y: i64)
-    requires { ⌜ Roomy p (now grid) × OnLine p rowOf n y × OnLine p columnOf j x ⌝ }
-    ensures { λ _. ⌜ Plotted (sideOf (p .version)) (crossing (p .version) n j) (now (grid .entry)) (now (grid .exit)) ⌝ }
+fn crossing(grid: &mut [u8], p: Spacing, n: usize, j: usize)
+    requires { ⌜ Roomy p (now grid) × (n < p .m + 2) × (j < p .m + 2) ⌝ }
+    ensures { λ _. ⌜ Plotted (p .side) (crossing (p .version) n j) (now (grid .entry)) (now (grid .exit)) ⌝ }
 {
     if (n + j) % 2 == 1 {
         return;
@@ -750,6 +676,8 @@ fn crossing(grid: &mut [u8], p: Spacing, n: usize, j: usize, x: i64, y: i64)
     if n + j == 0 {
         return;
     }
+    let x = column_of(p, j);
+    let y = row_of(p, n);
     line_left(grid, p.side, x, y, step(p, j));
     line_down(grid, p.side, x, y, step(p, n));
 }
@@ -757,14 +685,12 @@ fn crossing(grid: &mut [u8], p: Spacing, n: usize, j: usize, x: i64, y: i64)
 // The assistants of all rows.
 fn rows_ends(grid: &mut [u8], p: Spacing)
     requires { ⌜ Roomy p (now grid) ⌝ }
-    ensures { λ _. ⌜ Plotted (sideOf (p .version)) (each (mOf (p .version) + 2) (rowEnds (p .version))) (now (grid .entry)) (now (grid .exit)) ⌝ }
+    ensures { λ _. ⌜ Plotted (p .side) (each (mOf (p .version) + 2) (rowEnds (p .version))) (now (grid .entry)) (now (grid .exit)) ⌝ }
 {
-    let end = signed(p.side);
-    let mut y: i64 = 0;
+    let lines = p.m + 2;
     let mut n: usize = 0;
-    while y < end {
-        row_ends(grid, p, n, y);
-        y = next_row(p, n, y);
+    while n < lines {
+        row_ends(grid, p, n);
         n += 1;
     }
 }
@@ -772,27 +698,25 @@ fn rows_ends(grid: &mut [u8], p: Spacing)
 // The assistants of all columns.
 fn columns_ends(grid: &mut [u8], p: Spacing)
     requires { ⌜ Roomy p (now grid) ⌝ }
-    ensures { λ _. ⌜ Plotted (sideOf (p .version)) (each (mOf (p .version) + 2) (columnEnds (p .version))) (now (grid .entry)) (now (grid .exit)) ⌝ }
+    ensures { λ _. ⌜ Plotted (p .side) (each (mOf (p .version) + 2) (columnEnds (p .version))) (now (grid .entry)) (now (grid .exit)) ⌝ }
 {
-    let mut x = signed(p.side - 1);
+    let lines = p.m + 2;
     let mut n: usize = 0;
-    while x >= 0 {
-        column_ends(grid, p, n, x);
-        x = next_column(p, n, x);
+    while n < lines {
+        column_ends(grid, p, n);
         n += 1;
     }
 }
 
 // The lines of row n.
-fn row_crossings(grid: &mut [u8], p: Spacing, n: usize, y: i64)
-    requires { ⌜ Roomy p (now grid) × OnLine p rowOf n y ⌝ }
-    ensures { λ _. ⌜ Plotted (sideOf (p .version)) (each (mOf (p .version) + 2) (crossing (p .version) n)) (now (grid .entry)) (now (grid .exit)) ⌝ }
+fn row_crossings(grid: &mut [u8], p: Spacing, n: usize)
+    requires { ⌜ Roomy p (now grid) × (n < p .m + 2) ⌝ }
+    ensures { λ _. ⌜ Plotted (p .side) (each (mOf (p .version) + 2) (crossing (p .version) n)) (now (grid .entry)) (now (grid .exit)) ⌝ }
 {
-    let mut x = signed(p.side - 1);
+    let lines = p.m + 2;
     let mut j: usize = 0;
-    while x >= 0 {
-        crossing(grid, p, n, j, x, y);
-        x = next_column(p, j, x);
+    while j < lines {
+        crossing(grid, p, n, j);
         j += 1;
     }
 }
@@ -800,14 +724,12 @@ fn row_crossings(grid: &mut [u8], p: Spacing, n: usize, y: i64)
 // The lines of all rows.
 fn crossings(grid: &mut [u8], p: Spacing)
     requires { ⌜ Roomy p (now grid) ⌝ }
-    ensures { λ _. ⌜ Plotted (sideOf (p .version)) (crossings (p .version)) (now (grid .entry)) (now (grid .exit)) ⌝ }
+    ensures { λ _. ⌜ Plotted (p .side) (crossings (p .version)) (now (grid .entry)) (now (grid .exit)) ⌝ }
 {
-    let end = signed(p.side);
-    let mut y: i64 = 0;
+    let lines = p.m + 2;
     let mut n: usize = 0;
-    while y < end {
-        row_crossings(grid, p, n, y);
-        y = next_row(p, n, y);
+    while n < lines {
+        row_crossings(grid, p, n);
         n += 1;
     }
 }
@@ -815,7 +737,7 @@ fn crossings(grid: &mut [u8], p: Spacing)
 // Alignment and assistant alignment patterns. Modules that are no longer data keep their kind.
 fn alignment(grid: &mut [u8], p: Spacing)
     requires { ⌜ Roomy p (now grid) ⌝ }
-    ensures { λ _. ⌜ Plotted (sideOf (p .version)) (alignment (p .version)) (now (grid .entry)) (now (grid .exit)) ⌝ }
+    ensures { λ _. ⌜ Plotted (p .side) (alignment (p .version)) (now (grid .entry)) (now (grid .exit)) ⌝ }
 {
     rows_ends(grid, p);
     columns_ends(grid, p);

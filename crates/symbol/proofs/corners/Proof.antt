@@ -1,6 +1,6 @@
 use Rattle.symbol.proofs.CornerRows.{all-blank, data-rows, near-upper, near-lower, corners-stored}
 use Rattle.symbol.specs.Layout.{cornerKind}
-use Prim.Native.Nat.{_-_, _*_}
+use Prim.Native.Nat.{_*_}
 use native.Mathlib.Nat.{zero-mul}
 use native.Mathlib.Omega.{arith}
 use borrow.Author.Needs.{needs}

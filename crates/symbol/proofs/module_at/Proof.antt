@@ -1,5 +1,6 @@
+-- `module_at` meets its contract.
 use Prim.Native.Nat.{_+_}
-use mathlib.Core.Path.{refl, sym, ap}
+use mathlib.Core.Path.{sym, ap}
 use mathlib.Core.List.{[], _∷_}
 use lib.IntN.{ℤ, pos}
 use borrow.Author.Needs.{needs}
@@ -14,7 +15,7 @@ unfolding lineModule
 returns c =
     let start = c .before .before .before .before .before .before .before .before .before in
     let dark = c .before .before .before .before .before .before .plot-at .ensures in
-    next dark (exactly refl (ap (λ (x : ℤ). plot x (pos (start .args .row + 1)) 2 ∷ []) (sym (difference (start .args .column) 1 (start .pre .2)))) (c .before .before .plot-at2 .ensures))
+    next dark (exactly (ap (λ (x : ℤ). plot x (pos (start .args .row + 1)) 2 ∷ []) (sym (difference (start .args .column) 1 (start .pre .2)))) (c .before .before .plot-at2 .ensures))
 
 pub module-at-spec : {M : Type 1} → statement M
 module-at-spec =
