@@ -22,6 +22,14 @@ pub record Stored (f : ℕ → ℕ) (from to : ℕ) (g g' : List ℕ) : Type 0 w
 abbrev pub fourModules : ℕ → ℕ
 fourModules d = bitAnd (d * 134480385 / 8) 16843009 + 33686018
 
+-- a row of a square, and bytes for it; its places are small numbers
+pub record RowRoom (side row : ℕ) (g : List ℕ) : Type 0 where
+  pub big : 23 ≤ side
+  pub small : side ≤ 189
+  pub inside : row < side
+  pub room : row * side + side ≤ length g
+  pub fits : row * side + side ≤ 35721
+
 -- the first and last nine places from `from` to below `to` were given what f says, and no other byte changed
 pub record Ends (f : ℕ → ℕ) (from to : ℕ) (g g' : List ℕ) : Type 0 where
   pub size : length g' ≡ length g

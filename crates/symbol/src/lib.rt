@@ -10,7 +10,7 @@ ghost use lib.Signed.{mag};
 ghost use Rattle.symbol.specs.Version.{sideOf, sideRefusal, sideVersion, versionOf};
 ghost use Rattle.symbol.specs.Version as version;
 ghost use Rattle.symbol.specs.Layout.{finders, edge, half, within, finderRow, cornerKind, plot, each, when, stepOf, mOf, lineOf, rowOf, columnOf, odd, threeAt, assistant, rowEnds, columnEnds, lineModule, lineLeft, lineDown, crossing, crossings, alignment, layoutRefusal, layoutWritten, refusalOf};
-ghost use Rattle.symbol.specs.Inner.{Stored, Ends, UpTo, Beyond, Plotted, Spaced, Roomy, Inside, drawn, fourModules};
+ghost use Rattle.symbol.specs.Inner.{Stored, RowRoom, Ends, UpTo, Beyond, Plotted, Spaced, Roomy, Inside, drawn, fourModules};
 
 pub struct Version {
     pub number: usize,
@@ -325,21 +325,21 @@ fn modules(out: &mut [u8], at: usize, bits: u8)
 
 // The ends of a row through two finders or their separators.
 fn finder_line(out: &mut [u8], side: usize, row: usize)
-    requires { ⌜ (23 ≤ side) × (side ≤ 189) × (side * side ≤ length (now out)) × (row < side) × (edge side row < 8) ⌝ }
+    requires { ⌜ RowRoom side row (now out) × (edge side row < 8) ⌝ }
     ensures { λ _. ⌜ Ends (cornerKind side) (row * side) (row * side + side) (now (out .entry)) (now (out .exit)) ⌝ }
 {
     let at = row * side;
     let left = finder_row(side, 0, row);
     let right = finder_row(side, 1, row);
     modules(out, at, 2 * left);
-    run(out, at + 8, at + 9, 1);
-    run(out, at + side - 9, at + side - 8, 1);
+    out[at + 8] = 1;
+    out[at + side - 9] = 1;
     modules(out, at + side - 8, right);
 }
 
 // The ends of a row with two arms of information modules.
 fn information_line(out: &mut [u8], side: usize, row: usize)
-    requires { ⌜ (23 ≤ side) × (side ≤ 189) × (side * side ≤ length (now out)) × (row < side) × (edge side row ≡ 8) ⌝ }
+    requires { ⌜ RowRoom side row (now out) × (edge side row ≡ 8) ⌝ }
     ensures { λ _. ⌜ Ends (cornerKind side) (row * side) (row * side + side) (now (out .entry)) (now (out .exit)) ⌝ }
 {
     let at = row * side;
@@ -349,7 +349,7 @@ fn information_line(out: &mut [u8], side: usize, row: usize)
 
 // The ends of a row near the upper or lower edge.
 fn line(out: &mut [u8], side: usize, row: usize)
-    requires { ⌜ (23 ≤ side) × (side ≤ 189) × (side * side ≤ length (now out)) × (row < side) × (edge side row < 9) ⌝ }
+    requires { ⌜ RowRoom side row (now out) × (edge side row < 9) ⌝ }
     ensures { λ _. ⌜ Ends (cornerKind side) (row * side) (row * side + side) (now (out .entry)) (now (out .exit)) ⌝ }
 {
     if edge(side, row) < 8 {

@@ -34,5 +34,5 @@ returns c =
 
 pub column-ends-spec : {M : Type 1} → statement M
 column-ends-spec =
-    tie.close (tie.spec (λ c κs. search needs) (λ c. search needs) (λ c. search needs) (λ c κs. search needs) assistant-if-odd-requires
-    (λ c κs. search needs) assistant-if-odd-requires-2 (λ c. search needs) returns)
+    tie.close (tie.spec (λ c κs. search needs) (λ c. search needs) (λ c. search needs) (λ c κs. search needs)
+    assistant-if-odd-requires (λ c κs. search needs) assistant-if-odd-requires-2 (λ c. search needs) returns)

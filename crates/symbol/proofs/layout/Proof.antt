@@ -55,5 +55,5 @@ returns-5 c =
 
 pub layout-spec : {M : Type 1} → statement M
 layout-spec =
-    tie.close (tie.spec returns returns-2 (λ c κs. search needs) mul-if3 returns-3 (λ c κs. search needs) (λ c. search needs) returns-4
-    (λ c κs. search needs) alignment-requires (λ c. search needs) returns-5)
+    tie.close (tie.spec returns returns-2 (λ c κs. search needs) mul-if3 returns-3 (λ c κs. search needs) (λ c. search needs)
+    returns-4 (λ c κs. search needs) alignment-requires (λ c. search needs) returns-5)

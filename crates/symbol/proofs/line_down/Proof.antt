@@ -40,5 +40,5 @@ returns-3 c =
 pub line-down-spec : {M : Type 1} → statement M
 line-down-spec =
     tie.close (tie.spec (λ c. cast-inside (c .before .fits .x) (c .before .pre .2) (c .before .pre .0))
-    (λ c. cast-inside (c .before .fits .y) (c .before .pre .3) (c .before .pre .0)) edge-down-requires (λ c. search needs) returns add-if2 edge-down-requires-2
-    (λ c. search needs) returns-2 (λ c κs. search needs) (λ c. search needs) returns-3)
+    (λ c. cast-inside (c .before .fits .y) (c .before .pre .3) (c .before .pre .0)) edge-down-requires (λ c. search needs) returns
+    add-if2 edge-down-requires-2 (λ c. search needs) returns-2 (λ c κs. search needs) (λ c. search needs) returns-3)

@@ -1,4 +1,5 @@
-use Rattle.symbol.proofs.CornerRows.{row-next, row-done, row-beyond, beyond-none, beyond-next}
+-- `line_ends` meets its contract.
+use Rattle.symbol.proofs.CornerRows.{row-room, row-next, row-done, row-beyond, beyond-none, beyond-next}
 use Rattle.symbol.specs.Inner.{UpTo, Beyond}
 use Rattle.symbol.specs.Layout.{cornerKind}
 use mathlib.Core.Path.{_≡_, subst}
@@ -21,7 +22,7 @@ line-requires c κs =
     let start = c .before .before .before .before in
     let loop = c .before .before .loop in
     let loop-test = c .before .loop-test in
-    (start .pre .0, start .pre .1, omega (arith, start .pre .2, loop .inv .1 .size), omega (arith, loop-test .taken, start .pre .4), start .pre .5 (loop .row) (loop .inv .2) (loop-test .taken))
+    (row-room (start .pre .0) (start .pre .1) (omega (arith, start .pre .2, loop .inv .1 .size)) (omega (arith, loop-test .taken, start .pre .4)), start .pre .5 (loop .row) (loop .inv .2) (loop-test .taken))
 
 add-row : tie.Need-add-row Inv-loop μ-loop
 add-row c =
@@ -46,4 +47,5 @@ returns c =
 pub line-ends-spec : {M : Type 1} → statement M
 line-ends-spec =
     tie.close (tie.spec Inv-loop μ-loop loop-holds line-requires add-row
-    (λ c. omega (arith, c .before .before .before .before .loop-test .taken)) loop-again (λ c. c .before .loop .inv .1 .size) returns)
+    (λ c. omega (arith, c .before .before .before .before .loop-test .taken)) loop-again (λ c. c .before .loop .inv .1 .size)
+    returns)

@@ -12,5 +12,7 @@ returns c =
     numbered (λ x y. lineLeft x y (start .args .width)) (start .fits .x) (start .fits .y) (start .pre .2 .whole) (start .pre .3 .whole) (c .before .before .left-runs .ensures)
 
 pub line-left-spec : {M : Type 1} → statement M
-line-left-spec = tie.close (tie.spec (λ c. cast-inside (c .before .before .fits .x) (c .before .before .pre .2) (c .before .before .pre .0))
-    (λ c. cast-inside (c .before .before .fits .y) (c .before .before .pre .3) (c .before .before .pre .0)) (λ c κs. search needs) (λ c. search needs) returns)
+line-left-spec =
+    tie.close (tie.spec (λ c. cast-inside (c .before .before .fits .x) (c .before .before .pre .2) (c .before .before .pre .0))
+    (λ c. cast-inside (c .before .before .fits .y) (c .before .before .pre .3) (c .before .before .pre .0)) (λ c κs. search needs)
+    (λ c. search needs) returns)
