@@ -18,7 +18,7 @@ drawn-data : {a : ℕ} (k : ℕ) → a ≡ 0 → drawn a k ≡ k
 unfolding drawn
 drawn-data {a} k e = simp (eq-eqb a 0 e)
 
-drawn-kept : {a : ℕ} (k : ℕ) → (a ≡ 0 → ⊥) → drawn a k ≡ a
+pub drawn-kept : {a : ℕ} (k : ℕ) → (a ≡ 0 → ⊥) → drawn a k ≡ a
 unfolding drawn
 drawn-kept {a} k n = simp (ne-eqb a 0 n)
 
