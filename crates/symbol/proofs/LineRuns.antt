@@ -12,7 +12,7 @@ use lib.ListN.{length, getD}
 use lib.Seq.{ext-getD}
 use Rattle.symbol.specs.Layout.{Plot, placeAt, plotAll, lineModule, lineLeft, each}
 use Rattle.symbol.specs.Inner.{Stored, Plotted, drawn}
-use Rattle.symbol.proofs.Coordinates.{place-left, place-below, whole-in, take-off, difference, negative}
+use Rattle.symbol.proofs.Coordinates.{square-le, place-left, place-below, whole-in, take-off, difference, negative}
 use Rattle.symbol.proofs.FirstPlot.{first, all-length, all-beyond, all-at, each-none, each-one, module-dark, module-light, module-off, drawn-zero}
 
 module _ (s c r : ℕ) (ci : c < s) (ri : r < s) where
@@ -25,6 +25,16 @@ module _ (s c r : ℕ) (ci : c < s) (ri : r < s) where
   -- the light run lies in the next row, if there is one
   pub room-below : r + 1 < s → r * s + c + s < s * s
   room-below h = omega (arith, digits-lt h ci, next-row)
+
+  pub record Here (n : ℕ) : Type 0 where
+    pub room : r * s + c < n
+    pub fits : r * s + c < 35721
+    pub below : r + 1 < s → (r * s + c + s < n) × (r * s + c + s < 35721)
+
+  -- where a line begins, in a square that n bytes have room for
+  pub here : (n : ℕ) → s ≤ 189 → s * s ≤ n → Here n
+  here n small room =
+      record { room = omega (arith, in-square); fits = omega (arith, in-square, square-le s small); below = λ h. (omega (arith, room-below h), omega (arith, room-below h, square-le s small)) }
 
   -- the dark module of turn j
   dark-in : (j : ℕ) → j ≤ c → placeAt s (pos c -ℤ pos j) (pos r) ≡ r * s + (c - j)

@@ -511,24 +511,18 @@ fn least(a: usize, b: usize) -> usize
 }
 
 // A line of width + 1 modules to the left: a run of dark modules, and one of light modules below it, as far as the square goes.
-fn left_runs(grid: &mut [u8], side: usize, column: usize, row: usize, width: usize)
-    requires { ⌜ (side ≤ 189) × (side * side ≤ length (now grid)) × (column < side) × (row < side) × (width < 200) ⌝ }
-    ensures { λ _. ⌜ Plotted side (lineLeft (pos column) (pos row) width) (now (grid .entry)) (now (grid .exit)) ⌝ }
+fn line_left(grid: &mut [u8], side: usize, x: i64, y: i64, width: usize)
+    requires { ⌜ (side ≤ 189) × (side * side ≤ length (now grid)) × Inside side x × Inside side y × (width < 200) ⌝ }
+    ensures { λ _. ⌜ Plotted side (lineLeft x y width) (now (grid .entry)) (now (grid .exit)) ⌝ }
 {
+    let column = x as usize;
+    let row = y as usize;
     let at = row * side + column;
     draw(grid, at - least(width, column), at + 1, 3);
     if side <= row + 1 {
         return;
     }
     draw(grid, at + side - least(width + 1, column), at + side, 2);
-}
-
-// The same of signed coordinates.
-fn line_left(grid: &mut [u8], side: usize, x: i64, y: i64, width: usize)
-    requires { ⌜ (side ≤ 189) × (side * side ≤ length (now grid)) × Inside side x × Inside side y × (width < 200) ⌝ }
-    ensures { λ _. ⌜ Plotted side (lineLeft x y width) (now (grid .entry)) (now (grid .exit)) ⌝ }
-{
-    left_runs(grid, side, x as usize, y as usize, width);
 }
 
 // The rest of a line down of height modules, at an edge of the square.
