@@ -537,15 +537,6 @@ fn edge_down(grid: &mut [u8], side: usize, x: i64, y: i64, height: usize)
     }
 }
 
-// A module of a line whose two modules lie in the square.
-fn module_at(grid: &mut [u8], side: usize, column: usize, row: usize)
-    requires { ⌜ (side ≤ 189) × (side * side ≤ length (now grid)) × (1 ≤ column) × (column < side) × (row + 1 < side) ⌝ }
-    ensures { λ _. ⌜ Plotted side (lineModule (pos column) (pos row)) (now (grid .entry)) (now (grid .exit)) ⌝ }
-{
-    plot_at(grid, side, column, row, 3);
-    plot_at(grid, side, column - 1, row + 1, 2);
-}
-
 // The same where all of it lies in the square: no module is tested for that, which makes it fast.
 fn run_down(grid: &mut [u8], side: usize, column: usize, row: usize, height: usize)
     requires { ⌜ (side ≤ 189) × (side * side ≤ length (now grid)) × (1 ≤ column) × (column < side) × (1 ≤ height) × (row + height < side) ⌝ }
@@ -553,7 +544,8 @@ fn run_down(grid: &mut [u8], side: usize, column: usize, row: usize, height: usi
 {
     let mut i: usize = 0;
     while i < height - 1 {
-        module_at(grid, side, column, row + (i + 1));
+        plot_at(grid, side, column, row + (i + 1), 3);
+        plot_at(grid, side, column - 1, row + (i + 1) + 1, 2);
         i += 1;
     }
 }
