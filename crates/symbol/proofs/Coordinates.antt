@@ -160,6 +160,9 @@ negative a (suc b) h = by (ltb a (suc b)) refl
 pub inside-of : {s n : ℕ} {z : ℤ} → z ≡ pos n → n < s → Inside s z
 inside-of {s} e h = subst (λ (z : ℤ). Inside s z) (sym e) (record { whole = refl; within = h })
 
+pub inside-number : {s : ℕ} (n : ℕ) → n < s → s ≤ 189 → Inside s (toZ w64 n)
+inside-number n h k = inside-of (unsigned n (omega arith)) h
+
 module _ {s : ℕ} {x : ℤ} (f : SFits w64 x) (i : Inside s x) where
   pub inside : Inside s (toZ w64 (ofZ w64 x))
   inside = subst (λ (z : ℤ). Inside s z) (sym (toZ-ofZ f)) i

@@ -244,12 +244,6 @@ fn wide(x: u8) -> usize
     x as usize
 }
 
-fn wide32(x: u8) -> u32
-    ensures { λ r. ⌜ r ≡ x ⌝ }
-{
-    x as u32
-}
-
 // How far row i lies from the nearer edge.
 fn edge(side: usize, i: usize) -> usize
     requires { ⌜ i < side ⌝ }
@@ -300,7 +294,7 @@ fn four_modules(digit: u8) -> u32
     requires { ⌜ digit < 16 ⌝ }
     ensures { λ r. ⌜ r ≡ fourModules digit ⌝ }
 {
-    ((wide32(digit) * 134480385 / 8) & 16843009) + 33686018
+    (((digit as u32) * 134480385 / 8) & 16843009) + 33686018
 }
 
 // Four bytes of one number: a single store.
@@ -394,14 +388,6 @@ fn forth(x: i64, by: usize) -> i64
     ensures { λ r. ⌜ r ≡ x +ℤ pos by ⌝ }
 {
     x + (by as i64)
-}
-
-// A number as a coordinate.
-fn signed(n: usize) -> i64
-    requires { ⌜ n < 1000 ⌝ }
-    ensures { λ r. ⌜ r ≡ pos n ⌝ }
-{
-    n as i64
 }
 
 // Gives a place of the square its kind while it is data.
@@ -620,7 +606,7 @@ fn row_of(p: Spacing, n: usize) -> i64
     requires { ⌜ Spaced p × (n < p .m + 2) ⌝ }
     ensures { λ r. ⌜ (r ≡ rowOf (p .version) n) × Inside (p .side) r ⌝ }
 {
-    signed(line_of(p, n))
+    line_of(p, n) as i64
 }
 
 // Columns are counted from the right.
@@ -628,7 +614,7 @@ fn column_of(p: Spacing, n: usize) -> i64
     requires { ⌜ Spaced p × (n < p .m + 2) ⌝ }
     ensures { λ r. ⌜ (r ≡ columnOf (p .version) n) × Inside (p .side) r ⌝ }
 {
-    signed(p.side - 1 - line_of(p, n))
+    (p.side - 1 - line_of(p, n)) as i64
 }
 
 // The assistants at the left and right end of row n.
@@ -637,8 +623,8 @@ fn row_ends(grid: &mut [u8], p: Spacing, n: usize)
     ensures { λ _. ⌜ Plotted (p .side) (rowEnds (p .version) n) (now (grid .entry)) (now (grid .exit)) ⌝ }
 {
     let y = row_of(p, n);
-    assistant_if_odd(grid, p, n + p.m, signed(0), y);
-    assistant_if_odd(grid, p, n, signed(p.side - 1), y);
+    assistant_if_odd(grid, p, n + p.m, 0, y);
+    assistant_if_odd(grid, p, n, (p.side - 1) as i64, y);
 }
 
 // The assistants at the lower and upper end of column n.
@@ -647,8 +633,8 @@ fn column_ends(grid: &mut [u8], p: Spacing, n: usize)
     ensures { λ _. ⌜ Plotted (p .side) (columnEnds (p .version) n) (now (grid .entry)) (now (grid .exit)) ⌝ }
 {
     let x = column_of(p, n);
-    assistant_if_odd(grid, p, n + p.m, x, signed(p.side - 1));
-    assistant_if_odd(grid, p, n, x, signed(0));
+    assistant_if_odd(grid, p, n + p.m, x, (p.side - 1) as i64);
+    assistant_if_odd(grid, p, n, x, 0);
 }
 
 // The two lines from row n and column j.

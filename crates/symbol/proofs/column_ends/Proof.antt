@@ -1,10 +1,10 @@
 -- `column_ends` meets its contract.
-use mathlib.Core.Path.{refl, ap, _∙_}
+use mathlib.Core.Path.{refl, ap}
 use Prim.Native.Nat.{ℕ, _+_, _-_}
 use lib.IntN.{pos}
 use native.Mathlib.Omega.{arith}
 use Rattle.symbol.specs.Layout.{columnEnds}
-use Rattle.symbol.proofs.Coordinates.{ok, inside, inside-of}
+use Rattle.symbol.proofs.Coordinates.{ok, small, inside, inside-number}
 use Rattle.symbol.proofs.Lines.{roomy}
 use Rattle.symbol.proofs.Plots.{next, assisted}
 use borrow.Author.Needs.{needs}
@@ -13,26 +13,26 @@ use Rattle.symbol.proofs.column_ends.Tie as tie
 
 assistant-if-odd-requires : tie.Need-assistant-if-odd-requires
 assistant-if-odd-requires c κs =
-    let column-of = c .before .before .before .before .column-of in
-    (c .before .before .before .before .before .before .pre .0, inside (ok (column-of .result) (column-of .ok)) (column-of .ensures .1), inside (ok (c .signed .result) (c .signed .ok)) (inside-of (c .signed .ensures) (omega arith)))
+    let start = c .before .before .before .before .before in
+    let column-of = c .before .before .before .column-of in
+    (start .pre .0, inside (ok (column-of .result) (column-of .ok)) (column-of .ensures .1), inside-number (start .args .p .side - 1) (omega arith) (omega arith))
 
 assistant-if-odd-requires-2 : tie.Need-assistant-if-odd-requires-2
 assistant-if-odd-requires-2 c κs =
-    let column-of = c .before .before .before .before .before .before .before .before .before .column-of in
-    (roomy (c .before .before .before .before .before .before .before .before .before .before .before .pre .0) (c .before .before .before .before .assistant-if-odd .kept .0), inside (ok (column-of .result) (column-of .ok)) (column-of .ensures .1), inside (ok (c .signed2 .result) (c .signed2 .ok)) (inside-of (c .signed2 .ensures) (omega arith)))
+    let start = c .before .before .before .before .before .before .before .before .before in
+    let column-of = c .before .before .before .before .before .before .before .column-of in
+    (roomy (start .pre .0) (c .before .before .before .assistant-if-odd .kept .0), inside (ok (column-of .result) (column-of .ok)) (column-of .ensures .1), inside-number 0 (omega arith) (omega arith))
 
 returns : tie.Need-returns
 unfolding columnEnds
 returns c =
-    let start = c .before .before .before .before .before .before .before .before .before .before .before .before .before .before in
+    let start = c .before .before .before .before .before .before .before .before .before .before .before .before in
     let q = start .pre .0 .spaced in
-    let column-of = c .before .before .before .before .before .before .before .before .before .before .before .before .column-of in
-    let signed = c .before .before .before .before .before .before .before .before .signed in
-    let signed2 = c .before .before .before .signed2 in
-    next (assisted (ap (λ (k : ℕ). start .args .n + k) (q .m-is)) (ok (column-of .result) (column-of .ok)) (ok (signed .result) (signed .ok)) (column-of .ensures .0) (signed .ensures ∙ ap (λ (k : ℕ). pos (k - 1)) (q .side-is)) (c .before .before .before .before .before .before .before .assistant-if-odd .ensures))
-    (assisted {k = start .args .n} refl (ok (column-of .result) (column-of .ok)) (ok (signed2 .result) (signed2 .ok)) (column-of .ensures .0) (signed2 .ensures) (c .before .before .assistant-if-odd2 .ensures))
+    let column-of = c .before .before .before .before .before .before .before .before .before .before .column-of in
+    next (assisted (ap (λ (k : ℕ). start .args .n + k) (q .m-is)) (ok (column-of .result) (column-of .ok)) (small (pos (start .args .p .side - 1)) (omega arith)) (column-of .ensures .0) (ap (λ (k : ℕ). pos (k - 1)) (q .side-is)) (c .before .before .before .before .before .before .assistant-if-odd .ensures))
+    (assisted {k = start .args .n} refl (ok (column-of .result) (column-of .ok)) (small (pos 0) (omega arith)) (column-of .ensures .0) refl (c .before .before .assistant-if-odd2 .ensures))
 
 pub column-ends-spec : {M : Type 1} → statement M
 column-ends-spec =
-    tie.close (tie.spec (λ c κs. search needs) (λ c. search needs) (λ c. search needs) (λ c κs. search needs)
-    assistant-if-odd-requires (λ c κs. search needs) assistant-if-odd-requires-2 (λ c. search needs) returns)
+    tie.close (tie.spec (λ c κs. search needs) (λ c. search needs) (λ c. search needs) (λ c. small _ (omega arith))
+    assistant-if-odd-requires assistant-if-odd-requires-2 (λ c. search needs) returns)
