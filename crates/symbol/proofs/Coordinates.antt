@@ -65,18 +65,19 @@ small x h = record { sfits = omega arith }
 pub unsigned : (n : ℕ) → n < 1000 → toZ w64 n ≡ pos n
 unsigned n h = toZ-ofZ {z = pos n} (small (pos n) (omega arith))
 
-module _ (x : ℤ) (n : ℕ) (f : SFits w64 x) (a : mag x < 1000) (b : n < 1000) where
-  pub back-fits : SFits w64 (toZ w64 (ofZ w64 x) -ℤ toZ w64 n)
-  back-fits = simp (toZ-ofZ f, unsigned n b) (small (x -ℤ pos n) (omega (arith, mag-back x n)))
+-- a coordinate moved by a number
+module _ {x : ℤ} (n : ℕ) (f : SFits w64 x) (a : mag x < 1000) (b : n < 1000) where
+  pub back-is : toZ w64 (ofZ w64 x) -ℤ toZ w64 n ≡ x -ℤ pos n
+  back-is = simp (toZ-ofZ f, unsigned n b)
 
-  pub back-is : toZ w64 (ofZ w64 (toZ w64 (ofZ w64 x) -ℤ toZ w64 n)) ≡ x -ℤ pos n
-  back-is = toZ-ofZ back-fits ∙ simp (toZ-ofZ f, unsigned n b)
+  pub back-fits : SFits w64 (toZ w64 (ofZ w64 x) -ℤ toZ w64 n)
+  back-fits = rw back-is (small (x -ℤ pos n) (omega (arith, mag-back x n)))
+
+  pub forth-is : toZ w64 (ofZ w64 x) +ℤ toZ w64 n ≡ x +ℤ pos n
+  forth-is = simp (toZ-ofZ f, unsigned n b)
 
   pub forth-fits : SFits w64 (toZ w64 (ofZ w64 x) +ℤ toZ w64 n)
-  forth-fits = simp (toZ-ofZ f, unsigned n b) (small (x +ℤ pos n) (omega (arith, mag-forth x n)))
-
-  pub forth-is : toZ w64 (ofZ w64 (toZ w64 (ofZ w64 x) +ℤ toZ w64 n)) ≡ x +ℤ pos n
-  forth-is = toZ-ofZ forth-fits ∙ simp (toZ-ofZ f, unsigned n b)
+  forth-fits = rw forth-is (small (x +ℤ pos n) (omega (arith, mag-forth x n)))
 
 pub square-le : (s : ℕ) → s ≤ 189 → s * s ≤ 35721
 square-le s h = mul-le-mul h h

@@ -41,9 +41,6 @@ tabled v lo hi =
     }
 
 -- the numbers as the code has them
-pub below-side : (v : ℕ) → 4 ≤ v → v ≤ 84 → {s k m : ℕ} → s ≡ sideOf v → k ≡ kOf v → m ≡ mOf v → (m * k ≤ s) × (s ≤ 189)
-below-side v lo hi {s} {k} {m} d e f = let g : m * k ≡ mOf v * kOf v = rw (e, f) refl in (omega (arith, tabled v lo hi .last), omega arith)
-
 pub spaced : (p : Spacing) → 4 ≤ p .version → p .version ≤ 84 → p .side ≡ sideOf (p .version) → p .k ≡ kOf (p .version) → p .m ≡ mOf (p .version)
     → p .r ≡ p .side - p .m * p .k → Spaced p
 spaced p lo hi s k m r =

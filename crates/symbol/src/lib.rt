@@ -238,12 +238,6 @@ const FINDERS: [[u8; 7]; 4] = [
     [0x75, 0x75, 0x75, 0x05, 0x7D, 0x01, 0x7F],
 ];
 
-fn wide(x: u8) -> usize
-    ensures { λ r. ⌜ r ≡ x ⌝ }
-{
-    x as usize
-}
-
 // How far row i lies from the nearer edge.
 fn edge(side: usize, i: usize) -> usize
     requires { ⌜ i < side ⌝ }
@@ -375,21 +369,6 @@ fn corners(out: &mut [u8], side: usize)
     line_ends(out, side, side - 9, side);
 }
 
-// A coordinate moved back and forth.
-fn back(x: i64, by: usize) -> i64
-    requires { ⌜ (mag x < 1000) × (by < 1000) ⌝ }
-    ensures { λ r. ⌜ r ≡ x -ℤ pos by ⌝ }
-{
-    x - (by as i64)
-}
-
-fn forth(x: i64, by: usize) -> i64
-    requires { ⌜ (mag x < 1000) × (by < 1000) ⌝ }
-    ensures { λ r. ⌜ r ≡ x +ℤ pos by ⌝ }
-{
-    x + (by as i64)
-}
-
 // Gives a place of the square its kind while it is data.
 fn plot_at(grid: &mut [u8], side: usize, column: usize, row: usize, kind: u8)
     requires { ⌜ (side ≤ 189) × (side * side ≤ length (now grid)) × (column < side) × (row < side) ⌝ }
@@ -429,9 +408,9 @@ fn three(grid: &mut [u8], side: usize, x: i64, y: i64, kind: u8)
     requires { ⌜ (side ≤ 189) × (side * side ≤ length (now grid)) × (mag x < 1000) ⌝ }
     ensures { λ _. ⌜ Plotted side (threeAt x y kind) (now (grid .entry)) (now (grid .exit)) ⌝ }
 {
-    plot(grid, side, back(x, 1), y, 2);
+    plot(grid, side, x - 1, y, 2);
     plot(grid, side, x, y, kind);
-    plot(grid, side, forth(x, 1), y, 2);
+    plot(grid, side, x + 1, y, 2);
 }
 
 // An assistant pattern: a dark module in a light square of three.
@@ -439,9 +418,9 @@ fn assistant(grid: &mut [u8], side: usize, x: i64, y: i64)
     requires { ⌜ (side ≤ 189) × (side * side ≤ length (now grid)) × (mag x < 1000) × (mag y < 1000) ⌝ }
     ensures { λ _. ⌜ Plotted side (assistant x y) (now (grid .entry)) (now (grid .exit)) ⌝ }
 {
-    three(grid, side, x, back(y, 1), 2);
+    three(grid, side, x, y - 1, 2);
     three(grid, side, x, y, 3);
-    three(grid, side, x, forth(y, 1), 2);
+    three(grid, side, x, y + 1, 2);
 }
 
 // An assistant pattern where n is odd.
@@ -461,7 +440,7 @@ fn line_module(grid: &mut [u8], side: usize, x: i64, y: i64)
     ensures { λ _. ⌜ Plotted side (lineModule x y) (now (grid .entry)) (now (grid .exit)) ⌝ }
 {
     plot(grid, side, x, y, 3);
-    plot(grid, side, back(x, 1), forth(y, 1), 2);
+    plot(grid, side, x - 1, y + 1, 2);
 }
 
 // What a place holds after a kind was drawn there: what is no longer data stays.
@@ -518,7 +497,7 @@ fn edge_down(grid: &mut [u8], side: usize, x: i64, y: i64, height: usize)
 {
     let mut i: usize = 0;
     while i < height - 1 {
-        line_module(grid, side, x, forth(y, i + 1));
+        line_module(grid, side, x, y + (i + 1) as i64);
         i += 1;
     }
 }
@@ -568,8 +547,8 @@ fn spacing_of(version: usize) -> Spacing
     ensures { λ r. ⌜ Spaced r × (r .version ≡ version) ⌝ }
 {
     let side = Version { number: version }.side();
-    let k = wide(MODULE_K[version - 1]);
-    let m = wide(MODULE_M[version - 1]);
+    let k = MODULE_K[version - 1] as usize;
+    let m = MODULE_M[version - 1] as usize;
     Spacing {
         version,
         side,
