@@ -7,7 +7,7 @@ use native.Mathlib.Omega.{arith}
 use lib.Dec.{T, ltb}
 use lib.IntN.{ℤ, pos, negsuc, natAbs, negℤ, _+ℤ_, _-ℤ_, subℕ, +ℤ-assoc, negℤ-+ℤ}
 use lib.Signed.{ltZ, mag, nonNeg}
-use borrow.Author.Tests.{lt-ltb, le-ltb, ltb-true, ltb-false}
+use borrow.Author.Tests.{lt-ltb, le-ltb, ltb-true}
 use mir.Syntax.{w64}
 use mir.Val.{Fits, SFits, toZ, ofZ}
 use mir.Facts.{toZ-ofZ, fits-natAbs}
@@ -18,9 +18,6 @@ true-false : true ≡ false → ⊥
 true-false e = subst (λ (b : Bool). T b) e tt
 
 -- a signed number as the machine reads it
-pub same : {x : ℤ} → SFits w64 x → toZ w64 (ofZ w64 x) ≡ x
-same f = toZ-ofZ f
-
 pub below-zero : {x : ℤ} (b : Bool) → SFits w64 x → ltZ (toZ w64 (ofZ w64 x)) (toZ w64 (ofZ w64 (pos 0))) ≡ b → ltZ x (pos 0) ≡ b
 below-zero b f e = simp (toZ-ofZ f) at e
 
@@ -107,15 +104,10 @@ module _ (s : ℕ) where
   place-below (pos x) (negsuc y) l h = refl
   place-below (negsuc x) y l h = refl
 
-  pub place-in : (x y : ℤ) → ltZ x (pos 0) ≡ false → ltZ y (pos 0) ≡ false → natAbs x < s → natAbs y < s → natAbs y * s + natAbs x ≡ placeAt s x y
-  unfolding placeAt
-  place-in (pos x) (pos y) a b l h = simp (lt-ltb x s l, lt-ltb y s h)
-  place-in (pos x) (negsuc y) a b l h = absurd (true-false b)
-  place-in (negsuc x) y a b l h = absurd (true-false a)
-
 -- the place of two numbers
 pub whole-in : (s x y : ℕ) → x < s → y < s → placeAt s (pos x) (pos y) ≡ y * s + x
-whole-in s x y l h = sym (place-in s (pos x) (pos y) (le-ltb x 0 (omega arith)) (le-ltb y 0 (omega arith)) l h)
+unfolding placeAt
+whole-in s x y l h = simp (lt-ltb x s l, lt-ltb y s h)
 
 -- the same of signed numbers as the machine reads them
 module _ (s : ℕ) (x y : ℤ) (f : SFits w64 x) (g : SFits w64 y) where
@@ -143,19 +135,11 @@ take-off a b c = +ℤ-assoc (pos a) (negℤ (pos b)) (negℤ (pos c)) ∙ ap (λ
 -- a coordinate moved to the left stays inside or leaves the square
 pub difference : (a b : ℕ) → b ≤ a → pos a -ℤ pos b ≡ pos (a - b)
 difference a zero h = let e : a + 0 ≡ a - 0 = omega arith in ap pos e
-difference a (suc b) h = by (ltb a (suc b)) refl
-  where
-    by : (t : Bool) → ltb a (suc b) ≡ t → cond t (negsuc (suc b - suc a)) (pos (a - suc b)) ≡ pos (a - suc b)
-    by true e = absurd (let k : a < suc b = ltb-true a (suc b) e in omega arith)
-    by false e = refl
+difference a (suc b) h = simp (le-ltb a (suc b) h)
 
 pub negative : (a b : ℕ) → a < b → ltZ (pos a -ℤ pos b) (pos 0) ≡ true
 negative a zero h = absurd (omega arith)
-negative a (suc b) h = by (ltb a (suc b)) refl
-  where
-    by : (t : Bool) → ltb a (suc b) ≡ t → ltZ (cond t (negsuc (suc b - suc a)) (pos (a - suc b))) (pos 0) ≡ true
-    by true e = refl
-    by false e = absurd (let k : suc b ≤ a = ltb-false a (suc b) e in omega arith)
+negative a (suc b) h = simp (lt-ltb a (suc b) h)
 
 -- a coordinate of the square
 pub inside-of : {s n : ℕ} {z : ℤ} → z ≡ pos n → n < s → Inside s z

@@ -206,6 +206,10 @@ module _ (s r : ℕ) (big : 23 ≤ s) (in-row : r < s) where
               ∙ ap (λ (n : ℕ). 2 + finderRow s 1 r / 2 ^ n % 2) (sym e)
               ∙ sym (in-finder s r c l (omega (arith, d)) ∙ simp (le-ltb c 7 (omega arith)))
 
+-- one row more
+row-next : (s r : ℕ) → r * s + s ≡ (r + 1) * s
+row-next s r = sym (suc-mul r s) ∙ ap (λ (n : ℕ). n * s) (sym (add-one r))
+
 -- a row of the corners from its ends
 module _ (s r : ℕ) (big : 23 ≤ s) (in-row : r < s) where
   -- two stretches of nine
@@ -256,7 +260,7 @@ module _ (s r : ℕ) (big : 23 ≤ s) (in-row : r < s) where
       (stored-as (cornerKind s) (along s r (λ i. 1) (omega arith) (omega arith) (λ k h j. sym (arm-right s r big in-row arm k (omega arith) (omega arith)))) b)
 
   -- the places between the ends of a row are data
-  pub row-done : {g g' : List ℕ} → UpTo (cornerKind s) (s * s) (r * s) g → Ends (cornerKind s) (r * s) (r * s + s) g g' → UpTo (cornerKind s) (s * s) (r * s + s) g'
+  row-done : {g g' : List ℕ} → UpTo (cornerKind s) (s * s) (r * s) g → Ends (cornerKind s) (r * s) (r * s + s) g g' → UpTo (cornerKind s) (s * s) (r * s + s) g'
   row-done {g} {g'} u e =
       record {
         done = λ i h. elim (decLt i (r * s)) [
@@ -272,11 +276,15 @@ module _ (s r : ℕ) (big : 23 ≤ s) (in-row : r < s) where
         blank = λ i h k. e .after i h ∙ u .blank i (omega arith) k;
       }
 
-  pub row-beyond : {g g' : List ℕ} → Ends (cornerKind s) (r * s) (r * s + s) g g' → Beyond (s * s) g g'
-  row-beyond e = record { size = e .size; after = λ i h. e .after i (omega (arith, row-end s r in-row)) }
+  pub row-more : {g₀ g g' : List ℕ} → UpTo (cornerKind s) (s * s) (r * s) g × Beyond (s * s) g₀ g → Ends (cornerKind s) (r * s) (r * s + s) g g'
+      → UpTo (cornerKind s) (s * s) ((r + 1) * s) g' × Beyond (s * s) g₀ g'
+  row-more {g₀} {g} {g'} u e = (
+    subst (λ (n : ℕ). UpTo (cornerKind s) (s * s) n g') (row-next s r) (row-done (u .0) e),
+    record { size = e .size ∙ u .1 .size; after = λ i h. e .after i (omega (arith, row-end s r in-row)) ∙ u .1 .after i h },
+  )
 
 -- rows 9 to s − 10 are data
-pub data-rows : (s : ℕ) → 23 ≤ s → {g : List ℕ} → UpTo (cornerKind s) (s * s) (9 * s) g → UpTo (cornerKind s) (s * s) ((s - 9) * s) g
+data-rows : (s : ℕ) → 23 ≤ s → {g : List ℕ} → UpTo (cornerKind s) (s * s) (9 * s) g → UpTo (cornerKind s) (s * s) ((s - 9) * s) g
 data-rows s big {g} u =
     record {
       done = λ i h. elim (decLt i (9 * s)) [
@@ -295,6 +303,22 @@ data-rows s big {g} u =
     high : (i : ℕ) → i < (s - 9) * s → i / s < s - 9
     high i h = div-lt-iff-lt-mul {k = s} {x = i} {y = s - 9} pos-side .1 h
 
+-- the rows of the information arms, and those between them
+pub upper-arm : (s : ℕ) → 23 ≤ s → edge s 8 ≡ 8
+upper-arm s big = edge-near s 8 (omega arith)
+
+pub lower-arm : (s : ℕ) → 23 ≤ s → edge s (s - 9) ≡ 8
+lower-arm s big = edge-far s (s - 9) (omega arith) ∙ (let e : s - 1 - (s - 9) ≡ 8 = omega arith in e)
+
+pub middle-rows : (s : ℕ) → 23 ≤ s → {g₁ g₂ g₃ g₄ : List ℕ} → UpTo (cornerKind s) (s * s) (8 * s) g₂ × Beyond (s * s) g₁ g₂
+    → Ends (cornerKind s) (8 * s) (8 * s + s) g₂ g₃ → Ends (cornerKind s) ((s - 9) * s) ((s - 9) * s + s) g₃ g₄
+    → UpTo (cornerKind s) (s * s) ((s - 8) * s) g₄ × Beyond (s * s) g₁ g₄
+middle-rows s big {g₁} {g₂} {g₃} {g₄} u a b =
+    let p = row-more s 8 big (omega arith) u a in
+    let q = row-more s (s - 9) big (omega arith) (data-rows s big (p .0), p .1) b in
+    let e : s - 9 + 1 ≡ s - 8 = omega arith in
+    (subst (λ (n : ℕ). UpTo (cornerKind s) (s * s) (n * s) g₄) e (q .0), q .1)
+
 pub all-blank : (f : ℕ → ℕ) (n m : ℕ) {g g' : List ℕ} → m ≡ 0 → Stored (λ i. 0) 0 n g g' → UpTo f n m g'
 all-blank f n m e s = record { done = λ i h. absurd (omega arith); blank = λ i h k. s .here i (omega arith) k }
 
@@ -307,9 +331,6 @@ near-lower s r h k = omega (arith, edge-bottom s r)
 pub beyond-none : {n : ℕ} {g : List ℕ} → Beyond n g g
 beyond-none = record { size = refl; after = λ i h. refl }
 
-pub beyond-next : {n : ℕ} {g g' g'' : List ℕ} → Beyond n g g' → Beyond n g' g'' → Beyond n g g''
-beyond-next a b = record { size = b .size ∙ a .size; after = λ i h. b .after i h ∙ a .after i h }
-
 pub corners-stored : {f : ℕ → ℕ} {n : ℕ} {g g₁ g₂ g₃ : List ℕ} → Stored (λ i. 0) 0 n g g₁ → Beyond n g₁ g₂ → Beyond n g₂ g₃ → UpTo f n n g₃ → Stored f 0 n g g₃
 corners-stored a b c u =
     record {
@@ -318,7 +339,3 @@ corners-stored a b c u =
       before = λ i h. absurd (omega arith);
       after = λ i h. c .after i h ∙ b .after i h ∙ a .after i h;
     }
-
--- one row more
-pub row-next : (s r : ℕ) → r * s + s ≡ (r + 1) * s
-row-next s r = sym (suc-mul r s) ∙ ap (λ (n : ℕ). n * s) (sym (add-one r))

@@ -238,18 +238,6 @@ const FINDERS: [[u8; 7]; 4] = [
     [0x75, 0x75, 0x75, 0x05, 0x7D, 0x01, 0x7F],
 ];
 
-// How far row i lies from the nearer edge.
-fn edge(side: usize, i: usize) -> usize
-    requires { ⌜ i < side ⌝ }
-    ensures { λ r. ⌜ r ≡ edge side i ⌝ }
-{
-    let far = side - 1 - i;
-    if i < far {
-        return i;
-    }
-    far
-}
-
 fn finder_at(corner: usize, row: usize) -> u8
     requires { ⌜ (corner < 4) × (row < 7) ⌝ }
     ensures { λ r. ⌜ (r ≡ getD (getD finders corner []) row 0) × (r < 128) ⌝ }
@@ -335,26 +323,14 @@ fn information_line(out: &mut [u8], side: usize, row: usize)
     run(out, at + side - 9, at + side, 1);
 }
 
-// The ends of a row near the upper or lower edge.
-fn line(out: &mut [u8], side: usize, row: usize)
-    requires { ⌜ RowRoom side row (now out) × (edge side row < 9) ⌝ }
-    ensures { λ _. ⌜ Ends (cornerKind side) (row * side) (row * side + side) (now (out .entry)) (now (out .exit)) ⌝ }
-{
-    if edge(side, row) < 8 {
-        finder_line(out, side, row);
-        return;
-    }
-    information_line(out, side, row);
-}
-
-// The ends of rows from to below to; all that comes later is still data.
-fn line_ends(out: &mut [u8], side: usize, from: usize, to: usize)
-    requires { ⌜ (23 ≤ side) × (side ≤ 189) × (side * side ≤ length (now out)) × (from ≤ to) × (to ≤ side) × ((r : ℕ) → from ≤ r → r < to → edge side r < 9) × UpTo (cornerKind side) (side * side) (from * side) (now out) ⌝ }
+// The ends of rows from to below to, through finders or their separators; all that comes later is still data.
+fn finder_lines(out: &mut [u8], side: usize, from: usize, to: usize)
+    requires { ⌜ (23 ≤ side) × (side ≤ 189) × (side * side ≤ length (now out)) × (from ≤ to) × (to ≤ side) × ((r : ℕ) → from ≤ r → r < to → edge side r < 8) × UpTo (cornerKind side) (side * side) (from * side) (now out) ⌝ }
     ensures { λ _. ⌜ UpTo (cornerKind side) (side * side) (to * side) (now (out .exit)) × Beyond (side * side) (now (out .entry)) (now (out .exit)) ⌝ }
 {
     let mut row = from;
     while row < to {
-        line(out, side, row);
+        finder_line(out, side, row);
         row += 1;
     }
 }
@@ -365,8 +341,10 @@ fn corners(out: &mut [u8], side: usize)
     ensures { λ _. ⌜ Stored (cornerKind side) 0 (side * side) (now (out .entry)) (now (out .exit)) ⌝ }
 {
     run(out, 0, side * side, 0);
-    line_ends(out, side, 0, 9);
-    line_ends(out, side, side - 9, side);
+    finder_lines(out, side, 0, 8);
+    information_line(out, side, 8);
+    information_line(out, side, side - 9);
+    finder_lines(out, side, side - 8, side);
 }
 
 // Gives a place of the square its kind while it is data.

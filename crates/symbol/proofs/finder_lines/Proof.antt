@@ -1,12 +1,12 @@
--- `line_ends` meets its contract.
-use Rattle.symbol.proofs.CornerRows.{row-room, row-next, row-done, row-beyond, beyond-none, beyond-next}
+-- `finder_lines` meets its contract.
+use Rattle.symbol.proofs.CornerRows.{row-room, row-more, beyond-none}
 use Rattle.symbol.specs.Inner.{UpTo, Beyond}
 use Rattle.symbol.specs.Layout.{cornerKind}
 use mathlib.Core.Path.{_≡_, subst}
 use Prim.Native.Nat.{ℕ, _-_, _*_, _<_, _≤_}
 use native.Mathlib.Omega.{arith}
-use Rattle.symbol.proofs.line_ends.Statement.{statement}
-use Rattle.symbol.proofs.line_ends.Tie as tie
+use Rattle.symbol.proofs.finder_lines.Statement.{statement}
+use Rattle.symbol.proofs.finder_lines.Tie as tie
 
 abbrev Inv-loop : tie.InvT-loop
 Inv-loop out₀ side from to row₀ out row = UpTo (cornerKind side) (side * side) (row * side) out × Beyond (side * side) out₀ out × (from ≤ row) × (row ≤ to)
@@ -17,8 +17,8 @@ abbrev μ-loop : tie.MeasureT-loop
 loop-holds : tie.Need-loop-holds Inv-loop μ-loop
 loop-holds c = (c .before .pre .6, beyond-none, omega arith, c .before .pre .3)
 
-line-requires : tie.Need-line-requires Inv-loop μ-loop
-line-requires c κs =
+finder-line-requires : tie.Need-finder-line-requires Inv-loop μ-loop
+finder-line-requires c κs =
     let start = c .before .before .before .before in
     let loop = c .before .before .loop in
     let loop-test = c .before .loop-test in
@@ -35,8 +35,10 @@ loop-again c =
     let start = c .before .before .before .before .before .before .before in
     let loop = c .before .before .before .before .before .loop in
     let loop-test = c .before .before .before .before .loop-test in
-    let line = c .before .before .line in
-    let l : loop .row < start .args .side = omega (arith, loop-test .taken, start .pre .4) in (subst (λ (n : ℕ). UpTo (cornerKind (start .args .side)) (start .args .side * start .args .side) n (line .last .0)) (row-next (start .args .side) (loop .row)) (row-done (start .args .side) (loop .row) (start .pre .0) l (loop .inv .0) (line .ensures)), beyond-next (loop .inv .1) (row-beyond (start .args .side) (loop .row) (start .pre .0) l (line .ensures)), omega (arith, loop .inv .2), omega (arith, loop-test .taken))
+    let line = c .before .before .finder-line in
+    let l : loop .row < start .args .side = omega (arith, loop-test .taken, start .pre .4) in
+    let p = row-more (start .args .side) (loop .row) (start .pre .0) l (loop .inv .0, loop .inv .1) (line .ensures) in
+    (p .0, p .1, omega (arith, loop .inv .2), omega (arith, loop-test .taken))
 
 returns : tie.Need-returns Inv-loop μ-loop
 returns c =
@@ -44,8 +46,8 @@ returns c =
     let loop = c .before .loop in
     let e : loop .row ≡ start .args .to = omega (arith, c .loop-test .left, loop .inv .3) in (subst (λ (n : ℕ). UpTo (cornerKind (start .args .side)) (start .args .side * start .args .side) (n * start .args .side) (loop .out)) e (loop .inv .0), loop .inv .1)
 
-pub line-ends-spec : {M : Type 1} → statement M
-line-ends-spec =
-    tie.close (tie.spec Inv-loop μ-loop loop-holds line-requires add-row
+pub finder-lines-spec : {M : Type 1} → statement M
+finder-lines-spec =
+    tie.close (tie.spec Inv-loop μ-loop loop-holds finder-line-requires add-row
     (λ c. omega (arith, c .before .before .before .before .loop-test .taken)) loop-again (λ c. c .before .loop .inv .1 .size)
     returns)
