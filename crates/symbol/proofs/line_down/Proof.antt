@@ -1,6 +1,11 @@
 -- `line_down` meets its contract.
 use mathlib.Core.Path.{refl}
 use lib.IntN.{natAbs}
+use lib.ListN.{length}
+use lib.Signed.{mag}
+use mir.Syntax.{w64}
+use mir.Val.{toZ, ofZ}
+use Prim.Native.Nat.{_*_, _<_, _≤_}
 use native.Mathlib.Omega.{arith}
 use borrow.Author.Needs.{needs}
 use Rattle.symbol.specs.Layout.{lineDown}
@@ -9,10 +14,9 @@ use Rattle.symbol.proofs.Coordinates.{read, cast-inside, near-inside}
 use Rattle.symbol.proofs.line_down.Statement.{statement}
 use Rattle.symbol.proofs.line_down.Tie as tie
 
-edge-down-requires : tie.Need-edge-down-requires
-edge-down-requires c κs =
-    let start = c .before .before .before in
-    (start .pre .0, start .pre .1, near-inside (start .fits .x) (start .pre .2) (start .pre .0), near-inside (start .fits .y) (start .pre .3) (start .pre .0), start .pre .4, start .pre .5)
+-- what `edge_down` asks
+edge : (s : tie.Start) → (s .args .side ≤ 189) × (s .args .side * s .args .side ≤ length (s .args .grid .now)) × (mag (toZ w64 (ofZ w64 (s .args .x))) < 200) × (mag (toZ w64 (ofZ w64 (s .args .y))) < 200) × (1 ≤ s .args .height) × (s .args .height < 200)
+edge s = (s .pre .0, s .pre .1, near-inside (s .fits .x) (s .pre .2) (s .pre .0), near-inside (s .fits .y) (s .pre .3) (s .pre .0), s .pre .4, s .pre .5)
 
 returns : tie.Need-returns
 returns c =
@@ -21,11 +25,6 @@ returns c =
 
 add-if2 : tie.Need-add-if2
 add-if2 c = let start = c .before .before in omega (arith, read natAbs (start .fits .y), start .pre .3 .within)
-
-edge-down-requires-2 : tie.Need-edge-down-requires-2
-edge-down-requires-2 c κs =
-    let start = c .before .before .before .before in
-    (start .pre .0, start .pre .1, near-inside (start .fits .x) (start .pre .2) (start .pre .0), near-inside (start .fits .y) (start .pre .3) (start .pre .0), start .pre .4, start .pre .5)
 
 returns-2 : tie.Need-returns-2
 returns-2 c =
@@ -40,5 +39,6 @@ returns-3 c =
 pub line-down-spec : {M : Type 1} → statement M
 line-down-spec =
     tie.close (tie.spec (λ c. cast-inside (c .before .fits .x) (c .before .pre .2) (c .before .pre .0))
-    (λ c. cast-inside (c .before .fits .y) (c .before .pre .3) (c .before .pre .0)) edge-down-requires (λ c. search needs) returns
-    add-if2 edge-down-requires-2 (λ c. search needs) returns-2 (λ c κs. search needs) (λ c. search needs) returns-3)
+    (λ c. cast-inside (c .before .fits .y) (c .before .pre .3) (c .before .pre .0)) (λ c κs. edge (c .before .before .before))
+    (λ c. search needs) returns add-if2 (λ c κs. edge (c .before .before .before .before)) (λ c. search needs) returns-2
+    (λ c κs. search needs) (λ c. search needs) returns-3)
