@@ -27,7 +27,8 @@ pub plotAll-beyond : (s : ℕ) (ps : List Plot) (g r : List ℕ) → length g �
 plotAll-beyond s ps g r h =
     ext-getD 0 (plotAll s ps (g ++ r)) (plotAll s ps g ++ r) (omega (arith, long, length-append g r, all-length s ps (g ++ r), length-append (plotAll s ps g) r))
     (λ i l. elim (decLt i (s * s)) [
-      | yes k ↦ all-at s ps (g ++ r) i k (omega (arith, length-append g r)) ∙ ap (λ (a : ℕ). drawn a (first s ps i)) (List·getD-append g r 0 i (omega arith))
+      | yes k ↦ all-at s ps (g ++ r) i k (omega (arith, length-append g r)) ∙ ap (λ (a : ℕ). drawn a (first s ps i))
+          (List·getD-append g r 0 i (omega arith))
           ∙ sym (List·getD-append (plotAll s ps g) r 0 i (omega (arith, long)) ∙ all-at s ps g i k (omega arith))
       | no k ↦ all-beyond s ps (g ++ r) i (omega arith) ∙ tail-same g (plotAll s ps g) r i (sym long) (omega arith)
     ])
@@ -72,10 +73,12 @@ module _ (v : ℕ) (out : List ℕ) where
         unfolding layoutWritten layoutOf plotAll
         small t = (answered, rw (← answered) (simp (lt-ltb v 4 t) filled))
 
-        pub large : 4 ≤ v → {w k : ℕ} {g' : List ℕ} → w ≡ v → k ≡ sideOf w → Plotted k (alignment w) g g' → (0 ≡ layoutRefusal v out) × (g' ≡ layoutWritten v out)
+        pub large : 4 ≤ v → {w k : ℕ} {g' : List ℕ} → w ≡ v → k ≡ sideOf w → Plotted k (alignment w) g g'
+            → (0 ≡ layoutRefusal v out) × (g' ≡ layoutWritten v out)
         unfolding layoutWritten layoutOf
         large t {w} {k} {g'} d z p =
-            let q : Plotted (sideOf v) (alignment v) g g' = subst (λ (n : ℕ). Plotted (sideOf n) (alignment n) g g') d (subst (λ (n : ℕ). Plotted n (alignment w) g g') z p) in (
+            let q : Plotted (sideOf v) (alignment v) g g' = subst (λ (n : ℕ). Plotted (sideOf n) (alignment n) g g') d
+            (subst (λ (n : ℕ). Plotted n (alignment w) g g') z p) in (
               answered,
               rw (← answered)
                   (simp (le-ltb v 4 t)

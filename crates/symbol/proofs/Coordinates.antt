@@ -145,6 +145,9 @@ negative a (suc b) h = simp (lt-ltb a (suc b) h)
 pub inside-of : {s n : ℕ} {z : ℤ} → z ≡ pos n → n < s → Inside s z
 inside-of {s} e h = subst (λ (z : ℤ). Inside s z) (sym e) (record { whole = refl; within = h })
 
+pub inside-call : {s : ℕ} {x : ℤ} → mag x < 2 ^ 63 → Inside s x → Inside s (toZ w64 (ofZ w64 x))
+inside-call {s} {x} h i = subst (λ (z : ℤ). Inside s z) (sym (toZ-ofZ (ok x h))) i
+
 pub inside-number : {s : ℕ} (n : ℕ) → n < s → s ≤ 189 → Inside s (toZ w64 n)
 inside-number n h k = inside-of (unsigned n (omega arith)) h
 

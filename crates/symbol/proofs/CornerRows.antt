@@ -84,7 +84,8 @@ module _ (s r c : ℕ) where
 
   ring-is : (n : ℕ) → edge s r ≤ n → edge s c ≤ n → (edge s r < n → edge s c ≡ n) → ring s r c ≡ n
   ring-is n a b k =
-      ring-max (λ (m : ℕ). m ≡ n) (λ l. k (omega arith)) (λ l. elim (decLt (edge s r) n) [ yes h ↦ (let z = k h in omega arith) | no h ↦ omega arith ])
+      ring-max (λ (m : ℕ). m ≡ n) (λ l. k (omega arith)) (λ l. elim (decLt (edge s r) n)
+      [ yes h ↦ (let z = k h in omega arith) | no h ↦ omega arith ])
 
   pub in-separator : edge s r ≤ 7 → edge s c ≤ 7 → (edge s r < 7 → edge s c ≡ 7) → cornerAt s r c ≡ 2
   unfolding cornerAt
@@ -213,7 +214,8 @@ row-next s r = sym (suc-mul r s) ∙ ap (λ (n : ℕ). n * s) (sym (add-one r))
 -- a row of the corners from its ends
 module _ (s r : ℕ) (big : 23 ≤ s) (in-row : r < s) where
   -- two stretches of nine
-  two-ends : {m n k : ℕ} {g g₁ g₂ : List ℕ} → m ≡ r * s + 9 → n + 9 ≡ r * s + s → k ≡ r * s + s → Stored (cornerKind s) (r * s) m g g₁ → Stored (cornerKind s) n k g₁ g₂
+  two-ends : {m n k : ℕ} {g g₁ g₂ : List ℕ} → m ≡ r * s + 9 → n + 9 ≡ r * s + s → k ≡ r * s + s → Stored (cornerKind s) (r * s) m g g₁
+      → Stored (cornerKind s) n k g₁ g₂
       → Ends (cornerKind s) (r * s) (r * s + s) g g₂
   two-ends d e f a b =
       record {
@@ -230,10 +232,12 @@ module _ (s r : ℕ) (big : 23 ≤ s) (in-row : r < s) where
       → (right < 128) × ((edge s r < 7 → right ≡ finderRow s 1 r) × (edge s r ≡ 7 → right ≡ 0))
       → {g g₁ g₂ : List ℕ} → r * s + s ≤ length g
       → Stored (λ i. 2 + 2 * left / 2 ^ (7 - (i - r * s)) % 2) (r * s) (r * s + 8) g g₁
-      → Stored (λ i. 2 + right / 2 ^ (7 - (i - (r * s + s - 8))) % 2) (r * s + s - 8) (r * s + s - 8 + 8) (set (set g₁ (r * s + 8) 1) (r * s + s - 9) 1) g₂
+      → Stored (λ i. 2 + right / 2 ^ (7 - (i - (r * s + s - 8))) % 2) (r * s + s - 8) (r * s + s - 8 + 8)
+      (set (set g₁ (r * s + 8) 1) (r * s + s - 9) 1) g₂
       → Ends (cornerKind s) (r * s) (r * s + s) g g₂
   finder-row left right near l q {g} {g₁} {g₂} room a b =
-      two-ends (let z : r * s + 8 + 1 ≡ r * s + 9 = omega arith in z) (let z : r * s + s - 9 + 9 ≡ r * s + s = omega arith in z) (let z : r * s + s - 8 + 8 ≡ r * s + s = omega arith in z)
+      two-ends (let z : r * s + 8 + 1 ≡ r * s + 9 = omega arith in z) (let z : r * s + s - 9 + 9 ≡ r * s + s = omega arith in z)
+      (let z : r * s + s - 8 + 8 ≡ r * s + s = omega arith in z)
       (stored-more (omega arith) (omega (arith, a .size)) (sym (row-kind s r 8 (omega arith) ∙ left-information s r big in-row near))
       (stored-as (cornerKind s) (along s r (λ i. 2 + 2 * left / 2 ^ (7 - (i - r * s)) % 2) (omega arith) (omega arith) lefts) a))
       (stored-next (omega arith) (omega arith) middle
@@ -243,24 +247,30 @@ module _ (s r : ℕ) (big : 23 ≤ s) (in-row : r < s) where
       middle =
           let z : r * s + s - 9 + 1 ≡ r * s + s - 8 = omega arith in
           let e : r * s + (s - 9) ≡ r * s + s - 9 = omega arith in
-          let k : 1 ≡ cornerKind s (r * s + s - 9) = sym (ap (cornerKind s) (sym e) ∙ row-kind s r (s - 9) (omega arith) ∙ right-information s r big in-row near) in
-          rw z at (stored-more {from = r * s + s - 9} (omega arith) (omega (arith, a .size, length-set g₁ (r * s + 8) 1)) k (stored-none (cornerKind s) (r * s + s - 9) (set g₁ (r * s + 8) 1)))
+          let k : 1 ≡ cornerKind s (r * s + s - 9) = sym (ap (cornerKind s) (sym e) ∙ row-kind s r (s - 9) (omega arith)
+          ∙ right-information s r big in-row near) in
+          rw z at (stored-more {from = r * s + s - 9} (omega arith) (omega (arith, a .size, length-set g₁ (r * s + 8) 1)) k
+          (stored-none (cornerKind s) (r * s + s - 9) (set g₁ (r * s + 8) 1)))
 
       lefts : (k : ℕ) → r * s ≤ r * s + k → r * s + k < r * s + 8 → 2 + 2 * left / 2 ^ (7 - (r * s + k - r * s)) % 2 ≡ cornerAt s r k
       lefts k h j =
           let z : r * s + k - r * s ≡ k = omega arith in
           ap (λ (n : ℕ). 2 + 2 * left / 2 ^ (7 - n) % 2) z ∙ left-modules s r big in-row near left 0 (l .0) (l .1 .0) (l .1 .1) refl k (omega arith)
 
-      rights : (k : ℕ) → r * s + s - 8 ≤ r * s + k → r * s + k < r * s + s - 8 + 8 → 2 + right / 2 ^ (7 - (r * s + k - (r * s + s - 8))) % 2 ≡ cornerAt s r k
+      rights : (k : ℕ) → r * s + s - 8 ≤ r * s + k → r * s + k < r * s + s - 8 + 8
+          → 2 + right / 2 ^ (7 - (r * s + k - (r * s + s - 8))) % 2 ≡ cornerAt s r k
       rights k h j = right-modules s r big in-row near right 1 (q .0) (q .1 .0) (q .1 .1) refl k (r * s + k - (r * s + s - 8)) (omega arith) (omega arith)
 
   pub information-row : edge s r ≡ 8 → {g g₁ g₂ : List ℕ} → Stored (λ i. 1) (r * s) (r * s + 9) g g₁ → Stored (λ i. 1) (r * s + s - 9) (r * s + s) g₁ g₂ → Ends (cornerKind s) (r * s) (r * s + s) g g₂
   information-row arm a b =
-      two-ends refl (let z : r * s + s - 9 + 9 ≡ r * s + s = omega arith in z) refl (stored-as (cornerKind s) (along s r (λ i. 1) (omega arith) (omega arith) (λ k h j. sym (arm-left s r big in-row arm k (omega arith)))) a)
+      two-ends refl (let z : r * s + s - 9 + 9 ≡ r * s + s = omega arith in z) refl
+      (stored-as (cornerKind s) (along s r (λ i. 1) (omega arith) (omega arith) (λ k h j. sym
+      (arm-left s r big in-row arm k (omega arith)))) a)
       (stored-as (cornerKind s) (along s r (λ i. 1) (omega arith) (omega arith) (λ k h j. sym (arm-right s r big in-row arm k (omega arith) (omega arith)))) b)
 
   -- the places between the ends of a row are data
-  row-done : {g g' : List ℕ} → UpTo (cornerKind s) (s * s) (r * s) g → Ends (cornerKind s) (r * s) (r * s + s) g g' → UpTo (cornerKind s) (s * s) (r * s + s) g'
+  row-done : {g g' : List ℕ} → UpTo (cornerKind s) (s * s) (r * s) g → Ends (cornerKind s) (r * s) (r * s + s) g g'
+      → UpTo (cornerKind s) (s * s) (r * s + s) g'
   row-done {g} {g'} u e =
       record {
         done = λ i h. elim (decLt i (r * s)) [
@@ -276,7 +286,8 @@ module _ (s r : ℕ) (big : 23 ≤ s) (in-row : r < s) where
         blank = λ i h k. e .after i h ∙ u .blank i (omega arith) k;
       }
 
-  pub row-more : {g₀ g g' : List ℕ} → UpTo (cornerKind s) (s * s) (r * s) g × Beyond (s * s) g₀ g → Ends (cornerKind s) (r * s) (r * s + s) g g'
+  pub row-more : {g₀ g g' : List ℕ} → UpTo (cornerKind s) (s * s) (r * s) g × Beyond (s * s) g₀ g
+      → Ends (cornerKind s) (r * s) (r * s + s) g g'
       → UpTo (cornerKind s) (s * s) ((r + 1) * s) g' × Beyond (s * s) g₀ g'
   row-more {g₀} {g} {g'} u e = (
     subst (λ (n : ℕ). UpTo (cornerKind s) (s * s) n g') (row-next s r) (row-done (u .0) e),

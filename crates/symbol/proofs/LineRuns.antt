@@ -34,7 +34,8 @@ module _ (s c r : ℕ) (ci : c < s) (ri : r < s) where
   -- where a line begins, in a square that n bytes have room for
   pub here : (n : ℕ) → s ≤ 189 → s * s ≤ n → Here n
   here n small room =
-      record { room = omega (arith, in-square); fits = omega (arith, in-square, square-le s small); below = λ h. (omega (arith, room-below h), omega (arith, room-below h, square-le s small)) }
+      let q = square-le s small in
+      record { room = omega (arith, in-square); fits = omega (arith, in-square); below = λ h. let l = room-below h in (omega arith, omega arith) }
 
   -- the dark module of turn j
   dark-in : (j : ℕ) → j ≤ c → placeAt s (pos c -ℤ pos j) (pos r) ≡ r * s + (c - j)

@@ -41,7 +41,8 @@ tabled v lo hi =
     }
 
 -- the numbers as the code has them
-pub spaced : (p : Spacing) → 4 ≤ p .version → p .version ≤ 84 → p .side ≡ sideOf (p .version) → p .k ≡ kOf (p .version) → p .m ≡ mOf (p .version)
+pub spaced : (p : Spacing) → 4 ≤ p .version → p .version ≤ 84 → p .side ≡ sideOf (p .version) → p .k ≡ kOf (p .version)
+    → p .m ≡ mOf (p .version)
     → p .r ≡ p .side - p .m * p .k → Spaced p
 spaced p lo hi s k m r =
     let t = tabled (p .version) lo hi in
@@ -81,7 +82,9 @@ module _ {p : Spacing} (q : Spaced p) where
 
   pub line-last : (n : ℕ) → p .m < n → n < p .m + 2 → lineOf (p .version) n ≡ p .side - 1
   unfolding lineOf
-  line-last n a b = let e : n ≡ suc (p .m) = omega arith in ap (lineOf (p .version)) e ∙ omega (arith, line-near (p .m) (omega arith), far-step (p .m) (omega arith))
+  line-last n a b =
+      let e : n ≡ suc (p .m) = omega arith in ap (lineOf (p .version)) e ∙ omega
+      (arith, line-near (p .m) (omega arith), far-step (p .m) (omega arith))
 
   pub column-is : (n l : ℕ) → l ≡ lineOf (p .version) n → l < p .side → pos (p .side - 1 - l) ≡ columnOf (p .version) n
   column-is n l e h =

@@ -30,7 +30,9 @@ getD-table (suc n) f i h = by (eqb i n) refl (getD-table n f i)
 
 pub layout-length : (v : ℕ) → length (layoutOf v) ≡ sideOf v * sideOf v
 unfolding layoutOf corners
-layout-length v = all-length (sideOf v) (cond (ltb v 4) [] (alignment v)) (corners (sideOf v)) ∙ length-table (sideOf v * sideOf v) (λ i. cornerAt (sideOf v) (i / sideOf v) (i % sideOf v))
+layout-length v =
+    all-length (sideOf v) (cond (ltb v 4) [] (alignment v)) (corners (sideOf v)) ∙ length-table (sideOf v * sideOf v)
+    (λ i. cornerAt (sideOf v) (i / sideOf v) (i % sideOf v))
 
 -- a place of a finder, a separator or the information has its kind in the layout
 pub kind-is : (v r c : ℕ) → r < sideOf v → c < sideOf v → (cornerAt (sideOf v) r c ≡ 0 → ⊥) → getD (layoutOf v) (r * sideOf v + c) 0 ≡ cornerAt (sideOf v) r c
@@ -40,5 +42,6 @@ kind-is v r c h g n =
     getD-table (sideOf v * sideOf v) (λ i. cornerAt (sideOf v) (i / sideOf v) (i % sideOf v)) (r * sideOf v + c) (digits-lt h g)
     ∙ ap (λ (k : ℕ). cornerAt (sideOf v) k ((r * sideOf v + c) % sideOf v)) (digits-div r g)
     ∙ ap (cornerAt (sideOf v) r) (digits-mod r g) in
-    all-at (sideOf v) (cond (ltb v 4) [] (alignment v)) (corners (sideOf v)) (r * sideOf v + c) (digits-lt h g) (omega (arith, length-table (sideOf v * sideOf v) (cornerKind (sideOf v))))
+    all-at (sideOf v) (cond (ltb v 4) [] (alignment v)) (corners (sideOf v)) (r * sideOf v + c) (digits-lt h g)
+    (omega (arith, length-table (sideOf v * sideOf v) (cornerKind (sideOf v))))
     ∙ drawn-kept _ (λ z. n (sym e ∙ z)) ∙ e

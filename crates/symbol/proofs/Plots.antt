@@ -37,10 +37,12 @@ pub begun : {s : ℕ} {f : ℕ → List Plot} {to : ℕ} {g : List ℕ} → Turn
 unfolding each
 begun = record { plotted = none; few = omega arith; kept = refl }
 
-pub again : {s : ℕ} {f : ℕ → List Plot} {to : ℕ} {g₀ g g' : List ℕ} {n : ℕ} → n < to → Turned s f to g₀ g n → Plotted s (f n) g g' → length g' ≡ length g → Turned s f to g₀ g' (n + 1)
+pub again : {s : ℕ} {f : ℕ → List Plot} {to : ℕ} {g₀ g g' : List ℕ} {n : ℕ} → n < to → Turned s f to g₀ g n → Plotted s (f n) g g'
+    → length g' ≡ length g → Turned s f to g₀ g' (n + 1)
 unfolding each
 again {s} {f} {to} {g₀} {g} {g'} {n} h t e k =
-    record { plotted = subst (λ (m : ℕ). Plotted s (each m f) g₀ g') (sym (add-one n)) (next (t .plotted) e); few = omega arith; kept = k ∙ t .kept }
+    let p : Plotted s (each (n + 1) f) g₀ g' = subst (λ (m : ℕ). Plotted s (each m f) g₀ g') (sym (add-one n)) (next (t .plotted) e) in
+    record { plotted = p; few = omega arith; kept = k ∙ t .kept }
 
 pub ended : {s : ℕ} {f : ℕ → List Plot} {to : ℕ} {g₀ g : List ℕ} {n : ℕ} → to ≤ n → Turned s f to g₀ g n → Plotted s (each to f) g₀ g
 ended {s} {f} {to} {g₀} {g} {n} h t = let e : n ≡ to = omega arith in subst (λ (k : ℕ). Plotted s (each k f) g₀ g) e (t .plotted)
@@ -68,8 +70,11 @@ module _ {s : ℕ} (n : ℕ) (x y : ℤ) where
   pub even-none : {g : List ℕ} → n % 2 ≡ 0 → Plotted s (when (odd n) (assistant x y)) g g
   even-none h = exactly (simp (ne-eqb (n % 2) 1 (λ z. omega arith))) none
 
-pub assisted : {s k k' : ℕ} {x y x' y' : ℤ} {g g' : List ℕ} → k ≡ k' → SFits w64 x → SFits w64 y → x ≡ x' → y ≡ y' → Plotted s (when (odd k) (assistant (toZ w64 (ofZ w64 x)) (toZ w64 (ofZ w64 y)))) g g' → Plotted s (when (odd k') (assistant x' y')) g g'
-assisted {k = k} {x' = x'} {y' = y'} e f h p q t = exactly (ap (λ (n : ℕ). when (odd n) (assistant x' y')) e) (heard (λ a b. when (odd k) (assistant a b)) f h p q t)
+pub assisted : {s k k' : ℕ} {x y x' y' : ℤ} {g g' : List ℕ} → k ≡ k' → SFits w64 x → SFits w64 y → x ≡ x' → y ≡ y'
+    → Plotted s (when (odd k) (assistant (toZ w64 (ofZ w64 x)) (toZ w64 (ofZ w64 y)))) g g'
+    → Plotted s (when (odd k') (assistant x' y')) g g'
+assisted {k = k} {x' = x'} {y' = y'} e f h p q t =
+    exactly (ap (λ (n : ℕ). when (odd n) (assistant x' y')) e) (heard (λ a b. when (odd k) (assistant a b)) f h p q t)
 
 -- the three ways of a crossing
 module _ (v n j : ℕ) where

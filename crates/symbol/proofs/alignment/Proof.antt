@@ -1,3 +1,4 @@
+-- `alignment` meets its contract.
 use Rattle.symbol.proofs.Plots.{next}
 use Rattle.symbol.specs.Layout.{alignment}
 use borrow.Author.Needs.{needs}

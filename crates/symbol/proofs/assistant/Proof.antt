@@ -12,9 +12,11 @@ returns : tie.Need-returns
 unfolding assistant
 returns c =
     let o = c .before .before .before .before .before .before .before .before .before .before .before .before .before in
-    next (heard (λ a b. threeAt a b light) (o .fits .x) (back-fits 1 (o .fits .y) (o .pre .3) (omega arith)) refl (back-is 1 (o .fits .y) (o .pre .3) (omega arith)) (c .before .before .before .before .before .before .before .before .before .before .three .ensures))
+    next (heard (λ a b. threeAt a b light) (o .fits .x) (back-fits 1 (o .fits .y) (o .pre .3) (omega arith)) refl
+    (back-is 1 (o .fits .y) (o .pre .3) (omega arith)) (c .before .before .before .before .before .before .before .before .before .before .three .ensures))
     (next (heard (λ a b. threeAt a b dark) (o .fits .x) (o .fits .y) refl refl (c .before .before .before .before .before .before .three2 .ensures))
-    (heard (λ a b. threeAt a b light) (o .fits .x) (forth-fits 1 (o .fits .y) (o .pre .3) (omega arith)) refl (forth-is 1 (o .fits .y) (o .pre .3) (omega arith)) (c .before .before .three3 .ensures)))
+    (heard (λ a b. threeAt a b light) (o .fits .x) (forth-fits 1 (o .fits .y) (o .pre .3) (omega arith)) refl
+    (forth-is 1 (o .fits .y) (o .pre .3) (omega arith)) (c .before .before .three3 .ensures)))
 
 pub assistant-spec : {M : Type 1} → statement M
 assistant-spec =

@@ -22,7 +22,8 @@ returns-2 : tie.Need-returns-2
 returns-2 c =
     let start = c .before .before .before .before .before .before in
     let if1 = c .before .before .before .before .if1 in
-    odd-one (start .args .n) (start .args .x) (start .args .y) (omega (arith, if1 .left)) (heard assistant (start .fits .x) (start .fits .y) refl refl (c .before .before .assistant .ensures))
+    odd-one (start .args .n) (start .args .x) (start .args .y) (omega (arith, if1 .left))
+    (heard assistant (start .fits .x) (start .fits .y) refl refl (c .before .before .assistant .ensures))
 
 pub assistant-if-odd-spec : {M : Type 1} → statement M
 assistant-if-odd-spec = tie.close (tie.spec returns assistant-requires (λ c. search needs) returns-2)

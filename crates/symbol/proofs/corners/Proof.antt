@@ -1,5 +1,6 @@
 -- `corners` meets its contract.
-use Prim.Native.Nat.{_*_}
+use Prim.Native.Nat.{_*_, _≤_}
+use lib.ListN.{length}
 use native.Mathlib.Nat.{zero-mul}
 use native.Mathlib.Omega.{arith}
 use borrow.Author.Needs.{needs}
@@ -13,33 +14,50 @@ finder-lines-requires c κs =
     let start = c .before .before .before .before .before .before in
     let s = start .args .side in
     let run = c .before .before .before .run in
-    (start .pre .0, start .pre .1, omega (arith, start .pre .2, run .kept .0), omega arith, omega (arith, start .pre .0), (λ r h k. omega (arith, edge-top s r)), all-blank (cornerKind s) (s * s) (0 * s) (zero-mul s) (run .ensures))
+    let blank = all-blank (cornerKind s) (s * s) (0 * s) (zero-mul s) (run .ensures) in
+    let long : s * s ≤ length (run .last .0) = omega (arith, start .pre .2, run .kept .0) in
+    (start .pre .0, start .pre .1, long, omega arith, omega (arith, start .pre .0), (λ r h k. omega (arith, edge-top s r)), blank)
 
 information-line-requires : tie.Need-information-line-requires
 information-line-requires c κs =
     let start = c .before .before .before .before .before .before .before .before .before .before in
-    (row-room (start .pre .0) (start .pre .1) (omega (arith, start .pre .2, c .before .before .before .before .before .before .before .run .kept .0, c .before .before .before .finder-lines .kept .0)) (omega arith), upper-arm (start .args .side) (start .pre .0))
+    let run = c .before .before .before .before .before .before .before .run in
+    let upper = c .before .before .before .finder-lines in
+    let long : start .args .side * start .args .side ≤ length (upper .last .0) = omega (arith, start .pre .2, run .kept .0, upper .kept .0) in
+    (row-room (start .pre .0) (start .pre .1) long (omega arith), upper-arm (start .args .side) (start .pre .0))
 
 information-line-requires-2 : tie.Need-information-line-requires-2
 information-line-requires-2 c κs =
     let start = c .before .before .before .before .before .before .before .before .before .before .before .before .before .before in
-    (row-room (start .pre .0) (start .pre .1) (omega (arith, start .pre .2, c .before .before .before .before .before .before .before .before .before .before .before .run .kept .0, c .before .before .before .before .before .before .before .finder-lines .kept .0, c .before .before .before .information-line .kept .0)) (omega arith), lower-arm (start .args .side) (start .pre .0))
+    let run = c .before .before .before .before .before .before .before .before .before .before .before .run in
+    let upper = c .before .before .before .before .before .before .before .finder-lines in
+    let arm = c .before .before .before .information-line in
+    let s = start .args .side in
+    let long : s * s ≤ length (arm .last .0) = omega (arith, start .pre .2, run .kept .0, upper .kept .0, arm .kept .0) in
+    (row-room (start .pre .0) (start .pre .1) long (omega arith), lower-arm (start .args .side) (start .pre .0))
 
 finder-lines-requires-2 : tie.Need-finder-lines-requires-2
 finder-lines-requires-2 c κs =
     let start = c .before .before .before .before .before .before .before .before .before .before .before .before .before .before .before .before .before .before in
     let s = start .args .side in
+    let run = c .before .before .before .before .before .before .before .before .before .before .before .before .before .before .before .run in
     let upper = c .before .before .before .before .before .before .before .before .before .before .before .finder-lines in
     let arm = c .before .before .before .before .before .before .before .information-line in
     let arm2 = c .before .before .before .information-line2 in
-    (start .pre .0, start .pre .1, omega (arith, start .pre .2, c .before .before .before .before .before .before .before .before .before .before .before .before .before .before .before .run .kept .0, upper .kept .0, arm .kept .0, arm2 .kept .0), omega arith, omega arith, (λ r h k. omega (arith, edge-bottom s r)), middle-rows s (start .pre .0) (upper .ensures) (arm .ensures) (arm2 .ensures) .0)
+    let middle = middle-rows s (start .pre .0) (upper .ensures) (arm .ensures) (arm2 .ensures) in
+    let size : s * s ≤ length (arm2 .last .0) = omega (arith, start .pre .2, run .kept .0, upper .kept .0, arm .kept .0, arm2 .kept .0) in
+    (start .pre .0, start .pre .1, size, omega arith, omega arith, (λ r h k. omega (arith, edge-bottom s r)), middle .0)
 
 returns : tie.Need-returns
 returns c =
     let start = c .before .before .before .before .before .before .before .before .before .before .before .before .before .before .before .before .before .before .before .before .before in
+    let run = c .before .before .before .before .before .before .before .before .before .before .before .before .before .before .before .before .before .before .run in
+    let upper = c .before .before .before .before .before .before .before .before .before .before .before .before .before .before .finder-lines in
+    let arm = c .before .before .before .before .before .before .before .before .before .before .information-line in
     let lower = c .before .before .finder-lines2 .ensures in
-    let middle = middle-rows (start .args .side) (start .pre .0) (c .before .before .before .before .before .before .before .before .before .before .before .before .before .before .finder-lines .ensures) (c .before .before .before .before .before .before .before .before .before .before .information-line .ensures) (c .before .before .before .before .before .before .information-line2 .ensures) in
-    corners-stored (c .before .before .before .before .before .before .before .before .before .before .before .before .before .before .before .before .before .before .run .ensures) (middle .1) (lower .1) (lower .0)
+    let arm2 = c .before .before .before .before .before .before .information-line2 in
+    let middle = middle-rows (start .args .side) (start .pre .0) (upper .ensures) (arm .ensures) (arm2 .ensures) in
+    corners-stored (run .ensures) (middle .1) (lower .1) (lower .0)
 
 pub corners-spec : {M : Type 1} → statement M
 corners-spec =

@@ -2,14 +2,15 @@
 use mathlib.Core.Path.{ap}
 use native.Mathlib.Omega.{arith}
 use Rattle.symbol.specs.Layout.{lineLeft, lineDown, rowOf, columnOf}
-use Rattle.symbol.proofs.Coordinates.{ok, inside}
+use Rattle.symbol.proofs.Coordinates.{ok, inside-call}
 use Rattle.symbol.proofs.Plots.{none, next, exactly, heard, crossing-odd, crossing-first, crossing-on}
 use borrow.Author.Needs.{needs}
 use Rattle.symbol.proofs.crossing.Statement.{statement}
 use Rattle.symbol.proofs.crossing.Tie as tie
 
 returns : tie.Need-returns
-returns c = let start = c .before .before in exactly (crossing-odd (start .args .p .version) (start .args .n) (start .args .j) (c .if1 .taken)) none
+returns c =
+    let start = c .before .before in exactly (crossing-odd (start .args .p .version) (start .args .n) (start .args .j) (c .if1 .taken)) none
 
 returns-2 : tie.Need-returns-2
 returns-2 c =
@@ -21,14 +22,16 @@ line-left-requires c κs =
     let q = c .before .before .before .before .before .before .before .pre .0 in
     let x = c .before .before .before .column-of in
     let y = c .before .before .row-of in
-    (omega arith, q .room, inside (ok (x .result) (x .ok)) (x .ensures .1), inside (ok (y .result) (y .ok)) (y .ensures .1), omega arith)
+    (omega arith, q .room, inside-call (x .ok) (x .ensures .1), inside-call (y .ok) (y .ensures .1), omega arith)
 
 line-down-requires : tie.Need-line-down-requires
 line-down-requires c κs =
     let q = c .before .before .before .before .before .before .before .before .before .before .before .before .pre .0 in
     let x = c .before .before .before .before .before .before .before .before .column-of in
     let y = c .before .before .before .before .before .before .before .row-of in
-    (omega (arith, q .spaced), omega (arith, q .room, c .before .before .before .before .line-left .kept .0), inside (ok (x .result) (x .ok)) (x .ensures .1), inside (ok (y .result) (y .ok)) (y .ensures .1), c .step2 .ensures .1 .0, omega (arith, c .step2 .ensures .1 .1))
+    let kept = c .before .before .before .before .line-left .kept .0 in
+    let step = c .step2 .ensures .1 in
+    (omega (arith, q .spaced), omega (arith, q .room, kept), inside-call (x .ok) (x .ensures .1), inside-call (y .ok) (y .ensures .1), step .0, omega arith)
 
 returns-3 : tie.Need-returns-3
 returns-3 c =
@@ -41,8 +44,12 @@ returns-3 c =
     let step = c .before .before .before .before .before .before .before .before .step in
     let step2 = c .before .before .before .step2 in
     exactly (crossing-on v (start .args .n) (start .args .j) (if1 .left) (if2 .left))
-    (next (exactly (ap (lineLeft (columnOf v (start .args .j)) (rowOf v (start .args .n))) (step .ensures .0)) (heard (λ a b. lineLeft a b (step .result)) (ok (x .result) (x .ok)) (ok (y .result) (y .ok)) (x .ensures .0) (y .ensures .0) (c .before .before .before .before .before .before .before .line-left .ensures)))
-    (exactly (ap (lineDown (columnOf v (start .args .j)) (rowOf v (start .args .n))) (step2 .ensures .0)) (heard (λ a b. lineDown a b (step2 .result)) (ok (x .result) (x .ok)) (ok (y .result) (y .ok)) (x .ensures .0) (y .ensures .0) (c .before .before .line-down .ensures))))
+    (next (exactly (ap (lineLeft (columnOf v (start .args .j)) (rowOf v (start .args .n))) (step .ensures .0))
+    (heard (λ a b. lineLeft a b (step .result)) (ok (x .result) (x .ok)) (ok (y .result) (y .ok)) (x .ensures .0) (y .ensures .0)
+    (c .before .before .before .before .before .before .before .line-left .ensures)))
+    (exactly (ap (lineDown (columnOf v (start .args .j)) (rowOf v (start .args .n))) (step2 .ensures .0))
+    (heard (λ a b. lineDown a b (step2 .result)) (ok (x .result) (x .ok)) (ok (y .result) (y .ok)) (x .ensures .0) (y .ensures .0)
+    (c .before .before .line-down .ensures))))
 
 pub crossing-spec : {M : Type 1} → statement M
 crossing-spec =

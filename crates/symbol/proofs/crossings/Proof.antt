@@ -9,7 +9,8 @@ use Rattle.symbol.proofs.crossings.Statement.{statement}
 use Rattle.symbol.proofs.crossings.Tie as tie
 
 abbrev Inv-loop : tie.InvT-loop
-Inv-loop grid₀ p lines n₀ grid n = Turned (p .side) (λ n. each (mOf (p .version) + 2) (crossing (p .version) n)) (mOf (p .version) + 2) grid₀ grid n
+Inv-loop grid₀ p lines n₀ grid n =
+    Turned (p .side) (λ n. each (mOf (p .version) + 2) (crossing (p .version) n)) (mOf (p .version) + 2) grid₀ grid n
 
 abbrev μ-loop : tie.MeasureT-loop
 μ-loop grid₀ p lines n₀ grid n = lines - n

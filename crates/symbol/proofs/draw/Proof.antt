@@ -1,3 +1,4 @@
+-- `draw` meets its contract.
 use Prim.Native.Nat.{ℕ, _-_, _≤_}
 use mathlib.Core.Path.{_≡_, ap, subst, _∙_}
 use lib.ListN.{getD}

@@ -1,6 +1,7 @@
 -- `edge_down` meets its contract.
 use mathlib.Core.Path.{refl, sym, ap}
-use Prim.Native.Nat.{_+_, _-_}
+use lib.Signed.{mag}
+use Prim.Native.Nat.{_<_, _+_, _-_}
 use lib.IntN.{ℤ, pos, _+ℤ_}
 use mir.Syntax.{w64}
 use mir.Val.{toZ, ofZ}
@@ -19,21 +20,26 @@ abbrev μ-loop : tie.MeasureT-loop
 μ-loop grid₀ side x y height i₀ grid i = height - 1 - i
 
 add-line-module-2 : tie.Need-add-line-module-2 Inv-loop μ-loop
-add-line-module-2 c = let o = c .before .before .before .before in forth-fits (c .before .before .loop .i + 1) (o .fits .y) (omega arith) (omega arith)
+add-line-module-2 c =
+    let o = c .before .before .before .before in forth-fits (c .before .before .loop .i + 1) (o .fits .y) (omega arith) (omega arith)
 
 line-module-requires : tie.Need-line-module-requires Inv-loop μ-loop
 line-module-requires c κs =
     let o = c .before .before .before .before in
     let n = c .before .before .loop .i + 1 in
+    let f = forth-fits n (o .fits .y) (omega arith) (omega arith) in
     let e = forth-is n (o .fits .y) (omega arith) (omega arith) in
-    (o .pre .0, omega (arith, o .pre .1, c .before .before .loop .inv .kept), near 1000 (o .fits .x) (omega arith), near 1000 (forth-fits n (o .fits .y) (omega arith) (omega arith)) (rw e (omega (arith, mag-forth (o .args .y) n))))
+    let y-near : mag (toZ w64 (ofZ w64 (o .args .y)) +ℤ toZ w64 n) < 1000 = rw e (omega (arith, mag-forth (o .args .y) n)) in
+    (o .pre .0, omega (arith, o .pre .1, c .before .before .loop .inv .kept), near 1000 (o .fits .x) (omega arith), near 1000 f y-near)
 
 loop-again : tie.Need-loop-again Inv-loop μ-loop
 loop-again c =
     let o = c .before .before .before .before .before .before .before in
     let loop = c .before .before .before .before .before .loop in
     let line-module = c .before .before .line-module in
-    again (omega arith) (loop .inv) (heard lineModule (o .fits .x) (forth-fits (loop .i + 1) (o .fits .y) (omega arith) (omega arith)) (sym (toZ-ofZ (o .fits .x))) (ap (λ (z : ℤ). toZ w64 (ofZ w64 (o .args .y)) +ℤ z) (unsigned (loop .i + 1) (omega arith))) (line-module .ensures)) (line-module .kept .0)
+    again (omega arith) (loop .inv) (heard lineModule (o .fits .x) (forth-fits (loop .i + 1) (o .fits .y) (omega arith) (omega arith))
+    (sym (toZ-ofZ (o .fits .x))) (ap (λ (z : ℤ). toZ w64 (ofZ w64 (o .args .y)) +ℤ z) (unsigned (loop .i + 1) (omega arith)))
+    (line-module .ensures)) (line-module .kept .0)
 
 returns : tie.Need-returns Inv-loop μ-loop
 unfolding lineDown

@@ -4,12 +4,14 @@ use Rattle.symbol.specs.Inner.{UpTo, Beyond}
 use Rattle.symbol.specs.Layout.{cornerKind}
 use mathlib.Core.Path.{_≡_, subst}
 use Prim.Native.Nat.{ℕ, _-_, _*_, _<_, _≤_}
+use lib.ListN.{length}
 use native.Mathlib.Omega.{arith}
 use Rattle.symbol.proofs.finder_lines.Statement.{statement}
 use Rattle.symbol.proofs.finder_lines.Tie as tie
 
 abbrev Inv-loop : tie.InvT-loop
-Inv-loop out₀ side from to row₀ out row = UpTo (cornerKind side) (side * side) (row * side) out × Beyond (side * side) out₀ out × (from ≤ row) × (row ≤ to)
+Inv-loop out₀ side from to row₀ out row =
+    UpTo (cornerKind side) (side * side) (row * side) out × Beyond (side * side) out₀ out × (from ≤ row) × (row ≤ to)
 
 abbrev μ-loop : tie.MeasureT-loop
 μ-loop out₀ side from to row₀ out row = to - row
@@ -21,8 +23,10 @@ finder-line-requires : tie.Need-finder-line-requires Inv-loop μ-loop
 finder-line-requires c κs =
     let start = c .before .before .before .before in
     let loop = c .before .before .loop in
-    let loop-test = c .before .loop-test in
-    (row-room (start .pre .0) (start .pre .1) (omega (arith, start .pre .2, loop .inv .1 .size)) (omega (arith, loop-test .taken, start .pre .4)), start .pre .5 (loop .row) (loop .inv .2) (loop-test .taken))
+    let test = c .before .loop-test .taken in
+    let long : start .args .side * start .args .side ≤ length (loop .out) = omega (arith, start .pre .2, loop .inv .1 .size) in
+    let l : loop .row < start .args .side = omega (arith, test, start .pre .4) in
+    (row-room (start .pre .0) (start .pre .1) long l, start .pre .5 (loop .row) (loop .inv .2) test)
 
 add-row : tie.Need-add-row Inv-loop μ-loop
 add-row c =
@@ -44,7 +48,9 @@ returns : tie.Need-returns Inv-loop μ-loop
 returns c =
     let start = c .before .before .before in
     let loop = c .before .loop in
-    let e : loop .row ≡ start .args .to = omega (arith, c .loop-test .left, loop .inv .3) in (subst (λ (n : ℕ). UpTo (cornerKind (start .args .side)) (start .args .side * start .args .side) (n * start .args .side) (loop .out)) e (loop .inv .0), loop .inv .1)
+    let s = start .args .side in
+    let e : loop .row ≡ start .args .to = omega (arith, c .loop-test .left, loop .inv .3) in
+    (subst (λ (n : ℕ). UpTo (cornerKind s) (s * s) (n * s) (loop .out)) e (loop .inv .0), loop .inv .1)
 
 pub finder-lines-spec : {M : Type 1} → statement M
 finder-lines-spec =

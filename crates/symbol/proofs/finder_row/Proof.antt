@@ -1,3 +1,4 @@
+-- `finder_row` meets its contract.
 use mathlib.Core.Path.{refl, sym, _∙_}
 use Rattle.symbol.proofs.CornerRows.{edge-low, edge-top, edge-bottom, upper-row, lower-row}
 use native.Mathlib.Omega.{arith}

@@ -1,3 +1,4 @@
+-- `layout` meets its contract.
 use Rattle.symbol.proofs.Answer.{too-low, too-high, too-short, small, large}
 use Rattle.symbol.proofs.Coordinates.{square-le}
 use Rattle.symbol.specs.Version.{sideOf}
@@ -40,7 +41,15 @@ alignment-requires c κs =
     let corners = c .before .before .before .before .before .corners in
     let spacing = c .spacing-of .ensures in
     let e : side .result ≡ c .spacing-of .result .side = side .ensures ∙ sym (spacing .0 .side-is ∙ ap sideOf (spacing .1)) in
-    record { spaced = spacing .0; room = omega (arith, corners .kept .0, subst (λ (k : ℕ). k * k ≤ length (start .args .out .now)) e (if3 .left)) }
+    record {
+      spaced = spacing .0;
+      room = omega (
+        arith,
+        corners .kept .0,
+        subst (λ (k : ℕ). k * k ≤ length
+            (start .args .out .now)) e (if3 .left),
+      );
+    }
 
 returns-5 : tie.Need-returns-5
 returns-5 c =
@@ -51,7 +60,10 @@ returns-5 c =
     let if3 = c .before .before .before .before .before .before .before .before .before .before .if3 in
     let corners = c .before .before .before .before .before .before .before .before .corners in
     let if4 = c .before .before .before .before .before .if4 in
-    large (start .args .version) (start .args .out .now) (if1 .left) (if2 .left) (subst (λ (k : ℕ). k * k ≤ length (start .args .out .now)) (side .ensures) (if3 .left)) (side .ensures) (corners .ensures) (if4 .left) (c .before .before .before .spacing-of .ensures .1) (c .before .before .before .spacing-of .ensures .0 .side-is) (c .before .before .alignment .ensures)
+    large (start .args .version) (start .args .out .now) (if1 .left) (if2 .left)
+    (subst (λ (k : ℕ). k * k ≤ length (start .args .out .now)) (side .ensures) (if3 .left)) (side .ensures) (corners .ensures) (if4 .left)
+    (c .before .before .before .spacing-of .ensures .1) (c .before .before .before .spacing-of .ensures .0 .side-is)
+    (c .before .before .alignment .ensures)
 
 pub layout-spec : {M : Type 1} → statement M
 layout-spec =

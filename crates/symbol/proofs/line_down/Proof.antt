@@ -15,8 +15,12 @@ use Rattle.symbol.proofs.line_down.Statement.{statement}
 use Rattle.symbol.proofs.line_down.Tie as tie
 
 -- what `edge_down` asks
-edge : (s : tie.Start) → (s .args .side ≤ 189) × (s .args .side * s .args .side ≤ length (s .args .grid .now)) × (mag (toZ w64 (ofZ w64 (s .args .x))) < 200) × (mag (toZ w64 (ofZ w64 (s .args .y))) < 200) × (1 ≤ s .args .height) × (s .args .height < 200)
-edge s = (s .pre .0, s .pre .1, near-inside (s .fits .x) (s .pre .2) (s .pre .0), near-inside (s .fits .y) (s .pre .3) (s .pre .0), s .pre .4, s .pre .5)
+edge : (s : tie.Start) → (s .args .side ≤ 189) × (s .args .side * s .args .side ≤ length (s .args .grid .now))
+    × (mag (toZ w64 (ofZ w64 (s .args .x))) < 200) × (mag (toZ w64 (ofZ w64 (s .args .y))) < 200) × (1 ≤ s .args .height) × (s .args .height < 200)
+edge s =
+    let x-near = near-inside (s .fits .x) (s .pre .2) (s .pre .0) in
+    let y-near = near-inside (s .fits .y) (s .pre .3) (s .pre .0) in
+    (s .pre .0, s .pre .1, x-near, y-near, s .pre .4, s .pre .5)
 
 returns : tie.Need-returns
 returns c =
@@ -34,7 +38,8 @@ returns-2 c =
 returns-3 : tie.Need-returns-3
 returns-3 c =
     let start = c .before .before .before .before .before .before .before in
-    numbered (λ x y. lineDown x y (start .args .height)) (start .fits .x) (start .fits .y) (start .pre .2 .whole) (start .pre .3 .whole) (c .before .before .run-down .ensures)
+    numbered (λ x y. lineDown x y (start .args .height)) (start .fits .x) (start .fits .y) (start .pre .2 .whole) (start .pre .3 .whole)
+    (c .before .before .run-down .ensures)
 
 pub line-down-spec : {M : Type 1} → statement M
 line-down-spec =

@@ -40,7 +40,8 @@ returns c =
 
 draw-requires-2 : tie.Need-draw-requires-2
 draw-requires-2 c κs =
-    let b = at (c .before .before .before .before .before .before .before .before .before) .below (omega (arith, c .before .before .if1 .left)) in
+    let b = at (c .before .before .before .before .before .before .before .before .before) .below
+    (omega (arith, c .before .before .if1 .left)) in
     (omega arith, omega (arith, b .0, c .before .before .before .before .before .draw .ensures .size))
 
 returns-2 : tie.Need-returns-2
@@ -48,7 +49,8 @@ returns-2 c =
     let start = c .before .before .before .before .before .before .before .before .before .before .before .before in
     let least = c .before .before .before .before .before .before .before .before .before .least .ensures in
     let least2 = c .before .before .before .least2 .ensures in
-    let l : natAbs (toZ w64 (ofZ w64 (start .args .y))) + 1 < start .args .side = omega (arith, c .before .before .before .before .before .if1 .left) in
+    let l : natAbs (toZ w64 (ofZ w64 (start .args .y))) + 1 < start .args .side = omega
+    (arith, c .before .before .before .before .before .if1 .left) in
     numbered (λ x y. lineLeft x y (start .args .width)) (start .fits .x) (start .fits .y) (start .pre .2 .whole) (start .pre .3 .whole)
     (two-runs (start .args .side) _ _ (column start) (row start) (start .args .width) _ _ _
     (start .pre .1) (least .0) (least .1) (least .2) (omega (arith, room-below (start .args .side) _ _ (column start) (row start) l))

@@ -14,8 +14,10 @@ unfolding lineModule
 returns c =
     let o = c .before .before .before .before .before .before .before .before .before in
     next (heard (λ a b. plot a b dark ∷ []) (o .fits .x) (o .fits .y) refl refl (c .before .before .before .before .before .before .plot .ensures))
-    (heard (λ a b. plot a b light ∷ []) (back-fits 1 (o .fits .x) (o .pre .2) (omega arith)) (forth-fits 1 (o .fits .y) (o .pre .3) (omega arith))
-    (back-is 1 (o .fits .x) (o .pre .2) (omega arith)) (forth-is 1 (o .fits .y) (o .pre .3) (omega arith)) (c .before .before .plot2 .ensures))
+    (heard (λ a b. plot a b light ∷ []) (back-fits 1 (o .fits .x) (o .pre .2) (omega arith))
+    (forth-fits 1 (o .fits .y) (o .pre .3) (omega arith))
+    (back-is 1 (o .fits .x) (o .pre .2) (omega arith)) (forth-is 1 (o .fits .y) (o .pre .3) (omega arith))
+    (c .before .before .plot2 .ensures))
 
 pub line-module-spec : {M : Type 1} → statement M
 line-module-spec =

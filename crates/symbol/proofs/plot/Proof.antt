@@ -26,7 +26,8 @@ returns-2 : tie.Need-returns-2
 returns-2 c = let start = c .before .before .before in outside start (place-above _ _ _ (below-zero true (start .fits .y) (c .if2 .taken)))
 
 returns-3 : tie.Need-returns-3
-returns-3 c = let start = c .before .before .before .before in outside start (right-of _ _ _ (start .fits .x) (start .fits .y) (c .if3 .taken))
+returns-3 c =
+    let start = c .before .before .before .before in outside start (right-of _ _ _ (start .fits .x) (start .fits .y) (c .if3 .taken))
 
 returns-4 : tie.Need-returns-4
 returns-4 c =

@@ -11,7 +11,8 @@ use Rattle.symbol.proofs.run_down.Statement.{statement}
 use Rattle.symbol.proofs.run_down.Tie as tie
 
 abbrev Inv-loop : tie.InvT-loop
-Inv-loop grid₀ side column row height i₀ grid i = Turned side (λ n. lineModule (pos column) (pos row +ℤ pos (n + 1))) (height - 1) grid₀ grid i
+Inv-loop grid₀ side column row height i₀ grid i =
+    Turned side (λ n. lineModule (pos column) (pos row +ℤ pos (n + 1))) (height - 1) grid₀ grid i
 
 abbrev μ-loop : tie.MeasureT-loop
 μ-loop grid₀ side column row height i₀ grid i = height - 1 - i
@@ -24,7 +25,8 @@ plot-at-requires c κs =
 plot-at-requires-2 : tie.Need-plot-at-requires-2 Inv-loop μ-loop
 plot-at-requires-2 c κs =
     let o = c .before .before .before .before .before .before .before .before in
-    (o .pre .0, omega (arith, c .before .before .before .plot-at .kept .0, c .before .before .before .before .before .before .loop .inv .kept, o .pre .1), omega arith, omega arith)
+    let loop = c .before .before .before .before .before .before .loop in
+    (o .pre .0, omega (arith, c .before .before .before .plot-at .kept .0, loop .inv .kept, o .pre .1), omega arith, omega arith)
 
 loop-again : tie.Need-loop-again Inv-loop μ-loop
 unfolding lineModule

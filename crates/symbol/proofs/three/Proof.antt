@@ -13,9 +13,12 @@ returns : tie.Need-returns
 unfolding threeAt
 returns c =
     let o = c .before .before .before .before .before .before .before .before .before .before .before .before .before in
-    next (heard (λ a b. plot a b light ∷ []) (back-fits 1 (o .fits .x) (o .pre .2) (omega arith)) (o .fits .y) (back-is 1 (o .fits .x) (o .pre .2) (omega arith)) refl (c .before .before .before .before .before .before .before .before .before .before .plot .ensures))
-    (next (heard (λ a b. plot a b (o .args .kind) ∷ []) (o .fits .x) (o .fits .y) refl refl (c .before .before .before .before .before .before .plot2 .ensures))
-    (heard (λ a b. plot a b light ∷ []) (forth-fits 1 (o .fits .x) (o .pre .2) (omega arith)) (o .fits .y) (forth-is 1 (o .fits .x) (o .pre .2) (omega arith)) refl (c .before .before .plot3 .ensures)))
+    next (heard (λ a b. plot a b light ∷ []) (back-fits 1 (o .fits .x) (o .pre .2) (omega arith)) (o .fits .y)
+    (back-is 1 (o .fits .x) (o .pre .2) (omega arith)) refl (c .before .before .before .before .before .before .before .before .before .before .plot .ensures))
+    (next (heard (λ a b. plot a b (o .args .kind) ∷ []) (o .fits .x) (o .fits .y) refl refl
+    (c .before .before .before .before .before .before .plot2 .ensures))
+    (heard (λ a b. plot a b light ∷ []) (forth-fits 1 (o .fits .x) (o .pre .2) (omega arith)) (o .fits .y)
+    (forth-is 1 (o .fits .x) (o .pre .2) (omega arith)) refl (c .before .before .plot3 .ensures)))
 
 pub three-spec : {M : Type 1} → statement M
 three-spec =
