@@ -1,42 +1,40 @@
 -- Operation Layout: plots leave what lies beyond the square, and the answers.
-use mathlib.Core.Path.{_≡_, refl, ap, subst, _∙_}
-use mathlib.Core.Bool.{Bool, true, false, cond, _&&_}
-use mathlib.Core.List.{List, [], _∷_, _++_}
+use mathlib.Core.Path.{_≡_, sym, ap, subst, _∙_}
+use mathlib.Core.List.{List, _++_}
 use Prim.Native.Nat.{ℕ, _+_, _-_, _*_, _<_, _≤_}
+use native.Mathlib.Decide.{decLt}
 use native.Mathlib.Omega.{arith}
-use lib.Dec.{ltb, eqb, lit<}
-use lib.IntN.{ℤ}
-use lib.ListN.{length, getD, set, drop, List·getD-append}
-use lib.Seq.{set-append-left}
-use borrow.Author.Tests.{lt-ltb, le-ltb, ltb-true, le-leb, lt-leb, ne-eqb}
+use lib.Dec.{lit<}
+use lib.ListN.{length, getD, drop, length-append, List·getD-append}
+use lib.Seq.{getD-append-add, ext-getD}
+use borrow.Author.Tests.{lt-ltb, le-ltb, le-leb, lt-leb, ne-eqb}
 use Rattle.symbol.specs.Version.{sideOf, isVersion}
-use Rattle.symbol.specs.Layout.{Plot, plot, placeAt, plotOne, plotAll, corners, cornerKind, alignment, layoutOf, layoutRefusal, layoutWritten}
-use Rattle.symbol.specs.Inner.{Plotted, Stored}
-use Rattle.symbol.proofs.Places.{length-table, plotOne-length}
+use Rattle.symbol.specs.Layout.{Plot, plotAll, corners, cornerKind, alignment, layoutOf, layoutRefusal, layoutWritten}
+use Rattle.symbol.specs.Inner.{Plotted, Stored, drawn}
+use Rattle.symbol.proofs.FirstPlot.{first, all-length, all-at, all-beyond}
+use Rattle.symbol.proofs.Places.{length-table}
 use Rattle.symbol.proofs.Stored.{stored-all}
 
-plotOne-beyond : (s : ℕ) (x y : ℤ) (k : ℕ) (g r : List ℕ) → length g ≡ s * s → plotOne s x y k (g ++ r) ≡ plotOne s x y k g ++ r
-unfolding plotOne
-plotOne-beyond s x y k g r h = by (ltb (placeAt s x y) (s * s)) refl
-  where
-    i : ℕ
-    i = placeAt s x y
-
-    pick : (b : Bool) → i < length g → cond b (set (g ++ r) i k) (g ++ r) ≡ cond b (set g i k) g ++ r
-    pick true l = set-append-left g r i k l
-    pick false l = refl
-
-    by : (b : Bool) → ltb i (s * s) ≡ b → cond (b && eqb (getD (g ++ r) i 0) 0) (set (g ++ r) i k) (g ++ r) ≡ cond (b && eqb (getD g i 0) 0) (set g i k) g ++ r
-    by false e = refl
-    by true e =
-        let l : i < length g = omega (arith, ltb-true i (s * s) e) in
-        ap (λ (n : ℕ). cond (eqb n 0) (set (g ++ r) i k) (g ++ r)) (List·getD-append g r 0 i l) ∙ pick (eqb (getD g i 0) 0) l
+-- two lists of one length before the same list
+tail-same : (a b r : List ℕ) (i : ℕ) → length a ≡ length b → length a ≤ i → getD (a ++ r) i 0 ≡ getD (b ++ r) i 0
+tail-same a b r i e h =
+    let p : i ≡ length a + (i - length a) = omega arith in
+    let q : length b + (i - length a) ≡ i = omega arith in
+    ap (λ (n : ℕ). getD (a ++ r) n 0) p ∙ getD-append-add a r (i - length a) 0
+    ∙ sym (ap (λ (n : ℕ). getD (b ++ r) n 0) (sym q) ∙ getD-append-add b r (i - length a) 0)
 
 pub plotAll-beyond : (s : ℕ) (ps : List Plot) (g r : List ℕ) → length g ≡ s * s → plotAll s ps (g ++ r) ≡ plotAll s ps g ++ r
-unfolding plotAll
-plotAll-beyond s [] g r h = refl
-plotAll-beyond s (plot x y k ∷ ps) g r h =
-    ap (plotAll s ps) (plotOne-beyond s x y k g r h) ∙ plotAll-beyond s ps (plotOne s x y k g) r (plotOne-length s x y k g ∙ h)
+plotAll-beyond s ps g r h =
+    ext-getD 0 (plotAll s ps (g ++ r)) (plotAll s ps g ++ r) (omega (arith, long, length-append g r, all-length s ps (g ++ r), length-append (plotAll s ps g) r))
+    (λ i l. elim (decLt i (s * s)) [
+      | yes k ↦ all-at s ps (g ++ r) i k (omega (arith, length-append g r)) ∙ ap (λ (a : ℕ). drawn a (first s ps i))
+          (List·getD-append g r 0 i (omega arith))
+          ∙ sym (List·getD-append (plotAll s ps g) r 0 i (omega (arith, long)) ∙ all-at s ps g i k (omega arith))
+      | no k ↦ all-beyond s ps (g ++ r) i (omega arith) ∙ tail-same g (plotAll s ps g) r i (sym long) (omega arith)
+    ])
+  where
+    long : length (plotAll s ps g) ≡ length g
+    long = all-length s ps g
 
 pub corners-length : (s : ℕ) → length (corners s) ≡ s * s
 unfolding corners
@@ -75,10 +73,12 @@ module _ (v : ℕ) (out : List ℕ) where
         unfolding layoutWritten layoutOf plotAll
         small t = (answered, rw (← answered) (simp (lt-ltb v 4 t) filled))
 
-        pub large : 4 ≤ v → {w : ℕ} {g' : List ℕ} → w ≡ v → Plotted (sideOf w) (alignment w) g g' → (0 ≡ layoutRefusal v out) × (g' ≡ layoutWritten v out)
+        pub large : 4 ≤ v → {w k : ℕ} {g' : List ℕ} → w ≡ v → k ≡ sideOf w → Plotted k (alignment w) g g'
+            → (0 ≡ layoutRefusal v out) × (g' ≡ layoutWritten v out)
         unfolding layoutWritten layoutOf
-        large t {w} {g'} d p =
-            let q : Plotted (sideOf v) (alignment v) g g' = subst (λ (k : ℕ). Plotted (sideOf k) (alignment k) g g') d p in (
+        large t {w} {k} {g'} d z p =
+            let q : Plotted (sideOf v) (alignment v) g g' = subst (λ (n : ℕ). Plotted (sideOf n) (alignment n) g g') d
+            (subst (λ (n : ℕ). Plotted n (alignment w) g g') z p) in (
               answered,
               rw (← answered)
                   (simp (le-ltb v 4 t)

@@ -4,22 +4,20 @@ use mathlib.Core.Bool.{Bool, true, false, cond}
 use Prim.Native.Nat.{ℕ, zero, suc, _+_, _-_, _*_, _<_, _≤_, _^_}
 use native.Mathlib.Nat.{mul-le-mul}
 use native.Mathlib.Omega.{arith}
-use lib.Dec.{T, ltb, leb}
+use lib.Dec.{T, ltb}
 use lib.IntN.{ℤ, pos, negsuc, natAbs, negℤ, _+ℤ_, _-ℤ_, subℕ, +ℤ-assoc, negℤ-+ℤ}
-use lib.Signed.{ltZ, leZ, mag, nonNeg}
-use borrow.Author.Tests.{lt-ltb, le-ltb, ltb-true, ltb-false, le-leb, lt-leb}
+use lib.Signed.{ltZ, mag, nonNeg}
+use borrow.Author.Tests.{lt-ltb, le-ltb, ltb-true}
 use mir.Syntax.{w64}
 use mir.Val.{Fits, SFits, toZ, ofZ}
 use mir.Facts.{toZ-ofZ, fits-natAbs}
 use Rattle.symbol.specs.Layout.{placeAt}
+use Rattle.symbol.specs.Inner.{Inside}
 
 true-false : true ≡ false → ⊥
 true-false e = subst (λ (b : Bool). T b) e tt
 
 -- a signed number as the machine reads it
-pub same : {x : ℤ} → SFits w64 x → toZ w64 (ofZ w64 x) ≡ x
-same f = toZ-ofZ f
-
 pub below-zero : {x : ℤ} (b : Bool) → SFits w64 x → ltZ (toZ w64 (ofZ w64 x)) (toZ w64 (ofZ w64 (pos 0))) ≡ b → ltZ x (pos 0) ≡ b
 below-zero b f e = simp (toZ-ofZ f) at e
 
@@ -64,18 +62,19 @@ small x h = record { sfits = omega arith }
 pub unsigned : (n : ℕ) → n < 1000 → toZ w64 n ≡ pos n
 unsigned n h = toZ-ofZ {z = pos n} (small (pos n) (omega arith))
 
-module _ (x : ℤ) (n : ℕ) (f : SFits w64 x) (a : mag x < 1000) (b : n < 1000) where
-  pub back-fits : SFits w64 (toZ w64 (ofZ w64 x) -ℤ toZ w64 n)
-  back-fits = simp (toZ-ofZ f, unsigned n b) (small (x -ℤ pos n) (omega (arith, mag-back x n)))
+-- a coordinate moved by a number
+module _ {x : ℤ} (n : ℕ) (f : SFits w64 x) (a : mag x < 1000) (b : n < 1000) where
+  pub back-is : toZ w64 (ofZ w64 x) -ℤ toZ w64 n ≡ x -ℤ pos n
+  back-is = simp (toZ-ofZ f, unsigned n b)
 
-  pub back-is : toZ w64 (ofZ w64 (toZ w64 (ofZ w64 x) -ℤ toZ w64 n)) ≡ x -ℤ pos n
-  back-is = toZ-ofZ back-fits ∙ simp (toZ-ofZ f, unsigned n b)
+  pub back-fits : SFits w64 (toZ w64 (ofZ w64 x) -ℤ toZ w64 n)
+  back-fits = rw back-is (small (x -ℤ pos n) (omega (arith, mag-back x n)))
+
+  pub forth-is : toZ w64 (ofZ w64 x) +ℤ toZ w64 n ≡ x +ℤ pos n
+  forth-is = simp (toZ-ofZ f, unsigned n b)
 
   pub forth-fits : SFits w64 (toZ w64 (ofZ w64 x) +ℤ toZ w64 n)
-  forth-fits = simp (toZ-ofZ f, unsigned n b) (small (x +ℤ pos n) (omega (arith, mag-forth x n)))
-
-  pub forth-is : toZ w64 (ofZ w64 (toZ w64 (ofZ w64 x) +ℤ toZ w64 n)) ≡ x +ℤ pos n
-  forth-is = toZ-ofZ forth-fits ∙ simp (toZ-ofZ f, unsigned n b)
+  forth-fits = rw forth-is (small (x +ℤ pos n) (omega (arith, mag-forth x n)))
 
 pub square-le : (s : ℕ) → s ≤ 189 → s * s ≤ 35721
 square-le s h = mul-le-mul h h
@@ -105,15 +104,10 @@ module _ (s : ℕ) where
   place-below (pos x) (negsuc y) l h = refl
   place-below (negsuc x) y l h = refl
 
-  pub place-in : (x y : ℤ) → ltZ x (pos 0) ≡ false → ltZ y (pos 0) ≡ false → natAbs x < s → natAbs y < s → natAbs y * s + natAbs x ≡ placeAt s x y
-  unfolding placeAt
-  place-in (pos x) (pos y) a b l h = simp (lt-ltb x s l, lt-ltb y s h)
-  place-in (pos x) (negsuc y) a b l h = absurd (true-false b)
-  place-in (negsuc x) y a b l h = absurd (true-false a)
-
 -- the place of two numbers
 pub whole-in : (s x y : ℕ) → x < s → y < s → placeAt s (pos x) (pos y) ≡ y * s + x
-whole-in s x y l h = sym (place-in s (pos x) (pos y) (le-ltb x 0 (omega arith)) (le-ltb y 0 (omega arith)) l h)
+unfolding placeAt
+whole-in s x y l h = simp (lt-ltb x s l, lt-ltb y s h)
 
 -- the same of signed numbers as the machine reads them
 module _ (s : ℕ) (x y : ℤ) (f : SFits w64 x) (g : SFits w64 y) where
@@ -134,44 +128,35 @@ ok x h = record { sfits = h }
 pub near : {x : ℤ} (n : ℕ) → SFits w64 x → mag x < n → mag (toZ w64 (ofZ w64 x)) < n
 near n f h = subst (λ (z : ℤ). mag z < n) (sym (toZ-ofZ f)) h
 
-pub whole-near : {x : ℤ} {n : ℕ} (k : ℕ) → SFits w64 x → x ≡ pos n → n < k → mag (toZ w64 (ofZ w64 x)) < k
-whole-near {x} {n} k f e h = near k f (subst (λ (z : ℤ). mag z < k) (sym e) h)
-
-pub room-of : {s t : ℕ} {n : ℕ} → s ≡ t → t * t ≤ n → s * s ≤ n
-room-of {s} {t} {n} e h = subst (λ (k : ℕ). k * k ≤ n) (sym e) h
-
--- a signed loop variable against a signed bound
-pub less : {y e : ℤ} {a b : ℕ} → y ≡ pos a → e ≡ pos b → ltZ y e ≡ true → a < b
-less {y} {e} {a} {b} p q h = ltb-true a b (subst (λ (z : ℤ). ltZ (pos a) z ≡ true) q (subst (λ (z : ℤ). ltZ z e ≡ true) p h))
-
-pub not-less : {y e : ℤ} {a b : ℕ} → y ≡ pos a → e ≡ pos b → ltZ y e ≡ false → b ≤ a
-not-less {y} {e} {a} {b} p q h = ltb-false a b (subst (λ (z : ℤ). ltZ (pos a) z ≡ false) q (subst (λ (z : ℤ). ltZ z e ≡ false) p h))
-
--- a difference of two numbers, and a further number taken off
-pub above-difference : (a b : ℕ) → leZ (pos 0) (pos a -ℤ pos b) ≡ leb b a
-above-difference a zero = le-leb 0 (a + 0) (omega arith) ∙ sym (le-leb 0 a (omega arith))
-above-difference a (suc b) = by (ltb a (suc b)) refl
-  where
-    by : (t : Bool) → ltb a (suc b) ≡ t → leZ (pos 0) (cond t (negsuc (suc b - suc a)) (pos (a - suc b))) ≡ leb (suc b) a
-    by true e = sym (lt-leb (suc b) a (ltb-true a (suc b) e))
-    by false e = le-leb 0 (a - suc b) (omega arith) ∙ sym (le-leb (suc b) a (ltb-false a (suc b) e))
-
+-- a further number taken off
 pub take-off : (a b c : ℕ) → pos a -ℤ pos b -ℤ pos c ≡ pos a -ℤ pos (b + c)
 take-off a b c = +ℤ-assoc (pos a) (negℤ (pos b)) (negℤ (pos c)) ∙ ap (λ (z : ℤ). pos a +ℤ z) (sym (negℤ-+ℤ (pos b) (pos c)))
 
 -- a coordinate moved to the left stays inside or leaves the square
 pub difference : (a b : ℕ) → b ≤ a → pos a -ℤ pos b ≡ pos (a - b)
 difference a zero h = let e : a + 0 ≡ a - 0 = omega arith in ap pos e
-difference a (suc b) h = by (ltb a (suc b)) refl
-  where
-    by : (t : Bool) → ltb a (suc b) ≡ t → cond t (negsuc (suc b - suc a)) (pos (a - suc b)) ≡ pos (a - suc b)
-    by true e = absurd (let k : a < suc b = ltb-true a (suc b) e in omega arith)
-    by false e = refl
+difference a (suc b) h = simp (le-ltb a (suc b) h)
 
 pub negative : (a b : ℕ) → a < b → ltZ (pos a -ℤ pos b) (pos 0) ≡ true
 negative a zero h = absurd (omega arith)
-negative a (suc b) h = by (ltb a (suc b)) refl
-  where
-    by : (t : Bool) → ltb a (suc b) ≡ t → ltZ (cond t (negsuc (suc b - suc a)) (pos (a - suc b))) (pos 0) ≡ true
-    by true e = refl
-    by false e = absurd (let k : suc b ≤ a = ltb-false a (suc b) e in omega arith)
+negative a (suc b) h = simp (lt-ltb a (suc b) h)
+
+-- a coordinate of the square
+pub inside-of : {s n : ℕ} {z : ℤ} → z ≡ pos n → n < s → Inside s z
+inside-of {s} e h = subst (λ (z : ℤ). Inside s z) (sym e) (record { whole = refl; within = h })
+
+pub inside-call : {s : ℕ} {x : ℤ} → mag x < 2 ^ 63 → Inside s x → Inside s (toZ w64 (ofZ w64 x))
+inside-call {s} {x} h i = subst (λ (z : ℤ). Inside s z) (sym (toZ-ofZ (ok x h))) i
+
+pub inside-number : {s : ℕ} (n : ℕ) → n < s → s ≤ 189 → Inside s (toZ w64 n)
+inside-number n h k = inside-of (unsigned n (omega arith)) h
+
+module _ {s : ℕ} {x : ℤ} (f : SFits w64 x) (i : Inside s x) where
+  pub inside : Inside s (toZ w64 (ofZ w64 x))
+  inside = subst (λ (z : ℤ). Inside s z) (sym (toZ-ofZ f)) i
+
+  pub cast-inside : s ≤ 189 → T (nonNeg (toZ w64 (ofZ w64 x))) × Fits w64 (natAbs (toZ w64 (ofZ w64 x)))
+  cast-inside h = (subst (λ (z : ℤ). T (nonNeg z)) (sym (inside .whole)) tt, omega (arith, inside .within))
+
+  pub near-inside : s ≤ 189 → mag (toZ w64 (ofZ w64 x)) < 200
+  near-inside h = subst (λ (z : ℤ). mag z < 200) (sym (inside .whole)) (omega (arith, inside .within))

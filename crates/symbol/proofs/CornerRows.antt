@@ -9,12 +9,13 @@ use native.Mathlib.Decide.{decLt}
 use native.Mathlib.Numerals.{add-one}
 use lib.Arith.{digits-div, digits-mod}
 use lib.Dec.{T, ltb, ltb→lt, lit<}
-use lib.ListN.{getD}
+use lib.ListN.{length, getD, set, length-set}
 use borrow.Author.Tests.{lt-ltb, le-ltb, ltb-true, ltb-false, ne-eqb}
 use Rattle.symbol.specs.Layout.{finders, edge, ring, half, within, finderRow, finderAt, cornerAt, cornerKind}
-use Rattle.symbol.specs.Inner.{Stored, Ends, UpTo, Beyond}
+use Rattle.symbol.specs.Inner.{Stored, RowRoom, Ends, UpTo, Beyond}
+use Rattle.symbol.proofs.Coordinates.{square-le}
 use Rattle.symbol.proofs.Finite.{upTo, every}
-use Rattle.symbol.proofs.Stored.{stored-next, stored-as}
+use Rattle.symbol.proofs.Stored.{stored-none, stored-next, stored-more, stored-as}
 
 -- a row of a finder has seven bits: a test that antt computes
 rows-small : T (upTo (λ n. ltb (getD (getD finders (n / 7) []) (n % 7) 0) 128) 28)
@@ -81,28 +82,18 @@ module _ (s r c : ℕ) where
   unfolding cornerAt
   in-finder a b = let h : ring s r c < 7 = ring-max (λ (n : ℕ). n < 7) (λ l. b) (λ l. a) in simp (lt-ltb (ring s r c) 7 h)
 
+  ring-is : (n : ℕ) → edge s r ≤ n → edge s c ≤ n → (edge s r < n → edge s c ≡ n) → ring s r c ≡ n
+  ring-is n a b k =
+      ring-max (λ (m : ℕ). m ≡ n) (λ l. k (omega arith)) (λ l. elim (decLt (edge s r) n)
+      [ yes h ↦ (let z = k h in omega arith) | no h ↦ omega arith ])
+
   pub in-separator : edge s r ≤ 7 → edge s c ≤ 7 → (edge s r < 7 → edge s c ≡ 7) → cornerAt s r c ≡ 2
   unfolding cornerAt
-  in-separator a b k =
-      let h : ring s r c ≡ 7 = ring-max (λ (n : ℕ). n ≡ 7) (λ l. k (omega arith)) (λ l. by l) in rw h
-    where
-      by : edge s c ≤ edge s r → edge s r ≡ 7
-      by l = go (ltb (edge s r) 7) refl
-        where
-          go : (t : Bool) → ltb (edge s r) 7 ≡ t → edge s r ≡ 7
-          go true e = let z = k (ltb-true (edge s r) 7 e) in absurd (omega (arith, ltb-true (edge s r) 7 e))
-          go false e = omega (arith, ltb-false (edge s r) 7 e)
+  in-separator a b k = let h : ring s r c ≡ 7 = ring-is 7 a b k in rw h
 
   pub in-information : edge s r ≤ 8 → edge s c ≤ 8 → (edge s r < 8 → edge s c ≡ 8) → cornerAt s r c ≡ 1
   unfolding cornerAt
-  in-information a b k = let h : ring s r c ≡ 8 = ring-max (λ (n : ℕ). n ≡ 8) (λ l. k (omega arith)) (λ l. by l) in rw h
-    where
-      by : edge s c ≤ edge s r → edge s r ≡ 8
-      by l = go (ltb (edge s r) 8) refl
-        where
-          go : (t : Bool) → ltb (edge s r) 8 ≡ t → edge s r ≡ 8
-          go true e = let z = k (ltb-true (edge s r) 8 e) in absurd (omega (arith, ltb-true (edge s r) 8 e))
-          go false e = omega (arith, ltb-false (edge s r) 8 e)
+  in-information a b k = let h : ring s r c ≡ 8 = ring-is 8 a b k in rw h
 
   wide-ring : (n : ℕ) → n ≡ ring s r c → 9 ≤ n → cornerAt s r c ≡ 0
   unfolding cornerAt
@@ -128,6 +119,10 @@ along s r f {from} {to} a b k i h g =
 
 pub row-end : (s r : ℕ) → r < s → r * s + s ≤ s * s
 row-end s r h = subst (λ (n : ℕ). n ≤ s * s) (suc-mul r s) (mul-le-mul-right s h)
+
+pub row-room : {s r : ℕ} {g : List ℕ} → 23 ≤ s → s ≤ 189 → s * s ≤ length g → r < s → RowRoom s r g
+row-room {s} {r} a b e h =
+    record { big = a; small = b; inside = h; room = omega (arith, row-end s r h); fits = omega (arith, row-end s r h, square-le s b) }
 
 module _ (s r : ℕ) (big : 23 ≤ s) (in-row : r < s) where
   near-column : (c : ℕ) → c ≤ 8 → edge s c ≡ c
@@ -212,53 +207,70 @@ module _ (s r : ℕ) (big : 23 ≤ s) (in-row : r < s) where
               ∙ ap (λ (n : ℕ). 2 + finderRow s 1 r / 2 ^ n % 2) (sym e)
               ∙ sym (in-finder s r c l (omega (arith, d)) ∙ simp (le-ltb c 7 (omega arith)))
 
+-- one row more
+row-next : (s r : ℕ) → r * s + s ≡ (r + 1) * s
+row-next s r = sym (suc-mul r s) ∙ ap (λ (n : ℕ). n * s) (sym (add-one r))
+
 -- a row of the corners from its ends
 module _ (s r : ℕ) (big : 23 ≤ s) (in-row : r < s) where
   -- two stretches of nine
-  two-ends : {g g₁ g₂ : List ℕ} → Stored (cornerKind s) (r * s) (r * s + 9) g g₁ → Stored (cornerKind s) (r * s + s - 9) (r * s + s) g₁ g₂ → Ends (cornerKind s) (r * s) (r * s + s) g g₂
-  two-ends a b =
+  two-ends : {m n k : ℕ} {g g₁ g₂ : List ℕ} → m ≡ r * s + 9 → n + 9 ≡ r * s + s → k ≡ r * s + s → Stored (cornerKind s) (r * s) m g g₁
+      → Stored (cornerKind s) n k g₁ g₂
+      → Ends (cornerKind s) (r * s) (r * s + s) g g₂
+  two-ends d e f a b =
       record {
         size = b .size ∙ a .size;
-        left = λ i h k. b .before i (omega arith) ∙ a .here i h k;
-        right = λ i h k. b .here i (omega arith) k;
-        middle = λ i h k. b .before i (omega arith) ∙ a .after i h;
+        left = λ i h k. b .before i (omega arith) ∙ a .here i h (omega arith);
+        right = λ i h k. b .here i (omega arith) (omega arith);
+        middle = λ i h k. b .before i (omega arith) ∙ a .after i (omega arith);
         before = λ i h. b .before i (omega arith) ∙ a .before i h;
-        after = λ i h. b .after i h ∙ a .after i (omega arith);
+        after = λ i h. b .after i (omega arith) ∙ a .after i (omega arith);
       }
 
   pub finder-row : (left right : ℕ) → edge s r < 8
       → (left < 128) × ((edge s r < 7 → left ≡ finderRow s 0 r) × (edge s r ≡ 7 → left ≡ 0))
       → (right < 128) × ((edge s r < 7 → right ≡ finderRow s 1 r) × (edge s r ≡ 7 → right ≡ 0))
-      → {g g₁ g₂ g₃ g₄ : List ℕ}
+      → {g g₁ g₂ : List ℕ} → r * s + s ≤ length g
       → Stored (λ i. 2 + 2 * left / 2 ^ (7 - (i - r * s)) % 2) (r * s) (r * s + 8) g g₁
-      → Stored (λ i. 1) (r * s + 8) (r * s + 9) g₁ g₂
-      → Stored (λ i. 1) (r * s + s - 9) (r * s + s - 8) g₂ g₃
-      → Stored (λ i. 2 + right / 2 ^ (7 - (i - (r * s + s - 8))) % 2) (r * s + s - 8) (r * s + s - 8 + 8) g₃ g₄
-      → Ends (cornerKind s) (r * s) (r * s + s) g g₄
-  finder-row left right near l q {g} {g₁} {g₂} {g₃} {g₄} a b d e =
-      let end : r * s + s - 8 + 8 ≡ r * s + s = omega arith in
-      let e′ : Stored (λ i. 2 + right / 2 ^ (7 - (i - (r * s + s - 8))) % 2) (r * s + s - 8) (r * s + s) g₃ g₄ = subst (λ (n : ℕ). Stored (λ i. 2 + right / 2 ^ (7 - (i - (r * s + s - 8))) % 2) (r * s + s - 8) n g₃ g₄) end e in
-      two-ends
-      (stored-next (omega arith) (omega arith) (stored-as (cornerKind s) (along s r (λ i. 2 + 2 * left / 2 ^ (7 - (i - r * s)) % 2) (omega arith) (omega arith) lefts) a)
-      (stored-as (cornerKind s) (along s r (λ i. 1) (omega arith) (omega arith) (λ k h j. let z : 8 ≡ k = omega arith in sym (left-information s r big in-row near) ∙ ap (cornerAt s r) z)) b))
-      (stored-next (omega arith) (omega arith) (stored-as (cornerKind s) (along s r (λ i. 1) (omega arith) (omega arith) (λ k h j. let z : s - 9 ≡ k = omega arith in sym (right-information s r big in-row near) ∙ ap (cornerAt s r) z)) d)
-      (stored-as (cornerKind s) (along s r (λ i. 2 + right / 2 ^ (7 - (i - (r * s + s - 8))) % 2) (omega arith) (omega arith) rights) e′))
+      → Stored (λ i. 2 + right / 2 ^ (7 - (i - (r * s + s - 8))) % 2) (r * s + s - 8) (r * s + s - 8 + 8)
+      (set (set g₁ (r * s + 8) 1) (r * s + s - 9) 1) g₂
+      → Ends (cornerKind s) (r * s) (r * s + s) g g₂
+  finder-row left right near l q {g} {g₁} {g₂} room a b =
+      two-ends (let z : r * s + 8 + 1 ≡ r * s + 9 = omega arith in z) (let z : r * s + s - 9 + 9 ≡ r * s + s = omega arith in z)
+      (let z : r * s + s - 8 + 8 ≡ r * s + s = omega arith in z)
+      (stored-more (omega arith) (omega (arith, a .size)) (sym (row-kind s r 8 (omega arith) ∙ left-information s r big in-row near))
+      (stored-as (cornerKind s) (along s r (λ i. 2 + 2 * left / 2 ^ (7 - (i - r * s)) % 2) (omega arith) (omega arith) lefts) a))
+      (stored-next (omega arith) (omega arith) middle
+      (stored-as (cornerKind s) (along s r (λ i. 2 + right / 2 ^ (7 - (i - (r * s + s - 8))) % 2) (omega arith) (omega arith) rights) b))
     where
+      middle : Stored (cornerKind s) (r * s + s - 9) (r * s + s - 8) (set g₁ (r * s + 8) 1) (set (set g₁ (r * s + 8) 1) (r * s + s - 9) 1)
+      middle =
+          let z : r * s + s - 9 + 1 ≡ r * s + s - 8 = omega arith in
+          let e : r * s + (s - 9) ≡ r * s + s - 9 = omega arith in
+          let k : 1 ≡ cornerKind s (r * s + s - 9) = sym (ap (cornerKind s) (sym e) ∙ row-kind s r (s - 9) (omega arith)
+          ∙ right-information s r big in-row near) in
+          rw z at (stored-more {from = r * s + s - 9} (omega arith) (omega (arith, a .size, length-set g₁ (r * s + 8) 1)) k
+          (stored-none (cornerKind s) (r * s + s - 9) (set g₁ (r * s + 8) 1)))
+
       lefts : (k : ℕ) → r * s ≤ r * s + k → r * s + k < r * s + 8 → 2 + 2 * left / 2 ^ (7 - (r * s + k - r * s)) % 2 ≡ cornerAt s r k
       lefts k h j =
           let z : r * s + k - r * s ≡ k = omega arith in
           ap (λ (n : ℕ). 2 + 2 * left / 2 ^ (7 - n) % 2) z ∙ left-modules s r big in-row near left 0 (l .0) (l .1 .0) (l .1 .1) refl k (omega arith)
 
-      rights : (k : ℕ) → r * s + s - 8 ≤ r * s + k → r * s + k < r * s + s → 2 + right / 2 ^ (7 - (r * s + k - (r * s + s - 8))) % 2 ≡ cornerAt s r k
+      rights : (k : ℕ) → r * s + s - 8 ≤ r * s + k → r * s + k < r * s + s - 8 + 8
+          → 2 + right / 2 ^ (7 - (r * s + k - (r * s + s - 8))) % 2 ≡ cornerAt s r k
       rights k h j = right-modules s r big in-row near right 1 (q .0) (q .1 .0) (q .1 .1) refl k (r * s + k - (r * s + s - 8)) (omega arith) (omega arith)
 
   pub information-row : edge s r ≡ 8 → {g g₁ g₂ : List ℕ} → Stored (λ i. 1) (r * s) (r * s + 9) g g₁ → Stored (λ i. 1) (r * s + s - 9) (r * s + s) g₁ g₂ → Ends (cornerKind s) (r * s) (r * s + s) g g₂
   information-row arm a b =
-      two-ends (stored-as (cornerKind s) (along s r (λ i. 1) (omega arith) (omega arith) (λ k h j. sym (arm-left s r big in-row arm k (omega arith)))) a)
+      two-ends refl (let z : r * s + s - 9 + 9 ≡ r * s + s = omega arith in z) refl
+      (stored-as (cornerKind s) (along s r (λ i. 1) (omega arith) (omega arith) (λ k h j. sym
+      (arm-left s r big in-row arm k (omega arith)))) a)
       (stored-as (cornerKind s) (along s r (λ i. 1) (omega arith) (omega arith) (λ k h j. sym (arm-right s r big in-row arm k (omega arith) (omega arith)))) b)
 
   -- the places between the ends of a row are data
-  pub row-done : {g g' : List ℕ} → UpTo (cornerKind s) (s * s) (r * s) g → Ends (cornerKind s) (r * s) (r * s + s) g g' → UpTo (cornerKind s) (s * s) (r * s + s) g'
+  row-done : {g g' : List ℕ} → UpTo (cornerKind s) (s * s) (r * s) g → Ends (cornerKind s) (r * s) (r * s + s) g g'
+      → UpTo (cornerKind s) (s * s) (r * s + s) g'
   row-done {g} {g'} u e =
       record {
         done = λ i h. elim (decLt i (r * s)) [
@@ -274,11 +286,16 @@ module _ (s r : ℕ) (big : 23 ≤ s) (in-row : r < s) where
         blank = λ i h k. e .after i h ∙ u .blank i (omega arith) k;
       }
 
-  pub row-beyond : {g g' : List ℕ} → Ends (cornerKind s) (r * s) (r * s + s) g g' → Beyond (s * s) g g'
-  row-beyond e = record { size = e .size; after = λ i h. e .after i (omega (arith, row-end s r in-row)) }
+  pub row-more : {g₀ g g' : List ℕ} → UpTo (cornerKind s) (s * s) (r * s) g × Beyond (s * s) g₀ g
+      → Ends (cornerKind s) (r * s) (r * s + s) g g'
+      → UpTo (cornerKind s) (s * s) ((r + 1) * s) g' × Beyond (s * s) g₀ g'
+  row-more {g₀} {g} {g'} u e = (
+    subst (λ (n : ℕ). UpTo (cornerKind s) (s * s) n g') (row-next s r) (row-done (u .0) e),
+    record { size = e .size ∙ u .1 .size; after = λ i h. e .after i (omega (arith, row-end s r in-row)) ∙ u .1 .after i h },
+  )
 
 -- rows 9 to s − 10 are data
-pub data-rows : (s : ℕ) → 23 ≤ s → {g : List ℕ} → UpTo (cornerKind s) (s * s) (9 * s) g → UpTo (cornerKind s) (s * s) ((s - 9) * s) g
+data-rows : (s : ℕ) → 23 ≤ s → {g : List ℕ} → UpTo (cornerKind s) (s * s) (9 * s) g → UpTo (cornerKind s) (s * s) ((s - 9) * s) g
 data-rows s big {g} u =
     record {
       done = λ i h. elim (decLt i (9 * s)) [
@@ -297,6 +314,22 @@ data-rows s big {g} u =
     high : (i : ℕ) → i < (s - 9) * s → i / s < s - 9
     high i h = div-lt-iff-lt-mul {k = s} {x = i} {y = s - 9} pos-side .1 h
 
+-- the rows of the information arms, and those between them
+pub upper-arm : (s : ℕ) → 23 ≤ s → edge s 8 ≡ 8
+upper-arm s big = edge-near s 8 (omega arith)
+
+pub lower-arm : (s : ℕ) → 23 ≤ s → edge s (s - 9) ≡ 8
+lower-arm s big = edge-far s (s - 9) (omega arith) ∙ (let e : s - 1 - (s - 9) ≡ 8 = omega arith in e)
+
+pub middle-rows : (s : ℕ) → 23 ≤ s → {g₁ g₂ g₃ g₄ : List ℕ} → UpTo (cornerKind s) (s * s) (8 * s) g₂ × Beyond (s * s) g₁ g₂
+    → Ends (cornerKind s) (8 * s) (8 * s + s) g₂ g₃ → Ends (cornerKind s) ((s - 9) * s) ((s - 9) * s + s) g₃ g₄
+    → UpTo (cornerKind s) (s * s) ((s - 8) * s) g₄ × Beyond (s * s) g₁ g₄
+middle-rows s big {g₁} {g₂} {g₃} {g₄} u a b =
+    let p = row-more s 8 big (omega arith) u a in
+    let q = row-more s (s - 9) big (omega arith) (data-rows s big (p .0), p .1) b in
+    let e : s - 9 + 1 ≡ s - 8 = omega arith in
+    (subst (λ (n : ℕ). UpTo (cornerKind s) (s * s) (n * s) g₄) e (q .0), q .1)
+
 pub all-blank : (f : ℕ → ℕ) (n m : ℕ) {g g' : List ℕ} → m ≡ 0 → Stored (λ i. 0) 0 n g g' → UpTo f n m g'
 all-blank f n m e s = record { done = λ i h. absurd (omega arith); blank = λ i h k. s .here i (omega arith) k }
 
@@ -309,9 +342,6 @@ near-lower s r h k = omega (arith, edge-bottom s r)
 pub beyond-none : {n : ℕ} {g : List ℕ} → Beyond n g g
 beyond-none = record { size = refl; after = λ i h. refl }
 
-pub beyond-next : {n : ℕ} {g g' g'' : List ℕ} → Beyond n g g' → Beyond n g' g'' → Beyond n g g''
-beyond-next a b = record { size = b .size ∙ a .size; after = λ i h. b .after i h ∙ a .after i h }
-
 pub corners-stored : {f : ℕ → ℕ} {n : ℕ} {g g₁ g₂ g₃ : List ℕ} → Stored (λ i. 0) 0 n g g₁ → Beyond n g₁ g₂ → Beyond n g₂ g₃ → UpTo f n n g₃ → Stored f 0 n g g₃
 corners-stored a b c u =
     record {
@@ -320,7 +350,3 @@ corners-stored a b c u =
       before = λ i h. absurd (omega arith);
       after = λ i h. c .after i h ∙ b .after i h ∙ a .after i h;
     }
-
--- one row more
-pub row-next : (s r : ℕ) → r * s + s ≡ (r + 1) * s
-row-next s r = sym (suc-mul r s) ∙ ap (λ (n : ℕ). n * s) (sym (add-one r))

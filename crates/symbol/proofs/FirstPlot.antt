@@ -2,7 +2,7 @@
 use mathlib.Core.Path.{_≡_, refl, sym, ap, _∙_}
 use mathlib.Core.Bool.{Bool, true, false, cond, _&&_}
 use mathlib.Core.List.{List, [], _∷_, _++_}
-use Prim.Native.Nat.{ℕ, zero, suc, _+_, _*_, _<_, _≤_}
+use Prim.Native.Nat.{ℕ, zero, suc, _*_, _<_, _≤_}
 use native.Mathlib.Decide.{ℕ-discrete}
 use native.Mathlib.Omega.{arith}
 use lib.Dec.{eqb, ltb}
@@ -18,7 +18,7 @@ drawn-data : {a : ℕ} (k : ℕ) → a ≡ 0 → drawn a k ≡ k
 unfolding drawn
 drawn-data {a} k e = simp (eq-eqb a 0 e)
 
-drawn-kept : {a : ℕ} (k : ℕ) → (a ≡ 0 → ⊥) → drawn a k ≡ a
+pub drawn-kept : {a : ℕ} (k : ℕ) → (a ≡ 0 → ⊥) → drawn a k ≡ a
 unfolding drawn
 drawn-kept {a} k n = simp (ne-eqb a 0 n)
 

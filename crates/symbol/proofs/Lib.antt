@@ -8,7 +8,6 @@ pub mod Stored
 pub mod Fours
 pub mod CornerRows
 pub mod Lines
-pub mod Walk
 pub mod Answer
 pub mod KindsLow
 pub mod Theorems

@@ -1,5 +1,5 @@
 -- A line to the left is two runs: plots of dark and light modules in turn, and the dark ones before the light ones, come to the same.
-use mathlib.Core.Path.{_≡_, sym, ap, subst, _∙_}
+use mathlib.Core.Path.{_≡_, sym, ap, _∙_}
 use mathlib.Core.List.{List}
 use Prim.Native.Nat.{ℕ, _+_, _-_, _*_, _<_, _≤_}
 use native.Mathlib.Decide.{decLt}
@@ -7,17 +7,12 @@ use native.Mathlib.Numerals.{add-one}
 use native.Mathlib.Nat.{suc-mul}
 use native.Mathlib.Omega.{arith}
 use lib.Arith.{digits-lt}
-use lib.Dec.{T}
-use lib.IntN.{ℤ, pos, natAbs, _+ℤ_, _-ℤ_}
+use lib.IntN.{ℤ, pos, _+ℤ_, _-ℤ_}
 use lib.ListN.{length, getD}
 use lib.Seq.{ext-getD}
-use lib.Signed.{mag, nonNeg}
-use mir.Syntax.{w64}
-use mir.Val.{Fits, SFits, toZ, ofZ}
-use mir.Facts.{toZ-ofZ}
 use Rattle.symbol.specs.Layout.{Plot, placeAt, plotAll, lineModule, lineLeft, each}
 use Rattle.symbol.specs.Inner.{Stored, Plotted, drawn}
-use Rattle.symbol.proofs.Coordinates.{place-left, place-below, whole-in, take-off, difference, negative, near}
+use Rattle.symbol.proofs.Coordinates.{square-le, place-left, place-below, whole-in, take-off, difference, negative}
 use Rattle.symbol.proofs.FirstPlot.{first, all-length, all-beyond, all-at, each-none, each-one, module-dark, module-light, module-off, drawn-zero}
 
 module _ (s c r : ℕ) (ci : c < s) (ri : r < s) where
@@ -30,6 +25,17 @@ module _ (s c r : ℕ) (ci : c < s) (ri : r < s) where
   -- the light run lies in the next row, if there is one
   pub room-below : r + 1 < s → r * s + c + s < s * s
   room-below h = omega (arith, digits-lt h ci, next-row)
+
+  pub record Here (n : ℕ) : Type 0 where
+    pub room : r * s + c < n
+    pub fits : r * s + c < 35721
+    pub below : r + 1 < s → (r * s + c + s < n) × (r * s + c + s < 35721)
+
+  -- where a line begins, in a square that n bytes have room for
+  pub here : (n : ℕ) → s ≤ 189 → s * s ≤ n → Here n
+  here n small room =
+      let q = square-le s small in
+      record { room = omega (arith, in-square); fits = omega (arith, in-square); below = λ h. let l = room-below h in (omega arith, omega arith) }
 
   -- the dark module of turn j
   dark-in : (j : ℕ) → j ≤ c → placeAt s (pos c -ℤ pos j) (pos r) ≡ r * s + (c - j)
@@ -139,10 +145,3 @@ module _ (s c r : ℕ) (ci : c < s) (ri : r < s) where
         | yes k ↦ inside p k ∙ sym (all-at s (lineLeft (pos c) (pos r) w) g p k room)
         | no k ↦ l .after p (omega arith) ∙ d .after p (omega (arith, in-square)) ∙ sym (all-beyond s (lineLeft (pos c) (pos r) w) g p (omega arith))
       ]
-
--- a signed coordinate of a square as a number
-pub number-is : (s : ℕ) {x : ℤ} → SFits w64 x → x ≡ pos (natAbs x) → natAbs x < s → s ≤ 189 → T (nonNeg (toZ w64 (ofZ w64 x))) × Fits w64 (natAbs (toZ w64 (ofZ w64 x)))
-number-is s f e l h = subst (λ (z : ℤ). T (nonNeg z) × Fits w64 (natAbs z)) (sym (toZ-ofZ f)) (subst (λ (z : ℤ). T (nonNeg z)) (sym e) tt, omega arith)
-
-pub number-near : (s : ℕ) {x : ℤ} → SFits w64 x → x ≡ pos (natAbs x) → natAbs x < s → s ≤ 189 → mag (toZ w64 (ofZ w64 x)) < 200
-number-near s f e l h = near 200 f (subst (λ (z : ℤ). mag z < 200) (sym e) (omega arith))

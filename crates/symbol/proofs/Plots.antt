@@ -7,10 +7,10 @@ use lib.IntN.{ℤ, pos, natAbs}
 use mir.Syntax.{w64}
 use mir.Val.{SFits, toZ, ofZ}
 use mir.Facts.{toZ-ofZ}
-use mathlib.Core.Bool.{Bool}
 use borrow.Author.Tests.{eq-eqb, ne-eqb, lt-ltb, le-ltb}
-use Rattle.symbol.specs.Layout.{when, assistant, lineLeft, lineDown, placeAt, crossing, columnOf, rowOf, stepOf, Plot, plot, plotOne, plotAll, each}
-use lib.ListN.{getD, set}
+use Rattle.symbol.specs.Layout.{when, odd, assistant, lineLeft, lineDown, placeAt, crossing, columnOf, rowOf, stepOf, Plot, plot, plotOne, plotAll, each}
+use lib.ListN.{length, getD, set}
+use native.Mathlib.Omega.{arith}
 use Rattle.symbol.specs.Inner.{Plotted}
 
 pub plotAll-append : (s : ℕ) (ps qs : List Plot) (g : List ℕ) → plotAll s (ps ++ qs) g ≡ plotAll s qs (plotAll s ps g)
@@ -27,14 +27,25 @@ none = record { is = refl }
 pub next : {s : ℕ} {ps qs : List Plot} {g g' g'' : List ℕ} → Plotted s ps g g' → Plotted s qs g' g'' → Plotted s (ps ++ qs) g g''
 next {s} {ps} {qs} {g} d e = record { is = e .is ∙ ap (plotAll s qs) (d .is) ∙ sym (plotAll-append s ps qs g) }
 
--- a loop: no turn, and one more
-pub start : {s : ℕ} (f : ℕ → List Plot) {g : List ℕ} → Plotted s (each 0 f) g g
-unfolding each
-start f = none
+-- a loop that plots: the turns below n are done, of as many as `to`
+pub record Turned (s : ℕ) (f : ℕ → List Plot) (to : ℕ) (g₀ g : List ℕ) (n : ℕ) : Type 0 where
+  pub plotted : Plotted s (each n f) g₀ g
+  pub few : n ≤ to
+  pub kept : length g ≡ length g₀
 
-pub turn : {s : ℕ} (f : ℕ → List Plot) (n : ℕ) {g g' g'' : List ℕ} → Plotted s (each n f) g g' → Plotted s (f n) g' g'' → Plotted s (each (n + 1) f) g g''
+pub begun : {s : ℕ} {f : ℕ → List Plot} {to : ℕ} {g : List ℕ} → Turned s f to g g 0
 unfolding each
-turn {s} f n {g} {g'} {g''} d e = subst (λ (m : ℕ). Plotted s (each m f) g g'') (sym (add-one n)) (next d e)
+begun = record { plotted = none; few = omega arith; kept = refl }
+
+pub again : {s : ℕ} {f : ℕ → List Plot} {to : ℕ} {g₀ g g' : List ℕ} {n : ℕ} → n < to → Turned s f to g₀ g n → Plotted s (f n) g g'
+    → length g' ≡ length g → Turned s f to g₀ g' (n + 1)
+unfolding each
+again {s} {f} {to} {g₀} {g} {g'} {n} h t e k =
+    let p : Plotted s (each (n + 1) f) g₀ g' = subst (λ (m : ℕ). Plotted s (each m f) g₀ g') (sym (add-one n)) (next (t .plotted) e) in
+    record { plotted = p; few = omega arith; kept = k ∙ t .kept }
+
+pub ended : {s : ℕ} {f : ℕ → List Plot} {to : ℕ} {g₀ g : List ℕ} {n : ℕ} → to ≤ n → Turned s f to g₀ g n → Plotted s (each to f) g₀ g
+ended {s} {f} {to} {g₀} {g} {n} h t = let e : n ≡ to = omega arith in subst (λ (k : ℕ). Plotted s (each k f) g₀ g) e (t .plotted)
 
 -- what a call says of coordinates as the machine reads them, of the coordinates
 pub heard : {s : ℕ} (F : ℤ → ℤ → List Plot) {x y x' y' : ℤ} {g g' : List ℕ} → SFits w64 x → SFits w64 y → x ≡ x' → y ≡ y' → Plotted s (F (toZ w64 (ofZ w64 x)) (toZ w64 (ofZ w64 y))) g g' → Plotted s (F x' y') g g'
@@ -47,12 +58,23 @@ numbered {s} F {x} {y} {g} {g'} a b p q e =
     subst (λ (z : ℤ). Plotted s (F z y) g g') (ap (λ z. pos (natAbs z)) (toZ-ofZ a) ∙ sym p)
     (subst (λ (z : ℤ). Plotted s (F (pos (natAbs (toZ w64 (ofZ w64 x)))) z) g g') (ap (λ z. pos (natAbs z)) (toZ-ofZ b) ∙ sym q) e)
 
--- the same plots on the same side
-pub exactly : {s s' : ℕ} {ps qs : List Plot} {g g' : List ℕ} → s ≡ s' → ps ≡ qs → Plotted s ps g g' → Plotted s' qs g g'
-exactly {s} {s'} {ps} {qs} {g} {g'} d e t = subst (λ (k : ℕ). Plotted k qs g g') d (subst (λ (l : List Plot). Plotted s l g g') e t)
+-- the same plots
+pub exactly : {s : ℕ} {ps qs : List Plot} {g g' : List ℕ} → ps ≡ qs → Plotted s ps g g' → Plotted s qs g g'
+exactly {s} {ps} {qs} {g} {g'} e t = subst (λ (l : List Plot). Plotted s l g g') e t
 
-pub assisted : {s s' : ℕ} {b b' : Bool} {x y x' y' : ℤ} {g g' : List ℕ} → s ≡ s' → b ≡ b' → SFits w64 x → SFits w64 y → x ≡ x' → y ≡ y' → Plotted s (when b (assistant (toZ w64 (ofZ w64 x)) (toZ w64 (ofZ w64 y)))) g g' → Plotted s' (when b' (assistant x' y')) g g'
-assisted {b = b} {x' = x'} {y' = y'} d e f h p q t = exactly d (ap (λ (c : Bool). when c (assistant x' y')) e) (heard (λ a c. when b (assistant a c)) f h p q t)
+-- an assistant, or none
+module _ {s : ℕ} (n : ℕ) (x y : ℤ) where
+  pub odd-one : {g g' : List ℕ} → n % 2 ≡ 1 → Plotted s (assistant x y) g g' → Plotted s (when (odd n) (assistant x y)) g g'
+  odd-one h t = exactly (simp (eq-eqb (n % 2) 1 h)) t
+
+  pub even-none : {g : List ℕ} → n % 2 ≡ 0 → Plotted s (when (odd n) (assistant x y)) g g
+  even-none h = exactly (simp (ne-eqb (n % 2) 1 (λ z. omega arith))) none
+
+pub assisted : {s k k' : ℕ} {x y x' y' : ℤ} {g g' : List ℕ} → k ≡ k' → SFits w64 x → SFits w64 y → x ≡ x' → y ≡ y'
+    → Plotted s (when (odd k) (assistant (toZ w64 (ofZ w64 x)) (toZ w64 (ofZ w64 y)))) g g'
+    → Plotted s (when (odd k') (assistant x' y')) g g'
+assisted {k = k} {x' = x'} {y' = y'} e f h p q t =
+    exactly (ap (λ (n : ℕ). when (odd n) (assistant x' y')) e) (heard (λ a b. when (odd k) (assistant a b)) f h p q t)
 
 -- the three ways of a crossing
 module _ (v n j : ℕ) where

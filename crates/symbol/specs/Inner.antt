@@ -22,6 +22,14 @@ pub record Stored (f : ℕ → ℕ) (from to : ℕ) (g g' : List ℕ) : Type 0 w
 abbrev pub fourModules : ℕ → ℕ
 fourModules d = bitAnd (d * 134480385 / 8) 16843009 + 33686018
 
+-- a row of a square, and bytes for it; its places are small numbers
+pub record RowRoom (side row : ℕ) (g : List ℕ) : Type 0 where
+  pub big : 23 ≤ side
+  pub small : side ≤ 189
+  pub inside : row < side
+  pub room : row * side + side ≤ length g
+  pub fits : row * side + side ≤ 35721
+
 -- the first and last nine places from `from` to below `to` were given what f says, and no other byte changed
 pub record Ends (f : ℕ → ℕ) (from to : ℕ) (g g' : List ℕ) : Type 0 where
   pub size : length g' ≡ length g
@@ -53,23 +61,20 @@ pub record Spaced (p : Spacing) : Type 0 where
   pub k-is : p .k ≡ kOf (p .version)
   pub r-is : p .r ≡ rOf (p .version)
   pub m-is : p .m ≡ mOf (p .version)
+  pub k-in : (1 ≤ p .k) × (p .k ≤ 22)
+  pub r-in : (2 ≤ p .r) × (p .r ≤ 23)
+  pub m-le : p .m ≤ 10
+  pub last : p .m * p .k + p .r ≡ p .side
 
 -- such a version and a square for it
 pub record Roomy (p : Spacing) (g : List ℕ) : Type 0 where
   pub spaced : Spaced p
-  pub room : sideOf (p .version) * sideOf (p .version) ≤ length g
+  pub room : p .side * p .side ≤ length g
 
--- line n is inside, and its coordinate is z
-pub record OnLine (p : Spacing) (at : ℕ → ℕ → ℤ) (n : ℕ) (z : ℤ) : Type 0 where
-  pub inside : n < mOf (p .version) + 2
-  pub here : z ≡ at (p .version) n
-
--- a column and a row of a square
-pub record InSquare (s : ℕ) (x y : ℤ) : Type 0 where
-  pub x-is : x ≡ pos (natAbs x)
-  pub x-in : natAbs x < s
-  pub y-is : y ≡ pos (natAbs y)
-  pub y-in : natAbs y < s
+-- a column or a row of a square
+pub record Inside (s : ℕ) (z : ℤ) : Type 0 where
+  pub whole : z ≡ pos (natAbs z)
+  pub within : natAbs z < s
 
 -- what a place that holds a has after kind k was drawn there: data alone changes
 unfoldable pub drawn : ℕ → ℕ → ℕ

@@ -9,8 +9,8 @@ ghost use lib.IntN.{pos, _+ℤ_, _-ℤ_};
 ghost use lib.Signed.{mag};
 ghost use Rattle.symbol.specs.Version.{sideOf, sideRefusal, sideVersion, versionOf};
 ghost use Rattle.symbol.specs.Version as version;
-ghost use Rattle.symbol.specs.Layout.{finders, edge, half, within, finderRow, cornerKind, plot, each, when, stepOf, mOf, rowOf, columnOf, threeAt, assistant, rowEnds, columnEnds, lineModule, lineLeft, lineDown, crossing, crossings, alignment, layoutRefusal, layoutWritten, refusalOf};
-ghost use Rattle.symbol.specs.Inner.{Stored, Ends, UpTo, Beyond, Plotted, Spaced, Roomy, OnLine, InSquare, drawn, fourModules};
+ghost use Rattle.symbol.specs.Layout.{finders, edge, half, within, finderRow, cornerKind, plot, each, when, stepOf, mOf, lineOf, rowOf, columnOf, odd, threeAt, assistant, rowEnds, columnEnds, lineModule, lineLeft, lineDown, crossing, crossings, alignment, layoutRefusal, layoutWritten, refusalOf};
+ghost use Rattle.symbol.specs.Inner.{Stored, RowRoom, Ends, UpTo, Beyond, Plotted, Spaced, Roomy, Inside, drawn, fourModules};
 
 pub struct Version {
     pub number: usize,
@@ -56,7 +56,7 @@ impl Version {
     }
 }
 
-// k, r and m of each version (han_xin.rs: `MODULE_K`, `MODULE_R`, `MODULE_M`).
+// k and m of each version (han_xin.rs: `MODULE_K`, `MODULE_M`); its `MODULE_R` is side - m * k.
 const MODULE_K: [u8; 84] = [
     0,
     0,
@@ -142,93 +142,6 @@ const MODULE_K: [u8; 84] = [
     18,
     17,
     17,
-];
-
-const MODULE_R: [u8; 84] = [
-    0,
-    0,
-    0,
-    15,
-    15,
-    17,
-    18,
-    19,
-    20,
-    21,
-    15,
-    15,
-    15,
-    17,
-    17,
-    19,
-    19,
-    19,
-    19,
-    21,
-    21,
-    17,
-    16,
-    18,
-    17,
-    19,
-    18,
-    20,
-    19,
-    21,
-    20,
-    17,
-    19,
-    17,
-    19,
-    17,
-    19,
-    21,
-    19,
-    21,
-    18,
-    20,
-    17,
-    19,
-    21,
-    18,
-    20,
-    22,
-    17,
-    19,
-    15,
-    17,
-    19,
-    21,
-    17,
-    19,
-    21,
-    18,
-    20,
-    15,
-    17,
-    19,
-    21,
-    16,
-    18,
-    17,
-    19,
-    21,
-    15,
-    17,
-    19,
-    21,
-    15,
-    17,
-    18,
-    20,
-    22,
-    15,
-    17,
-    19,
-    21,
-    23,
-    17,
-    19,
 ];
 
 const MODULE_M: [u8; 84] = [
@@ -325,30 +238,6 @@ const FINDERS: [[u8; 7]; 4] = [
     [0x75, 0x75, 0x75, 0x05, 0x7D, 0x01, 0x7F],
 ];
 
-fn wide(x: u8) -> usize
-    ensures { λ r. ⌜ r ≡ x ⌝ }
-{
-    x as usize
-}
-
-fn wide32(x: u8) -> u32
-    ensures { λ r. ⌜ r ≡ x ⌝ }
-{
-    x as u32
-}
-
-// How far row i lies from the nearer edge.
-fn edge(side: usize, i: usize) -> usize
-    requires { ⌜ i < side ⌝ }
-    ensures { λ r. ⌜ r ≡ edge side i ⌝ }
-{
-    let far = side - 1 - i;
-    if i < far {
-        return i;
-    }
-    far
-}
-
 fn finder_at(corner: usize, row: usize) -> u8
     requires { ⌜ (corner < 4) × (row < 7) ⌝ }
     ensures { λ r. ⌜ (r ≡ getD (getD finders corner []) row 0) × (r < 128) ⌝ }
@@ -387,7 +276,7 @@ fn four_modules(digit: u8) -> u32
     requires { ⌜ digit < 16 ⌝ }
     ensures { λ r. ⌜ r ≡ fourModules digit ⌝ }
 {
-    ((wide32(digit) * 134480385 / 8) & 16843009) + 33686018
+    (((digit as u32) * 134480385 / 8) & 16843009) + 33686018
 }
 
 // Four bytes of one number: a single store.
@@ -412,21 +301,21 @@ fn modules(out: &mut [u8], at: usize, bits: u8)
 
 // The ends of a row through two finders or their separators.
 fn finder_line(out: &mut [u8], side: usize, row: usize)
-    requires { ⌜ (23 ≤ side) × (side ≤ 189) × (side * side ≤ length (now out)) × (row < side) × (edge side row < 8) ⌝ }
+    requires { ⌜ RowRoom side row (now out) × (edge side row < 8) ⌝ }
     ensures { λ _. ⌜ Ends (cornerKind side) (row * side) (row * side + side) (now (out .entry)) (now (out .exit)) ⌝ }
 {
     let at = row * side;
     let left = finder_row(side, 0, row);
     let right = finder_row(side, 1, row);
     modules(out, at, 2 * left);
-    run(out, at + 8, at + 9, 1);
-    run(out, at + side - 9, at + side - 8, 1);
+    out[at + 8] = 1;
+    out[at + side - 9] = 1;
     modules(out, at + side - 8, right);
 }
 
 // The ends of a row with two arms of information modules.
 fn information_line(out: &mut [u8], side: usize, row: usize)
-    requires { ⌜ (23 ≤ side) × (side ≤ 189) × (side * side ≤ length (now out)) × (row < side) × (edge side row ≡ 8) ⌝ }
+    requires { ⌜ RowRoom side row (now out) × (edge side row ≡ 8) ⌝ }
     ensures { λ _. ⌜ Ends (cornerKind side) (row * side) (row * side + side) (now (out .entry)) (now (out .exit)) ⌝ }
 {
     let at = row * side;
@@ -434,26 +323,14 @@ fn information_line(out: &mut [u8], side: usize, row: usize)
     run(out, at + side - 9, at + side, 1);
 }
 
-// The ends of a row near the upper or lower edge.
-fn line(out: &mut [u8], side: usize, row: usize)
-    requires { ⌜ (23 ≤ side) × (side ≤ 189) × (side * side ≤ length (now out)) × (row < side) × (edge side row < 9) ⌝ }
-    ensures { λ _. ⌜ Ends (cornerKind side) (row * side) (row * side + side) (now (out .entry)) (now (out .exit)) ⌝ }
-{
-    if edge(side, row) < 8 {
-        finder_line(out, side, row);
-        return;
-    }
-    information_line(out, side, row);
-}
-
-// The ends of rows from to below to; all that comes later is still data.
-fn line_ends(out: &mut [u8], side: usize, from: usize, to: usize)
-    requires { ⌜ (23 ≤ side) × (side ≤ 189) × (side * side ≤ length (now out)) × (from ≤ to) × (to ≤ side) × ((r : ℕ) → from ≤ r → r < to → edge side r < 9) × UpTo (cornerKind side) (side * side) (from * side) (now out) ⌝ }
+// The ends of rows from to below to, through finders or their separators; all that comes later is still data.
+fn finder_lines(out: &mut [u8], side: usize, from: usize, to: usize)
+    requires { ⌜ (23 ≤ side) × (side ≤ 189) × (side * side ≤ length (now out)) × (from ≤ to) × (to ≤ side) × ((r : ℕ) → from ≤ r → r < to → edge side r < 8) × UpTo (cornerKind side) (side * side) (from * side) (now out) ⌝ }
     ensures { λ _. ⌜ UpTo (cornerKind side) (side * side) (to * side) (now (out .exit)) × Beyond (side * side) (now (out .entry)) (now (out .exit)) ⌝ }
 {
     let mut row = from;
     while row < to {
-        line(out, side, row);
+        finder_line(out, side, row);
         row += 1;
     }
 }
@@ -464,31 +341,10 @@ fn corners(out: &mut [u8], side: usize)
     ensures { λ _. ⌜ Stored (cornerKind side) 0 (side * side) (now (out .entry)) (now (out .exit)) ⌝ }
 {
     run(out, 0, side * side, 0);
-    line_ends(out, side, 0, 9);
-    line_ends(out, side, side - 9, side);
-}
-
-// A coordinate moved back and forth.
-fn back(x: i64, by: usize) -> i64
-    requires { ⌜ (mag x < 1000) × (by < 1000) ⌝ }
-    ensures { λ r. ⌜ r ≡ x -ℤ pos by ⌝ }
-{
-    x - (by as i64)
-}
-
-fn forth(x: i64, by: usize) -> i64
-    requires { ⌜ (mag x < 1000) × (by < 1000) ⌝ }
-    ensures { λ r. ⌜ r ≡ x +ℤ pos by ⌝ }
-{
-    x + (by as i64)
-}
-
-// A number as a coordinate.
-fn signed(n: usize) -> i64
-    requires { ⌜ n < 1000 ⌝ }
-    ensures { λ r. ⌜ r ≡ pos n ⌝ }
-{
-    n as i64
+    finder_lines(out, side, 0, 8);
+    information_line(out, side, 8);
+    information_line(out, side, side - 9);
+    finder_lines(out, side, side - 8, side);
 }
 
 // Gives a place of the square its kind while it is data.
@@ -530,9 +386,9 @@ fn three(grid: &mut [u8], side: usize, x: i64, y: i64, kind: u8)
     requires { ⌜ (side ≤ 189) × (side * side ≤ length (now grid)) × (mag x < 1000) ⌝ }
     ensures { λ _. ⌜ Plotted side (threeAt x y kind) (now (grid .entry)) (now (grid .exit)) ⌝ }
 {
-    plot(grid, side, back(x, 1), y, 2);
+    plot(grid, side, x - 1, y, 2);
     plot(grid, side, x, y, kind);
-    plot(grid, side, forth(x, 1), y, 2);
+    plot(grid, side, x + 1, y, 2);
 }
 
 // An assistant pattern: a dark module in a light square of three.
@@ -540,18 +396,20 @@ fn assistant(grid: &mut [u8], side: usize, x: i64, y: i64)
     requires { ⌜ (side ≤ 189) × (side * side ≤ length (now grid)) × (mag x < 1000) × (mag y < 1000) ⌝ }
     ensures { λ _. ⌜ Plotted side (assistant x y) (now (grid .entry)) (now (grid .exit)) ⌝ }
 {
-    three(grid, side, x, back(y, 1), 2);
+    three(grid, side, x, y - 1, 2);
     three(grid, side, x, y, 3);
-    three(grid, side, x, forth(y, 1), 2);
+    three(grid, side, x, y + 1, 2);
 }
 
-fn assistant_if(grid: &mut [u8], side: usize, on: bool, x: i64, y: i64)
-    requires { ⌜ (side ≤ 189) × (side * side ≤ length (now grid)) × (mag x < 1000) × (mag y < 1000) ⌝ }
-    ensures { λ _. ⌜ Plotted side (when on (assistant x y)) (now (grid .entry)) (now (grid .exit)) ⌝ }
+// An assistant pattern where n is odd.
+fn assistant_if_odd(grid: &mut [u8], p: Spacing, n: usize, x: i64, y: i64)
+    requires { ⌜ Roomy p (now grid) × Inside (p .side) x × Inside (p .side) y ⌝ }
+    ensures { λ _. ⌜ Plotted (p .side) (when (odd n) (assistant x y)) (now (grid .entry)) (now (grid .exit)) ⌝ }
 {
-    if on {
-        assistant(grid, side, x, y);
+    if n % 2 == 0 {
+        return;
     }
+    assistant(grid, p.side, x, y);
 }
 
 // A dark module of a line, and the light one at its lower left.
@@ -560,7 +418,7 @@ fn line_module(grid: &mut [u8], side: usize, x: i64, y: i64)
     ensures { λ _. ⌜ Plotted side (lineModule x y) (now (grid .entry)) (now (grid .exit)) ⌝ }
 {
     plot(grid, side, x, y, 3);
-    plot(grid, side, back(x, 1), forth(y, 1), 2);
+    plot(grid, side, x - 1, y + 1, 2);
 }
 
 // What a place holds after a kind was drawn there: what is no longer data stays.
@@ -596,24 +454,18 @@ fn least(a: usize, b: usize) -> usize
 }
 
 // A line of width + 1 modules to the left: a run of dark modules, and one of light modules below it, as far as the square goes.
-fn left_runs(grid: &mut [u8], side: usize, column: usize, row: usize, width: usize)
-    requires { ⌜ (side ≤ 189) × (side * side ≤ length (now grid)) × (column < side) × (row < side) × (width < 200) ⌝ }
-    ensures { λ _. ⌜ Plotted side (lineLeft (pos column) (pos row) width) (now (grid .entry)) (now (grid .exit)) ⌝ }
+fn line_left(grid: &mut [u8], side: usize, x: i64, y: i64, width: usize)
+    requires { ⌜ (side ≤ 189) × (side * side ≤ length (now grid)) × Inside side x × Inside side y × (width < 200) ⌝ }
+    ensures { λ _. ⌜ Plotted side (lineLeft x y width) (now (grid .entry)) (now (grid .exit)) ⌝ }
 {
+    let column = x as usize;
+    let row = y as usize;
     let at = row * side + column;
     draw(grid, at - least(width, column), at + 1, 3);
     if side <= row + 1 {
         return;
     }
     draw(grid, at + side - least(width + 1, column), at + side, 2);
-}
-
-// The same of signed coordinates.
-fn line_left(grid: &mut [u8], side: usize, x: i64, y: i64, width: usize)
-    requires { ⌜ (side ≤ 189) × (side * side ≤ length (now grid)) × InSquare side x y × (width < 200) ⌝ }
-    ensures { λ _. ⌜ Plotted side (lineLeft x y width) (now (grid .entry)) (now (grid .exit)) ⌝ }
-{
-    left_runs(grid, side, x as usize, y as usize, width);
 }
 
 // The rest of a line down of height modules, at an edge of the square.
@@ -623,18 +475,9 @@ fn edge_down(grid: &mut [u8], side: usize, x: i64, y: i64, height: usize)
 {
     let mut i: usize = 0;
     while i < height - 1 {
-        line_module(grid, side, x, forth(y, i + 1));
+        line_module(grid, side, x, y + (i + 1) as i64);
         i += 1;
     }
-}
-
-// A module of a line whose two modules lie in the square.
-fn module_at(grid: &mut [u8], side: usize, column: usize, row: usize)
-    requires { ⌜ (side ≤ 189) × (side * side ≤ length (now grid)) × (1 ≤ column) × (column < side) × (row + 1 < side) ⌝ }
-    ensures { λ _. ⌜ Plotted side (lineModule (pos column) (pos row)) (now (grid .entry)) (now (grid .exit)) ⌝ }
-{
-    plot_at(grid, side, column, row, 3);
-    plot_at(grid, side, column - 1, row + 1, 2);
 }
 
 // The same where all of it lies in the square: no module is tested for that, which makes it fast.
@@ -644,14 +487,15 @@ fn run_down(grid: &mut [u8], side: usize, column: usize, row: usize, height: usi
 {
     let mut i: usize = 0;
     while i < height - 1 {
-        module_at(grid, side, column, row + (i + 1));
+        plot_at(grid, side, column, row + (i + 1), 3);
+        plot_at(grid, side, column - 1, row + (i + 1) + 1, 2);
         i += 1;
     }
 }
 
 // The rest of a line down of height modules.
 fn line_down(grid: &mut [u8], side: usize, x: i64, y: i64, height: usize)
-    requires { ⌜ (side ≤ 189) × (side * side ≤ length (now grid)) × InSquare side x y × (1 ≤ height) × (height < 200) ⌝ }
+    requires { ⌜ (side ≤ 189) × (side * side ≤ length (now grid)) × Inside side x × Inside side y × (1 ≤ height) × (height < 200) ⌝ }
     ensures { λ _. ⌜ Plotted side (lineDown x y height) (now (grid .entry)) (now (grid .exit)) ⌝ }
 {
     let column = x as usize;
@@ -681,12 +525,14 @@ fn spacing_of(version: usize) -> Spacing
     ensures { λ r. ⌜ Spaced r × (r .version ≡ version) ⌝ }
 {
     let side = Version { number: version }.side();
+    let k = MODULE_K[version - 1] as usize;
+    let m = MODULE_M[version - 1] as usize;
     Spacing {
         version,
         side,
-        k: wide(MODULE_K[version - 1]),
-        r: wide(MODULE_R[version - 1]),
-        m: wide(MODULE_M[version - 1]),
+        k,
+        r: side - m * k,
+        m,
     }
 }
 
@@ -701,48 +547,57 @@ fn step(p: Spacing, n: usize) -> usize
     p.r - 1
 }
 
-// Rows are counted from the top.
-fn next_row(p: Spacing, n: usize, y: i64) -> i64
-    requires { ⌜ Spaced p × OnLine p rowOf n y ⌝ }
-    ensures { λ r. ⌜ r ≡ rowOf (p .version) (n + 1) ⌝ }
+// Where line n lies: after n steps of k, and the last line at the edge.
+fn line_of(p: Spacing, n: usize) -> usize
+    requires { ⌜ Spaced p × (n < p .m + 2) ⌝ }
+    ensures { λ r. ⌜ (r ≡ lineOf (p .version) n) × (r < p .side) ⌝ }
 {
-    forth(y, step(p, n))
+    if n <= p.m {
+        return n * p.k;
+    }
+    p.side - 1
+}
+
+// Rows are counted from the top.
+fn row_of(p: Spacing, n: usize) -> i64
+    requires { ⌜ Spaced p × (n < p .m + 2) ⌝ }
+    ensures { λ r. ⌜ (r ≡ rowOf (p .version) n) × Inside (p .side) r ⌝ }
+{
+    line_of(p, n) as i64
 }
 
 // Columns are counted from the right.
-fn next_column(p: Spacing, n: usize, x: i64) -> i64
-    requires { ⌜ Spaced p × OnLine p columnOf n x ⌝ }
-    ensures { λ r. ⌜ r ≡ columnOf (p .version) (n + 1) ⌝ }
+fn column_of(p: Spacing, n: usize) -> i64
+    requires { ⌜ Spaced p × (n < p .m + 2) ⌝ }
+    ensures { λ r. ⌜ (r ≡ columnOf (p .version) n) × Inside (p .side) r ⌝ }
 {
-    back(x, step(p, n))
+    (p.side - 1 - line_of(p, n)) as i64
 }
 
 // The assistants at the left and right end of row n.
-fn row_ends(grid: &mut [u8], p: Spacing, n: usize, y: i64)
-    requires { ⌜ Roomy p (now grid) × OnLine p rowOf n y ⌝ }
-    ensures { λ _. ⌜ Plotted (sideOf (p .version)) (rowEnds (p .version) n) (now (grid .entry)) (now (grid .exit)) ⌝ }
+fn row_ends(grid: &mut [u8], p: Spacing, n: usize)
+    requires { ⌜ Roomy p (now grid) × (n < p .m + 2) ⌝ }
+    ensures { λ _. ⌜ Plotted (p .side) (rowEnds (p .version) n) (now (grid .entry)) (now (grid .exit)) ⌝ }
 {
-    let left = signed(0);
-    let right = signed(p.side - 1);
-    assistant_if(grid, p.side, (n + p.m) % 2 == 1, left, y);
-    assistant_if(grid, p.side, n % 2 == 1, right, y);
+    let y = row_of(p, n);
+    assistant_if_odd(grid, p, n + p.m, 0, y);
+    assistant_if_odd(grid, p, n, (p.side - 1) as i64, y);
 }
 
 // The assistants at the lower and upper end of column n.
-fn column_ends(grid: &mut [u8], p: Spacing, n: usize, x: i64)
-    requires { ⌜ Roomy p (now grid) × OnLine p columnOf n x ⌝ }
-    ensures { λ _. ⌜ Plotted (sideOf (p .version)) (columnEnds (p .version) n) (now (grid .entry)) (now (grid .exit)) ⌝ }
+fn column_ends(grid: &mut [u8], p: Spacing, n: usize)
+    requires { ⌜ Roomy p (now grid) × (n < p .m + 2) ⌝ }
+    ensures { λ _. ⌜ Plotted (p .side) (columnEnds (p .version) n) (now (grid .entry)) (now (grid .exit)) ⌝ }
 {
-    let low = signed(p.side - 1);
-    let high = signed(0);
-    assistant_if(grid, p.side, (n + p.m) % 2 == 1, x, low);
-    assistant_if(grid, p.side, n % 2 == 1, x, high);
+    let x = column_of(p, n);
+    assistant_if_odd(grid, p, n + p.m, x, (p.side - 1) as i64);
+    assistant_if_odd(grid, p, n, x, 0);
 }
 
 // The two lines from row n and column j.
-fn crossing(grid: &mut [u8], p: Spacing, n: usize, j: usize, x: i64, y: i64)
-    requires { ⌜ Roomy p (now grid) × OnLine p rowOf n y × OnLine p columnOf j x ⌝ }
-    ensures { λ _. ⌜ Plotted (sideOf (p .version)) (crossing (p .version) n j) (now (grid .entry)) (now (grid .exit)) ⌝ }
+fn crossing(grid: &mut [u8], p: Spacing, n: usize, j: usize)
+    requires { ⌜ Roomy p (now grid) × (n < p .m + 2) × (j < p .m + 2) ⌝ }
+    ensures { λ _. ⌜ Plotted (p .side) (crossing (p .version) n j) (now (grid .entry)) (now (grid .exit)) ⌝ }
 {
     if (n + j) % 2 == 1 {
         return;
@@ -750,6 +605,8 @@ fn crossing(grid: &mut [u8], p: Spacing, n: usize, j: usize, x: i64, y: i64)
     if n + j == 0 {
         return;
     }
+    let x = column_of(p, j);
+    let y = row_of(p, n);
     line_left(grid, p.side, x, y, step(p, j));
     line_down(grid, p.side, x, y, step(p, n));
 }
@@ -757,14 +614,12 @@ fn crossing(grid: &mut [u8], p: Spacing, n: usize, j: usize, x: i64, y: i64)
 // The assistants of all rows.
 fn rows_ends(grid: &mut [u8], p: Spacing)
     requires { ⌜ Roomy p (now grid) ⌝ }
-    ensures { λ _. ⌜ Plotted (sideOf (p .version)) (each (mOf (p .version) + 2) (rowEnds (p .version))) (now (grid .entry)) (now (grid .exit)) ⌝ }
+    ensures { λ _. ⌜ Plotted (p .side) (each (mOf (p .version) + 2) (rowEnds (p .version))) (now (grid .entry)) (now (grid .exit)) ⌝ }
 {
-    let end = signed(p.side);
-    let mut y: i64 = 0;
+    let lines = p.m + 2;
     let mut n: usize = 0;
-    while y < end {
-        row_ends(grid, p, n, y);
-        y = next_row(p, n, y);
+    while n < lines {
+        row_ends(grid, p, n);
         n += 1;
     }
 }
@@ -772,27 +627,25 @@ fn rows_ends(grid: &mut [u8], p: Spacing)
 // The assistants of all columns.
 fn columns_ends(grid: &mut [u8], p: Spacing)
     requires { ⌜ Roomy p (now grid) ⌝ }
-    ensures { λ _. ⌜ Plotted (sideOf (p .version)) (each (mOf (p .version) + 2) (columnEnds (p .version))) (now (grid .entry)) (now (grid .exit)) ⌝ }
+    ensures { λ _. ⌜ Plotted (p .side) (each (mOf (p .version) + 2) (columnEnds (p .version))) (now (grid .entry)) (now (grid .exit)) ⌝ }
 {
-    let mut x = signed(p.side - 1);
+    let lines = p.m + 2;
     let mut n: usize = 0;
-    while x >= 0 {
-        column_ends(grid, p, n, x);
-        x = next_column(p, n, x);
+    while n < lines {
+        column_ends(grid, p, n);
         n += 1;
     }
 }
 
 // The lines of row n.
-fn row_crossings(grid: &mut [u8], p: Spacing, n: usize, y: i64)
-    requires { ⌜ Roomy p (now grid) × OnLine p rowOf n y ⌝ }
-    ensures { λ _. ⌜ Plotted (sideOf (p .version)) (each (mOf (p .version) + 2) (crossing (p .version) n)) (now (grid .entry)) (now (grid .exit)) ⌝ }
+fn row_crossings(grid: &mut [u8], p: Spacing, n: usize)
+    requires { ⌜ Roomy p (now grid) × (n < p .m + 2) ⌝ }
+    ensures { λ _. ⌜ Plotted (p .side) (each (mOf (p .version) + 2) (crossing (p .version) n)) (now (grid .entry)) (now (grid .exit)) ⌝ }
 {
-    let mut x = signed(p.side - 1);
+    let lines = p.m + 2;
     let mut j: usize = 0;
-    while x >= 0 {
-        crossing(grid, p, n, j, x, y);
-        x = next_column(p, j, x);
+    while j < lines {
+        crossing(grid, p, n, j);
         j += 1;
     }
 }
@@ -800,14 +653,12 @@ fn row_crossings(grid: &mut [u8], p: Spacing, n: usize, y: i64)
 // The lines of all rows.
 fn crossings(grid: &mut [u8], p: Spacing)
     requires { ⌜ Roomy p (now grid) ⌝ }
-    ensures { λ _. ⌜ Plotted (sideOf (p .version)) (crossings (p .version)) (now (grid .entry)) (now (grid .exit)) ⌝ }
+    ensures { λ _. ⌜ Plotted (p .side) (crossings (p .version)) (now (grid .entry)) (now (grid .exit)) ⌝ }
 {
-    let end = signed(p.side);
-    let mut y: i64 = 0;
+    let lines = p.m + 2;
     let mut n: usize = 0;
-    while y < end {
-        row_crossings(grid, p, n, y);
-        y = next_row(p, n, y);
+    while n < lines {
+        row_crossings(grid, p, n);
         n += 1;
     }
 }
@@ -815,7 +666,7 @@ fn crossings(grid: &mut [u8], p: Spacing)
 // Alignment and assistant alignment patterns. Modules that are no longer data keep their kind.
 fn alignment(grid: &mut [u8], p: Spacing)
     requires { ⌜ Roomy p (now grid) ⌝ }
-    ensures { λ _. ⌜ Plotted (sideOf (p .version)) (alignment (p .version)) (now (grid .entry)) (now (grid .exit)) ⌝ }
+    ensures { λ _. ⌜ Plotted (p .side) (alignment (p .version)) (now (grid .entry)) (now (grid .exit)) ⌝ }
 {
     rows_ends(grid, p);
     columns_ends(grid, p);

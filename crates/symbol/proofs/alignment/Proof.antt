@@ -1,3 +1,4 @@
+-- `alignment` meets its contract.
 use Rattle.symbol.proofs.Plots.{next}
 use Rattle.symbol.specs.Layout.{alignment}
 use borrow.Author.Needs.{needs}
@@ -12,4 +13,5 @@ returns c =
     next (rows-ends .ensures) (next (columns-ends .ensures) (c .before .before .crossings .ensures))
 
 pub alignment-spec : {M : Type 1} → statement M
-alignment-spec = tie.close (tie.spec (λ c κs. search needs) (λ c κs. search needs) (λ c κs. search needs) (λ c. search needs) returns)
+alignment-spec =
+    tie.close (tie.spec (λ c κs. search needs) (λ c κs. search needs) (λ c κs. search needs) (λ c. search needs) returns)

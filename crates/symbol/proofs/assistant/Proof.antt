@@ -1,7 +1,8 @@
+-- `assistant` meets its contract.
+use mathlib.Core.Path.{refl}
 use Rattle.symbol.specs.Layout.{threeAt, assistant, light, dark}
-use lib.IntN.{pos, _+ℤ_, _-ℤ_}
-use mathlib.Core.Path.{refl, _∙_}
-use Rattle.symbol.proofs.Coordinates.{read, ok}
+use native.Mathlib.Omega.{arith}
+use Rattle.symbol.proofs.Coordinates.{back-fits, back-is, forth-fits, forth-is}
 use Rattle.symbol.proofs.Plots.{next, heard}
 use borrow.Author.Needs.{needs}
 use Rattle.symbol.proofs.assistant.Statement.{statement}
@@ -10,18 +11,16 @@ use Rattle.symbol.proofs.assistant.Tie as tie
 returns : tie.Need-returns
 unfolding assistant
 returns c =
-    let before = c .before .before .before .before .before .before .before .before .before .before .before .before .before .before .before in
-    let back = c .before .before .before .before .before .before .before .before .before .before .before .before .back in
-    let three = c .before .before .before .before .before .before .before .before .before .before .before .three in
-    let three2 = c .before .before .before .before .before .before .before .three2 in
-    let forth = c .before .before .before .forth in
-    let o = before in
-    let up = heard (λ a b. threeAt a b light) (o .fits .x) (ok (back .result) (back .ok)) refl (back .ensures ∙ read (λ z. z -ℤ pos 1) (o .fits .y)) (three .ensures) in
-    let middle = heard (λ a b. threeAt a b dark) (o .fits .x) (o .fits .y) refl refl (three2 .ensures) in
-    let low = heard (λ a b. threeAt a b light) (o .fits .x) (ok (forth .result) (forth .ok)) refl (forth .ensures ∙ read (λ z. z +ℤ pos 1) (o .fits .y)) (c .before .before .three3 .ensures) in
-    next up (next middle low)
+    let o = c .before .before .before .before .before .before .before .before .before .before .before .before .before in
+    next (heard (λ a b. threeAt a b light) (o .fits .x) (back-fits 1 (o .fits .y) (o .pre .3) (omega arith)) refl
+    (back-is 1 (o .fits .y) (o .pre .3) (omega arith)) (c .before .before .before .before .before .before .before .before .before .before .three .ensures))
+    (next (heard (λ a b. threeAt a b dark) (o .fits .x) (o .fits .y) refl refl (c .before .before .before .before .before .before .three2 .ensures))
+    (heard (λ a b. threeAt a b light) (o .fits .x) (forth-fits 1 (o .fits .y) (o .pre .3) (omega arith)) refl
+    (forth-is 1 (o .fits .y) (o .pre .3) (omega arith)) (c .before .before .three3 .ensures)))
 
 pub assistant-spec : {M : Type 1} → statement M
 assistant-spec =
-    tie.close (tie.spec (λ c κs. search needs) (λ c κs. search needs) (λ c κs. search needs) (λ c κs. search needs)
+    tie.close (tie.spec (λ c. let o = c .before .before in back-fits 1 (o .fits .y) (o .pre .3) (omega arith))
+    (λ c κs. search needs) (λ c κs. search needs)
+    (λ c. let o = c .before .before .before .before .before .before .before .before .before .before in forth-fits 1 (o .fits .y) (o .pre .3) (omega arith))
     (λ c κs. search needs) (λ c. search needs) returns)

@@ -1,33 +1,65 @@
-use Rattle.symbol.proofs.CornerRows.{all-blank, data-rows, near-upper, near-lower, corners-stored}
-use Rattle.symbol.specs.Layout.{cornerKind}
-use Prim.Native.Nat.{_-_, _*_}
+-- `corners` meets its contract.
+use Prim.Native.Nat.{_*_, _≤_}
+use lib.ListN.{length}
 use native.Mathlib.Nat.{zero-mul}
 use native.Mathlib.Omega.{arith}
 use borrow.Author.Needs.{needs}
+use Rattle.symbol.specs.Layout.{cornerKind}
+use Rattle.symbol.proofs.CornerRows.{edge-top, edge-bottom, row-room, all-blank, upper-arm, lower-arm, middle-rows, corners-stored}
 use Rattle.symbol.proofs.corners.Statement.{statement}
 use Rattle.symbol.proofs.corners.Tie as tie
 
-line-ends-requires : tie.Need-line-ends-requires
-line-ends-requires c κs =
+finder-lines-requires : tie.Need-finder-lines-requires
+finder-lines-requires c κs =
     let start = c .before .before .before .before .before .before in
+    let s = start .args .side in
     let run = c .before .before .before .run in
-    (start .pre .0, start .pre .1, omega (arith, start .pre .2, run .kept .0), omega arith, omega (arith, start .pre .0), near-upper (start .args .side), all-blank (cornerKind (start .args .side)) (start .args .side * start .args .side) (0 * start .args .side) (zero-mul (start .args .side)) (run .ensures))
+    let blank = all-blank (cornerKind s) (s * s) (0 * s) (zero-mul s) (run .ensures) in
+    let long : s * s ≤ length (run .last .0) = omega (arith, start .pre .2, run .kept .0) in
+    (start .pre .0, start .pre .1, long, omega arith, omega (arith, start .pre .0), (λ r h k. omega (arith, edge-top s r)), blank)
 
-line-ends-requires-2 : tie.Need-line-ends-requires-2
-line-ends-requires-2 c κs =
+information-line-requires : tie.Need-information-line-requires
+information-line-requires c κs =
     let start = c .before .before .before .before .before .before .before .before .before .before in
     let run = c .before .before .before .before .before .before .before .run in
-    let line-ends = c .before .before .before .line-ends in
-    (start .pre .0, start .pre .1, omega (arith, start .pre .2, line-ends .kept .0, run .kept .0), omega arith, omega arith, near-lower (start .args .side), data-rows (start .args .side) (start .pre .0) (line-ends .ensures .0))
+    let upper = c .before .before .before .finder-lines in
+    let long : start .args .side * start .args .side ≤ length (upper .last .0) = omega (arith, start .pre .2, run .kept .0, upper .kept .0) in
+    (row-room (start .pre .0) (start .pre .1) long (omega arith), upper-arm (start .args .side) (start .pre .0))
+
+information-line-requires-2 : tie.Need-information-line-requires-2
+information-line-requires-2 c κs =
+    let start = c .before .before .before .before .before .before .before .before .before .before .before .before .before .before in
+    let run = c .before .before .before .before .before .before .before .before .before .before .before .run in
+    let upper = c .before .before .before .before .before .before .before .finder-lines in
+    let arm = c .before .before .before .information-line in
+    let s = start .args .side in
+    let long : s * s ≤ length (arm .last .0) = omega (arith, start .pre .2, run .kept .0, upper .kept .0, arm .kept .0) in
+    (row-room (start .pre .0) (start .pre .1) long (omega arith), lower-arm (start .args .side) (start .pre .0))
+
+finder-lines-requires-2 : tie.Need-finder-lines-requires-2
+finder-lines-requires-2 c κs =
+    let start = c .before .before .before .before .before .before .before .before .before .before .before .before .before .before .before .before .before .before in
+    let s = start .args .side in
+    let run = c .before .before .before .before .before .before .before .before .before .before .before .before .before .before .before .run in
+    let upper = c .before .before .before .before .before .before .before .before .before .before .before .finder-lines in
+    let arm = c .before .before .before .before .before .before .before .information-line in
+    let arm2 = c .before .before .before .information-line2 in
+    let middle = middle-rows s (start .pre .0) (upper .ensures) (arm .ensures) (arm2 .ensures) in
+    let size : s * s ≤ length (arm2 .last .0) = omega (arith, start .pre .2, run .kept .0, upper .kept .0, arm .kept .0, arm2 .kept .0) in
+    (start .pre .0, start .pre .1, size, omega arith, omega arith, (λ r h k. omega (arith, edge-bottom s r)), middle .0)
 
 returns : tie.Need-returns
 returns c =
-    let run = c .before .before .before .before .before .before .before .before .before .before .run in
-    let line-ends = c .before .before .before .before .before .before .line-ends in
-    let line-ends2 = c .before .before .line-ends2 in
-    corners-stored (run .ensures) (line-ends .ensures .1) (line-ends2 .ensures .1) (line-ends2 .ensures .0)
+    let start = c .before .before .before .before .before .before .before .before .before .before .before .before .before .before .before .before .before .before .before .before .before in
+    let run = c .before .before .before .before .before .before .before .before .before .before .before .before .before .before .before .before .before .before .run in
+    let upper = c .before .before .before .before .before .before .before .before .before .before .before .before .before .before .finder-lines in
+    let arm = c .before .before .before .before .before .before .before .before .before .before .information-line in
+    let lower = c .before .before .finder-lines2 .ensures in
+    let arm2 = c .before .before .before .before .before .before .information-line2 in
+    let middle = middle-rows (start .args .side) (start .pre .0) (upper .ensures) (arm .ensures) (arm2 .ensures) in
+    corners-stored (run .ensures) (middle .1) (lower .1) (lower .0)
 
 pub corners-spec : {M : Type 1} → statement M
 corners-spec =
-    tie.close (tie.spec (λ c. search needs) (λ c κs. search needs) line-ends-requires (λ c. search needs) line-ends-requires-2
-    (λ c. search needs) returns)
+    tie.close (tie.spec (λ c. search needs) (λ c κs. search needs) finder-lines-requires information-line-requires
+    (λ c. search needs) information-line-requires-2 (λ c. search needs) finder-lines-requires-2 (λ c. search needs) returns)

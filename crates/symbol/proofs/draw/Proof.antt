@@ -1,3 +1,4 @@
+-- `draw` meets its contract.
 use Prim.Native.Nat.{ℕ, _-_, _≤_}
 use mathlib.Core.Path.{_≡_, ap, subst, _∙_}
 use lib.ListN.{getD}
@@ -32,6 +33,6 @@ returns c =
 
 pub draw-spec : {M : Type 1} → statement M
 draw-spec =
-    tie.close (tie.spec Inv-loop μ-loop loop-holds (λ c. omega (arith, c .before .before .loop .inv .0 .size)) (λ c κs. search needs)
-    (λ c. omega (arith, c .before .before .before .loop .inv .0 .size)) (λ c. omega arith) (λ c. omega arith) loop-again
-    (λ c. c .before .loop .inv .0 .size) returns)
+    tie.close (tie.spec Inv-loop μ-loop loop-holds (λ c. omega (arith, c .before .before .loop .inv .0 .size))
+    (λ c κs. search needs) (λ c. omega (arith, c .before .before .before .loop .inv .0 .size)) (λ c. omega arith)
+    (λ c. omega arith) loop-again (λ c. c .before .loop .inv .0 .size) returns)

@@ -1,3 +1,4 @@
+-- `drawn` meets its contract.
 use borrow.Author.Tests.{eq-eqb, ne-eqb}
 use Rattle.symbol.specs.Inner.{drawn}
 use Rattle.symbol.proofs.drawn.Statement.{statement}

@@ -1,3 +1,4 @@
+-- `finder_at` meets its contract.
 use Rattle.symbol.proofs.CornerRows.{row-small}
 use Rattle.symbol.specs.Layout.{finders}
 use borrow.Author.Needs.{needs}

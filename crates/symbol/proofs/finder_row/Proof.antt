@@ -1,3 +1,4 @@
+-- `finder_row` meets its contract.
 use mathlib.Core.Path.{refl, sym, _∙_}
 use Rattle.symbol.proofs.CornerRows.{edge-low, edge-top, edge-bottom, upper-row, lower-row}
 use native.Mathlib.Omega.{arith}
@@ -22,5 +23,5 @@ returns-3 c =
 
 pub finder-row-spec : {M : Type 1} → statement M
 finder-row-spec =
-    tie.close (tie.spec (λ c. search needs) (λ c κs. search needs) returns (λ c. search needs) (λ c. search needs) (λ c. search needs)
-    (λ c. search needs) (λ c. search needs) (λ c κs. search needs) returns-2 returns-3)
+    tie.close (tie.spec (λ c. search needs) (λ c κs. search needs) returns (λ c. search needs) (λ c. search needs)
+    (λ c. search needs) (λ c. search needs) (λ c. search needs) (λ c κs. search needs) returns-2 returns-3)

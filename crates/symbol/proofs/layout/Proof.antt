@@ -1,8 +1,9 @@
+-- `layout` meets its contract.
 use Rattle.symbol.proofs.Answer.{too-low, too-high, too-short, small, large}
 use Rattle.symbol.proofs.Coordinates.{square-le}
 use Rattle.symbol.specs.Version.{sideOf}
 use lib.ListN.{length}
-use mathlib.Core.Path.{sym, subst}
+use mathlib.Core.Path.{_≡_, sym, ap, subst, _∙_}
 use Prim.Native.Nat.{ℕ, _*_, _<_, _≤_}
 use native.Mathlib.Omega.{arith}
 use borrow.Author.Needs.{needs}
@@ -38,7 +39,17 @@ alignment-requires c κs =
     let side = c .before .before .before .before .before .before .before .before .side in
     let if3 = c .before .before .before .before .before .before .before .if3 in
     let corners = c .before .before .before .before .before .corners in
-    record { spaced = c .spacing-of .ensures .0; room = subst (λ (k : ℕ). sideOf k * sideOf k ≤ length (corners .last .0)) (sym (c .spacing-of .ensures .1)) (omega (arith, corners .kept .0, subst (λ (k : ℕ). k * k ≤ length (start .args .out .now)) (side .ensures) (if3 .left))) }
+    let spacing = c .spacing-of .ensures in
+    let e : side .result ≡ c .spacing-of .result .side = side .ensures ∙ sym (spacing .0 .side-is ∙ ap sideOf (spacing .1)) in
+    record {
+      spaced = spacing .0;
+      room = omega (
+        arith,
+        corners .kept .0,
+        subst (λ (k : ℕ). k * k ≤ length
+            (start .args .out .now)) e (if3 .left),
+      );
+    }
 
 returns-5 : tie.Need-returns-5
 returns-5 c =
@@ -49,9 +60,12 @@ returns-5 c =
     let if3 = c .before .before .before .before .before .before .before .before .before .before .if3 in
     let corners = c .before .before .before .before .before .before .before .before .corners in
     let if4 = c .before .before .before .before .before .if4 in
-    large (start .args .version) (start .args .out .now) (if1 .left) (if2 .left) (subst (λ (k : ℕ). k * k ≤ length (start .args .out .now)) (side .ensures) (if3 .left)) (side .ensures) (corners .ensures) (if4 .left) (c .before .before .before .spacing-of .ensures .1) (c .before .before .alignment .ensures)
+    large (start .args .version) (start .args .out .now) (if1 .left) (if2 .left)
+    (subst (λ (k : ℕ). k * k ≤ length (start .args .out .now)) (side .ensures) (if3 .left)) (side .ensures) (corners .ensures) (if4 .left)
+    (c .before .before .before .spacing-of .ensures .1) (c .before .before .before .spacing-of .ensures .0 .side-is)
+    (c .before .before .alignment .ensures)
 
 pub layout-spec : {M : Type 1} → statement M
 layout-spec =
-    tie.close (tie.spec returns returns-2 (λ c κs. search needs) mul-if3 returns-3 (λ c κs. search needs) (λ c. search needs) returns-4
-    (λ c κs. search needs) alignment-requires (λ c. search needs) returns-5)
+    tie.close (tie.spec returns returns-2 (λ c κs. search needs) mul-if3 returns-3 (λ c κs. search needs) (λ c. search needs)
+    returns-4 (λ c κs. search needs) alignment-requires (λ c. search needs) returns-5)

@@ -1,24 +1,26 @@
+-- `line_down` meets its contract.
 use mathlib.Core.Path.{refl}
 use lib.IntN.{natAbs}
+use lib.ListN.{length}
+use lib.Signed.{mag}
+use mir.Syntax.{w64}
+use mir.Val.{toZ, ofZ}
+use Prim.Native.Nat.{_*_, _<_, _≤_}
 use native.Mathlib.Omega.{arith}
 use borrow.Author.Needs.{needs}
 use Rattle.symbol.specs.Layout.{lineDown}
 use Rattle.symbol.proofs.Plots.{numbered, heard}
-use Rattle.symbol.proofs.Coordinates.{read}
-use Rattle.symbol.proofs.LineRuns.{number-is, number-near}
+use Rattle.symbol.proofs.Coordinates.{read, cast-inside, near-inside}
 use Rattle.symbol.proofs.line_down.Statement.{statement}
 use Rattle.symbol.proofs.line_down.Tie as tie
 
-cast-column : tie.Need-cast-column
-cast-column c = let start = c .before in number-is (start .args .side) (start .fits .x) (start .pre .2 .x-is) (start .pre .2 .x-in) (start .pre .0)
-
-cast-row : tie.Need-cast-row
-cast-row c = let start = c .before in number-is (start .args .side) (start .fits .y) (start .pre .2 .y-is) (start .pre .2 .y-in) (start .pre .0)
-
-edge-down-requires : tie.Need-edge-down-requires
-edge-down-requires c κs =
-    let start = c .before .before .before in
-    (start .pre .0, start .pre .1, number-near (start .args .side) (start .fits .x) (start .pre .2 .x-is) (start .pre .2 .x-in) (start .pre .0), number-near (start .args .side) (start .fits .y) (start .pre .2 .y-is) (start .pre .2 .y-in) (start .pre .0), start .pre .3, start .pre .4)
+-- what `edge_down` asks
+edge : (s : tie.Start) → (s .args .side ≤ 189) × (s .args .side * s .args .side ≤ length (s .args .grid .now))
+    × (mag (toZ w64 (ofZ w64 (s .args .x))) < 200) × (mag (toZ w64 (ofZ w64 (s .args .y))) < 200) × (1 ≤ s .args .height) × (s .args .height < 200)
+edge s =
+    let x-near = near-inside (s .fits .x) (s .pre .2) (s .pre .0) in
+    let y-near = near-inside (s .fits .y) (s .pre .3) (s .pre .0) in
+    (s .pre .0, s .pre .1, x-near, y-near, s .pre .4, s .pre .5)
 
 returns : tie.Need-returns
 returns c =
@@ -26,12 +28,7 @@ returns c =
     heard (λ x y. lineDown x y (start .args .height)) (start .fits .x) (start .fits .y) refl refl (c .before .before .edge-down .ensures)
 
 add-if2 : tie.Need-add-if2
-add-if2 c = let start = c .before .before in omega (arith, read natAbs (start .fits .y), start .pre .2 .y-in)
-
-edge-down-requires-2 : tie.Need-edge-down-requires-2
-edge-down-requires-2 c κs =
-    let start = c .before .before .before .before in
-    (start .pre .0, start .pre .1, number-near (start .args .side) (start .fits .x) (start .pre .2 .x-is) (start .pre .2 .x-in) (start .pre .0), number-near (start .args .side) (start .fits .y) (start .pre .2 .y-is) (start .pre .2 .y-in) (start .pre .0), start .pre .3, start .pre .4)
+add-if2 c = let start = c .before .before in omega (arith, read natAbs (start .fits .y), start .pre .3 .within)
 
 returns-2 : tie.Need-returns-2
 returns-2 c =
@@ -41,9 +38,12 @@ returns-2 c =
 returns-3 : tie.Need-returns-3
 returns-3 c =
     let start = c .before .before .before .before .before .before .before in
-    numbered (λ x y. lineDown x y (start .args .height)) (start .fits .x) (start .fits .y) (start .pre .2 .x-is) (start .pre .2 .y-is) (c .before .before .run-down .ensures)
+    numbered (λ x y. lineDown x y (start .args .height)) (start .fits .x) (start .fits .y) (start .pre .2 .whole) (start .pre .3 .whole)
+    (c .before .before .run-down .ensures)
 
 pub line-down-spec : {M : Type 1} → statement M
 line-down-spec =
-    tie.close (tie.spec cast-column cast-row edge-down-requires (λ c. search needs) returns add-if2 edge-down-requires-2
-    (λ c. search needs) returns-2 (λ c κs. search needs) (λ c. search needs) returns-3)
+    tie.close (tie.spec (λ c. cast-inside (c .before .fits .x) (c .before .pre .2) (c .before .pre .0))
+    (λ c. cast-inside (c .before .fits .y) (c .before .pre .3) (c .before .pre .0)) (λ c κs. edge (c .before .before .before))
+    (λ c. search needs) returns add-if2 (λ c κs. edge (c .before .before .before .before)) (λ c. search needs) returns-2
+    (λ c κs. search needs) (λ c. search needs) returns-3)

@@ -1,8 +1,9 @@
-use Rattle.symbol.specs.Layout.{lineModule, plot, light, dark}
-use lib.IntN.{pos, _+ℤ_, _-ℤ_}
+-- `line_module` meets its contract.
+use mathlib.Core.Path.{refl}
 use mathlib.Core.List.{[], _∷_}
-use mathlib.Core.Path.{refl, _∙_}
-use Rattle.symbol.proofs.Coordinates.{read, ok}
+use native.Mathlib.Omega.{arith}
+use Rattle.symbol.specs.Layout.{lineModule, plot, light, dark}
+use Rattle.symbol.proofs.Coordinates.{back-fits, back-is, forth-fits, forth-is}
 use Rattle.symbol.proofs.Plots.{next, heard}
 use borrow.Author.Needs.{needs}
 use Rattle.symbol.proofs.line_module.Statement.{statement}
@@ -11,16 +12,16 @@ use Rattle.symbol.proofs.line_module.Tie as tie
 returns : tie.Need-returns
 unfolding lineModule
 returns c =
-    let before = c .before .before .before .before .before .before .before .before .before .before .before in
-    let plot′ = c .before .before .before .before .before .before .before .before .plot in
-    let back = c .before .before .before .before .back in
-    let forth = c .before .before .before .forth in
-    let o = before in
-    let first = heard (λ a b. plot a b dark ∷ []) (o .fits .x) (o .fits .y) refl refl (plot′ .ensures) in
-    let second = heard (λ a b. plot a b light ∷ []) (ok (back .result) (back .ok)) (ok (forth .result) (forth .ok)) (back .ensures ∙ read (λ z. z -ℤ pos 1) (o .fits .x)) (forth .ensures ∙ read (λ z. z +ℤ pos 1) (o .fits .y)) (c .before .before .plot2 .ensures) in
-    next first second
+    let o = c .before .before .before .before .before .before .before .before .before in
+    next (heard (λ a b. plot a b dark ∷ []) (o .fits .x) (o .fits .y) refl refl (c .before .before .before .before .before .before .plot .ensures))
+    (heard (λ a b. plot a b light ∷ []) (back-fits 1 (o .fits .x) (o .pre .2) (omega arith))
+    (forth-fits 1 (o .fits .y) (o .pre .3) (omega arith))
+    (back-is 1 (o .fits .x) (o .pre .2) (omega arith)) (forth-is 1 (o .fits .y) (o .pre .3) (omega arith))
+    (c .before .before .plot2 .ensures))
 
 pub line-module-spec : {M : Type 1} → statement M
 line-module-spec =
-    tie.close (tie.spec (λ c κs. search needs) (λ c κs. search needs) (λ c κs. search needs) (λ c κs. search needs) (λ c. search needs)
-    returns)
+    tie.close (tie.spec (λ c κs. search needs)
+    (λ c. let o = c .before .before .before .before .before .before in back-fits 1 (o .fits .x) (o .pre .2) (omega arith))
+    (λ c. let o = c .before .before .before .before .before .before in forth-fits 1 (o .fits .y) (o .pre .3) (omega arith))
+    (λ c κs. search needs) (λ c. search needs) returns)

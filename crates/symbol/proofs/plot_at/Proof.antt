@@ -1,38 +1,36 @@
-use Prim.Native.Nat.{_+_, _*_}
-use mathlib.Core.Path.{sym}
+-- `plot_at` meets its contract.
+use mathlib.Core.Path.{_≡_, sym}
+use Prim.Native.Nat.{_+_, _*_, _<_}
 use lib.Arith.{digits-lt}
 use lib.IntN.{pos}
 use native.Mathlib.Omega.{arith}
 use borrow.Author.Needs.{needs}
-use Rattle.symbol.specs.Layout.{plotAll}
+use Rattle.symbol.specs.Layout.{plotAll, placeAt}
 use Rattle.symbol.proofs.Plots.{plot-kept, plot-set}
 use Rattle.symbol.proofs.Coordinates.{square-le, whole-in}
 use Rattle.symbol.proofs.plot_at.Statement.{statement}
 use Rattle.symbol.proofs.plot_at.Tie as tie
 
-mul-i : tie.Need-mul-i
-mul-i c = omega (arith, digits-lt (c .pre .3) (c .pre .2), square-le (c .args .side) (c .pre .0))
+module _ (s : tie.Start) where
+  inside : s .args .row * s .args .side + s .args .column < s .args .side * s .args .side
+  inside = digits-lt (s .pre .3) (s .pre .2)
 
-add-i : tie.Need-add-i
-add-i c = omega (arith, digits-lt (c .pre .3) (c .pre .2), square-le (c .args .side) (c .pre .0))
+  small : s .args .row * s .args .side + s .args .column < 35721
+  small = omega (arith, inside, square-le (s .args .side) (s .pre .0))
 
-slice-read-if1 : tie.Need-slice-read-if1
-slice-read-if1 c = let start = c .before in omega (arith, digits-lt (start .pre .3) (start .pre .2), start .pre .1)
+  place : s .args .row * s .args .side + s .args .column ≡ placeAt (s .args .side) (pos (s .args .column)) (pos (s .args .row))
+  place = sym (whole-in (s .args .side) (s .args .column) (s .args .row) (s .pre .2) (s .pre .3))
 
 returns : tie.Need-returns
 unfolding plotAll
-returns c =
-    let start = c .before .before in
-    record { is = plot-kept (start .args .side) (pos (start .args .column)) (pos (start .args .row)) (start .args .kind) (start .args .grid .now) (start .args .row * start .args .side + start .args .column) (sym (whole-in (start .args .side) (start .args .column) (start .args .row) (start .pre .2) (start .pre .3))) (digits-lt (start .pre .3) (start .pre .2)) (c .if1 .taken) }
-
-slice-write-grid : tie.Need-slice-write-grid
-slice-write-grid c = let start = c .before .before in omega (arith, digits-lt (start .pre .3) (start .pre .2), start .pre .1)
+returns c = let start = c .before .before in record { is = plot-kept _ _ _ _ _ _ (place start) (inside start) (c .if1 .taken) }
 
 returns-2 : tie.Need-returns-2
 unfolding plotAll
-returns-2 c =
-    let start = c .before .before in
-    record { is = plot-set (start .args .side) (pos (start .args .column)) (pos (start .args .row)) (start .args .kind) (start .args .grid .now) (start .args .row * start .args .side + start .args .column) (sym (whole-in (start .args .side) (start .args .column) (start .args .row) (start .pre .2) (start .pre .3))) (digits-lt (start .pre .3) (start .pre .2)) (c .if1 .left) }
+returns-2 c = let start = c .before .before in record { is = plot-set _ _ _ _ _ _ (place start) (inside start) (c .if1 .left) }
 
 pub plot-at-spec : {M : Type 1} → statement M
-plot-at-spec = tie.close (tie.spec mul-i add-i slice-read-if1 returns slice-write-grid (λ c. search needs) returns-2)
+plot-at-spec =
+    tie.close (tie.spec (λ c. omega (arith, small c)) (λ c. omega (arith, small c))
+    (λ c. omega (arith, inside (c .before), c .before .pre .1)) returns
+    (λ c. omega (arith, inside (c .before .before), c .before .before .pre .1)) (λ c. search needs) returns-2)

@@ -1,46 +1,41 @@
-use Rattle.symbol.specs.Layout.{odd, rowEnds}
-use Rattle.symbol.proofs.Plots.{next, assisted}
-use Rattle.symbol.proofs.Walk.{row-near}
-use Rattle.symbol.proofs.Lines.{tabled}
-use Rattle.symbol.proofs.Coordinates.{ok, near, whole-near, room-of}
-use lib.IntN.{pos}
-use mathlib.Core.Path.{refl, ap, _∙_}
+-- `row_ends` meets its contract.
+use mathlib.Core.Path.{refl, ap}
 use Prim.Native.Nat.{ℕ, _+_, _-_}
+use lib.IntN.{pos}
 use native.Mathlib.Omega.{arith}
+use Rattle.symbol.specs.Layout.{rowEnds}
+use Rattle.symbol.proofs.Coordinates.{ok, small, inside-call, inside-number}
+use Rattle.symbol.proofs.Lines.{roomy}
+use Rattle.symbol.proofs.Plots.{next, assisted}
 use borrow.Author.Needs.{needs}
 use Rattle.symbol.proofs.row_ends.Statement.{statement}
 use Rattle.symbol.proofs.row_ends.Tie as tie
 
-add-assistant-if : tie.Need-add-assistant-if
-add-assistant-if c =
-    let start = c .before .before .before .before .before .before in
-    omega (arith, tabled (start .args .p .version) (start .pre .0 .spaced .low) (start .pre .0 .spaced .high) .m-le, start .pre .1 .inside, start .pre .0 .spaced .m-is)
+assistant-if-odd-requires : tie.Need-assistant-if-odd-requires
+assistant-if-odd-requires c κs =
+    let start = c .before .before .before .before in
+    let row-of = c .before .before .row-of in
+    (start .pre .0, inside-number 0 (omega arith) (omega arith), inside-call (row-of .ok) (row-of .ensures .1))
 
-assistant-if-requires : tie.Need-assistant-if-requires
-assistant-if-requires c κs =
-    let start = c .before .before .before .before .before .before in
-    let fits = c .before .before .before .before .before .before .fits in
-    let signed = c .before .before .before .before .signed in
-    (omega (arith, start .pre .0 .spaced .side-is, start .pre .0 .spaced .high), room-of (start .pre .0 .spaced .side-is) (start .pre .0 .room), whole-near 1000 (ok (signed .result) (signed .ok)) (signed .ensures) (omega arith), near 1000 (fits .y) (omega (arith, row-near (start .pre .0 .spaced) (start .pre .1))))
-
-assistant-if-requires-2 : tie.Need-assistant-if-requires-2
-assistant-if-requires-2 c κs =
-    let start = c .before .before .before .before .before .before .before .before .before .before in
-    let fits = c .before .before .before .before .before .before .before .before .before .before .fits in
-    let signed2 = c .before .before .before .before .before .before .signed2 in
-    (omega (arith, start .pre .0 .spaced .side-is, start .pre .0 .spaced .high), omega (arith, c .before .before .before .assistant-if .kept .0, room-of (start .pre .0 .spaced .side-is) (start .pre .0 .room)), whole-near 1000 (ok (signed2 .result) (signed2 .ok)) (signed2 .ensures) (omega (arith, start .pre .0 .spaced .side-is, start .pre .0 .spaced .high)), near 1000 (fits .y) (omega (arith, row-near (start .pre .0 .spaced) (start .pre .1))))
+assistant-if-odd-requires-2 : tie.Need-assistant-if-odd-requires-2
+assistant-if-odd-requires-2 c κs =
+    let start = c .before .before .before .before .before .before .before .before .before in
+    let row-of = c .before .before .before .before .before .before .before .row-of in
+    let room = c .before .before .before .before .assistant-if-odd .kept .0 in
+    (roomy (start .pre .0) room, inside-number (start .args .p .side - 1) (omega arith) (omega arith), inside-call (row-of .ok) (row-of .ensures .1))
 
 returns : tie.Need-returns
 unfolding rowEnds
 returns c =
-    let start = c .before .before .before .before .before .before .before .before .before .before .before .before .before in
-    let fits = c .before .before .before .before .before .before .before .before .before .before .before .before .before .fits in
-    let signed = c .before .before .before .before .before .before .before .before .before .before .before .signed in
-    let signed2 = c .before .before .before .before .before .before .before .before .before .signed2 in
-    let assistant-if = c .before .before .before .before .before .before .assistant-if in
-    next (assisted (start .pre .0 .spaced .side-is) (ap (λ (k : ℕ). odd (start .args .n + k)) (start .pre .0 .spaced .m-is)) (ok (signed .result) (signed .ok)) (fits .y) (signed .ensures) (start .pre .1 .here) (assistant-if .ensures)) (assisted {b = odd (start .args .n)} (start .pre .0 .spaced .side-is) refl (ok (signed2 .result) (signed2 .ok)) (fits .y) (signed2 .ensures ∙ ap (λ (k : ℕ). pos (k - 1)) (start .pre .0 .spaced .side-is)) (start .pre .1 .here) (c .before .before .assistant-if2 .ensures))
+    let start = c .before .before .before .before .before .before .before .before .before .before .before .before in
+    let q = start .pre .0 .spaced in
+    let row-of = c .before .before .before .before .before .before .before .before .before .before .row-of in
+    next (assisted (ap (λ (k : ℕ). start .args .n + k) (q .m-is)) (small (pos 0) (omega arith)) (ok (row-of .result) (row-of .ok)) refl
+    (row-of .ensures .0) (c .before .before .before .before .before .before .before .assistant-if-odd .ensures))
+    (assisted {k = start .args .n} refl (small (pos (start .args .p .side - 1)) (omega arith)) (ok (row-of .result) (row-of .ok))
+    (ap (λ (k : ℕ). pos (k - 1)) (q .side-is)) (row-of .ensures .0) (c .before .before .assistant-if-odd2 .ensures))
 
 pub row-ends-spec : {M : Type 1} → statement M
 row-ends-spec =
-    tie.close (tie.spec (λ c κs. search needs) (λ c. search needs) (λ c κs. search needs) add-assistant-if assistant-if-requires
-    assistant-if-requires-2 (λ c. search needs) returns)
+    tie.close (tie.spec (λ c κs. search needs) (λ c. search needs) assistant-if-odd-requires (λ c. search needs)
+    (λ c. small _ (omega arith)) assistant-if-odd-requires-2 (λ c. search needs) returns)

@@ -1,3 +1,4 @@
+-- `run` meets its contract.
 use Prim.Native.Nat.{ℕ, _-_, _≤_}
 use mathlib.Core.Path.{_≡_, refl, subst}
 use Rattle.symbol.proofs.Stored.{stored-none, stored-more}

@@ -1,16 +1,36 @@
+-- `spacing_of` meets its contract.
 use mathlib.Core.Path.{refl}
-use Rattle.symbol.specs.Layout.{kOf, rOf, mOf, ks, rs, ms}
+use native.Mathlib.Omega.{arith}
+use Rattle.symbol.specs.Layout.{kOf, mOf, ks, ms}
+use Rattle.symbol.proofs.Lines.{Table, tabled, spaced}
 use borrow.Author.Needs.{needs}
 use Rattle.symbol.proofs.spacing_of.Statement.{statement}
 use Rattle.symbol.proofs.spacing_of.Tie as tie
 
+table : (c : tie.After-side) → Table (c .before .args .version)
+table c = tabled (c .before .args .version) (c .before .pre .0) (c .before .pre .1)
+
+cast-k : tie.Need-cast-k
+unfolding kOf ks
+cast-k c = omega (arith, table c .k-le)
+
+cast-m : tie.Need-cast-m
+unfolding mOf ms
+cast-m c = omega (arith, table c .m-le)
+
+mul-t7 : tie.Need-mul-t7
+unfolding kOf mOf ks ms
+mul-t7 c = omega (arith, table c .last, c .before .pre .1)
+
+sub-t14 : tie.Need-sub-t14
+unfolding kOf mOf ks ms
+sub-t14 c = omega (arith, table c .last, c .side .ensures)
+
 returns : tie.Need-returns
-unfolding kOf rOf mOf ks rs ms
-returns c =
-    let start = c .before .before .before .before in
-    (record { low = start .pre .0; high = start .pre .1; side-is = c .before .before .before .side .ensures; k-is = c .before .before .wide .ensures; r-is = c .before .wide2 .ensures; m-is = c .wide3 .ensures }, refl)
+unfolding kOf mOf ks ms
+returns c = (spaced _ (c .before .pre .0) (c .before .pre .1) (c .side .ensures) refl refl refl, refl)
 
 pub spacing-of-spec : {M : Type 1} → statement M
 spacing-of-spec =
-    tie.close (tie.spec (λ c κs. search needs) (λ c. search needs) (λ c. search needs) (λ c κs. search needs) (λ c. search needs)
-    (λ c. search needs) (λ c κs. search needs) (λ c. search needs) (λ c. search needs) (λ c κs. search needs) returns)
+    tie.close (tie.spec (λ c κs. search needs) (λ c. search needs) (λ c. search needs) cast-k (λ c. search needs)
+    (λ c. search needs) cast-m mul-t7 sub-t14 returns)

@@ -1,8 +1,9 @@
-use Rattle.symbol.specs.Layout.{threeAt, plot, light}
-use lib.IntN.{pos, _+ℤ_, _-ℤ_}
+-- `three` meets its contract.
+use mathlib.Core.Path.{refl}
 use mathlib.Core.List.{[], _∷_}
-use mathlib.Core.Path.{refl, _∙_}
-use Rattle.symbol.proofs.Coordinates.{read, ok}
+use Rattle.symbol.specs.Layout.{threeAt, plot, light}
+use native.Mathlib.Omega.{arith}
+use Rattle.symbol.proofs.Coordinates.{back-fits, back-is, forth-fits, forth-is}
 use Rattle.symbol.proofs.Plots.{next, heard}
 use borrow.Author.Needs.{needs}
 use Rattle.symbol.proofs.three.Statement.{statement}
@@ -11,18 +12,17 @@ use Rattle.symbol.proofs.three.Tie as tie
 returns : tie.Need-returns
 unfolding threeAt
 returns c =
-    let before = c .before .before .before .before .before .before .before .before .before .before .before .before .before .before .before in
-    let back = c .before .before .before .before .before .before .before .before .before .before .before .before .back in
-    let plot′ = c .before .before .before .before .before .before .before .before .before .before .before .plot in
-    let plot2 = c .before .before .before .before .before .before .before .plot2 in
-    let forth = c .before .before .before .forth in
-    let o = before in
-    let left = heard (λ a b. plot a b light ∷ []) (ok (back .result) (back .ok)) (o .fits .y) (back .ensures ∙ read (λ z. z -ℤ pos 1) (o .fits .x)) refl (plot′ .ensures) in
-    let middle = heard (λ a b. plot a b (o .args .kind) ∷ []) (o .fits .x) (o .fits .y) refl refl (plot2 .ensures) in
-    let right = heard (λ a b. plot a b light ∷ []) (ok (forth .result) (forth .ok)) (o .fits .y) (forth .ensures ∙ read (λ z. z +ℤ pos 1) (o .fits .x)) refl (c .before .before .plot3 .ensures) in
-    next left (next middle right)
+    let o = c .before .before .before .before .before .before .before .before .before .before .before .before .before in
+    next (heard (λ a b. plot a b light ∷ []) (back-fits 1 (o .fits .x) (o .pre .2) (omega arith)) (o .fits .y)
+    (back-is 1 (o .fits .x) (o .pre .2) (omega arith)) refl (c .before .before .before .before .before .before .before .before .before .before .plot .ensures))
+    (next (heard (λ a b. plot a b (o .args .kind) ∷ []) (o .fits .x) (o .fits .y) refl refl
+    (c .before .before .before .before .before .before .plot2 .ensures))
+    (heard (λ a b. plot a b light ∷ []) (forth-fits 1 (o .fits .x) (o .pre .2) (omega arith)) (o .fits .y)
+    (forth-is 1 (o .fits .x) (o .pre .2) (omega arith)) refl (c .before .before .plot3 .ensures)))
 
 pub three-spec : {M : Type 1} → statement M
 three-spec =
-    tie.close (tie.spec (λ c κs. search needs) (λ c κs. search needs) (λ c κs. search needs) (λ c κs. search needs)
+    tie.close (tie.spec (λ c. let o = c .before .before in back-fits 1 (o .fits .x) (o .pre .2) (omega arith))
+    (λ c κs. search needs) (λ c κs. search needs)
+    (λ c. let o = c .before .before .before .before .before .before .before .before .before .before in forth-fits 1 (o .fits .x) (o .pre .2) (omega arith))
     (λ c κs. search needs) (λ c. search needs) returns)

@@ -1,3 +1,4 @@
+-- `Version::from_side` meets its contract.
 use Prim.Native.Nat.{_%_}
 use Rattle.symbol.specs.Version.{isSide, sideRefusal, sideVersion}
 use native.Mathlib.Omega.{arith}
