@@ -5,3 +5,4 @@ pub mod Bytes
 pub mod Window
 pub mod Appending
 pub mod Tests
+pub mod Inside

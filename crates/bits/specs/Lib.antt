@@ -1,3 +1,4 @@
 -- Bits of bytes, and words of bits.
 pub mod Bits
 pub mod Four
+pub mod Read

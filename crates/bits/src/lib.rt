@@ -6,6 +6,7 @@ ghost use lib.ListN.{length, getD, take, drop, set};
 ghost use lib.Seq.{sets};
 ghost use Rattle.bits.specs.Bits.{bitsOf, readOf, lowBits};
 ghost use Rattle.bits.specs.Four.{fourOf};
+ghost use Rattle.bits.specs.Read.{readAt};
 
 // What reading some bits gives.
 pub enum Word {
@@ -110,4 +111,40 @@ pub fn write_bits(buf: &mut [u8], at: usize, n: usize, v: usize)
     let old = wide(buf[i]);
     let before = old - old % (1 << (8 - r));
     store_four(buf, i, before * 16777216 + ((v % (1 << n)) << (32 - r - n)));
+}
+
+// The bit reader joins the data codewords to a bit position (SPECIFICATION 8.1; han_xin.rs: `Bits`): thin functions over a struct, whose
+// work is done on a slice and a number. Data and a position in their bits.
+pub struct Bits<'a> {
+    pub data: &'a [u8],
+    pub at: usize,
+}
+
+// The number that the n bits from a position on say, where there are so many.
+pub fn read_at(s: &[u8], at: usize, n: usize) -> Word
+    ensures { λ r. ⌜ r ≡ readAt (now (s .entry)) at n ⌝ }
+{
+    if 4096 < s.len() {
+        return Word::Cut;
+    }
+    if s.len() * 8 < at {
+        return Word::Cut;
+    }
+    if 21 < n {
+        return Word::Cut;
+    }
+    read_bits(s, at, n)
+}
+
+pub fn read<'a>(b: Bits<'a>, n: usize) -> Word
+    ensures { λ r. ⌜ r ≡ readAt (now (b .entry .data)) (b .entry .at) n ⌝ }
+{
+    read_at(b.data, b.at, n)
+}
+
+// The mode of a segment: 4 bits.
+pub fn mode(s: &[u8], at: usize) -> Word
+    ensures { λ r. ⌜ r ≡ readAt (now (s .entry)) at 4 ⌝ }
+{
+    read(Bits { data: s, at: at }, 4)
 }

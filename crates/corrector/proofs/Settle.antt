@@ -15,8 +15,8 @@ use lib.Bits.{xor-self, xor-zero-r}
 use Rattle.field.specs.Field.{power}
 use Rattle.field.proofs.Field.{Passes, passes, sum-lt}
 use Rattle.field.proofs.Instances.{passes-163}
-use Rattle.algebra.specs.Sum.{_⊕_, seq, degree, syndrome}
-use Rattle.algebra.proofs.Peel.{syndrome-add, syndrome-ext}
+use Rattle.reed_solomon.specs.Sum.{_⊕_, seq, degree, syndrome}
+use Rattle.reed_solomon.proofs.Peel.{syndrome-add, syndrome-ext}
 use Rattle.reed_solomon.specs.Block.{eval, orOneMore, distance, nearest, unfit}
 use Rattle.remainder.specs.declared.Register.{Register}
 use Rattle.remainder.specs.Words.{tabled, Remains, Leaves}

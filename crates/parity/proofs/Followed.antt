@@ -15,8 +15,8 @@ use Rattle.field.specs.Field.{power}
 use Rattle.field.specs.Table.{each}
 use Rattle.field.proofs.Field.{Passes}
 use Rattle.field.proofs.Entries.{each-length, each-at}
-use Rattle.algebra.specs.Sum.{seq, horner}
-use Rattle.algebra.specs.Register.{stepped}
+use Rattle.reed_solomon.specs.Sum.{seq, horner}
+use Rattle.reed_solomon.specs.Register.{stepped}
 use Rattle.reed_solomon.specs.Block.{orOneMore, distance, isCodeword, parityOf}
 use Rattle.reed_solomon.specs.Inner.{Each}
 use Rattle.reed_solomon.proofs.Search.{Bytes, Passing, passing-some}

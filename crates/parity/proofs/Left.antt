@@ -14,7 +14,7 @@ use Rattle.field.proofs.Field.{Passes, passes, mul-lt, mul-sum, mul-assoc, mul-
 use Rattle.field.proofs.Instances.{passes-163}
 use Rattle.field.proofs.Entries.{mul-left-zero}
 use Rattle.field.proofs.Xor.{xor-assoc}
-use Rattle.algebra.specs.Sum.{_⊕_, seq}
+use Rattle.reed_solomon.specs.Sum.{_⊕_, seq}
 use Rattle.reed_solomon.specs.Block.{evalFrom, eval}
 use Rattle.reed_solomon.specs.Inner.{Each}
 use Rattle.reed_solomon.proofs.Search.{Bytes}

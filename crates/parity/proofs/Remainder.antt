@@ -13,11 +13,11 @@ use Rattle.field.proofs.Xor.{xor-swap}
 use Rattle.field.proofs.Field.{Passes, mul-lt, mul-assoc, mul-one, sum-lt}
 use Rattle.field.proofs.Field.{mul-sum as sum-mul}
 use Rattle.field.proofs.Entries.{mul-left-zero, mul-right-zero}
-use Rattle.algebra.specs.Sum.{_⊕_, seq, horner}
-use Rattle.algebra.specs.Register.{Tail, moved, stepped}
-use Rattle.algebra.proofs.Sum.{mul-add}
-use Rattle.algebra.proofs.Register.{moved-low, moved-high, stepped-low, stepped-high, stepped-tail}
-use Rattle.algebra.proofs.Horner.{rooted, rooted-law, horner-ext}
+use Rattle.reed_solomon.specs.Sum.{_⊕_, seq, horner}
+use Rattle.reed_solomon.specs.Register.{Tail, moved, stepped}
+use Rattle.reed_solomon.proofs.Sum.{mul-add}
+use Rattle.reed_solomon.proofs.Register.{moved-low, moved-high, stepped-low, stepped-high, stepped-tail}
+use Rattle.reed_solomon.proofs.Horner.{rooted, rooted-law, horner-ext}
 use Rattle.reed_solomon.specs.Inner.{Each, added}
 use Rattle.reed_solomon.proofs.Each.{each-same}
 use Rattle.parity.specs.Inner.{Monic, Generator, Divided, copiedFrom}

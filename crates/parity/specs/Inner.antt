@@ -5,8 +5,8 @@ use mathlib.Core.List.{List}
 use Prim.Native.Nat.{ℕ, suc, _+_, _-_, _<_}
 use native.Mathlib.Decide.{decLt}
 use Rattle.field.specs.Field.{power}
-use Rattle.algebra.specs.Sum.{seq, horner}
-use Rattle.algebra.specs.Register.{Tail}
+use Rattle.reed_solomon.specs.Sum.{seq, horner}
+use Rattle.reed_solomon.specs.Register.{Tail}
 
 -- a polynomial of degree n, highest coefficient first, which is 1; zeros behind it
 pub record Monic (n : ℕ) (g : ℕ → ℕ) : Type 0 where

@@ -4,7 +4,7 @@ ghost use mathlib.Core.Path.{_≡_};
 ghost use Prim.Native.Nat.{ℕ, _+_, _-_, _≤_, _<_};
 ghost use lib.ListN.{length, getD};
 ghost use Rattle.field.specs.Table.{Field, polyOf};
-ghost use Rattle.algebra.specs.Sum.{seq};
+ghost use Rattle.reed_solomon.specs.Sum.{seq};
 ghost use mathlib.Core.Bool.{true, false};
 ghost use Rattle.remainder.specs.Words.{tabled, Prepared, Leaves};
 ghost use Rattle.parity.specs.Encode.{writtenOf, encodeOf, encoding};

@@ -21,7 +21,7 @@ fn pass(s: &[u8], out: &mut [u8], script: &mut [u8]) -> Count
     let mut n: usize = 0;
     let mut m: usize = 0;
     loop {
-        let got = bit_reader::mode(s, at);
+        let got = bits::mode(s, at);
         let Word::Value(mode) = got else {
             return Count::Done(n, m);
         };

@@ -6,7 +6,7 @@ use mathlib.Core.List.{List}
 use Prim.Native.Nat.{ℕ, _<_}
 use lib.Dec.{T, eqb, eqb→eq}
 use Rattle.field.proofs.Field.{below-at}
-use Rattle.algebra.specs.Sum.{seq}
+use Rattle.reed_solomon.specs.Sum.{seq}
 use Rattle.reed_solomon.specs.Inner.{isClean}
 use Rattle.reed_solomon.proofs.Codeword.{below-all}
 

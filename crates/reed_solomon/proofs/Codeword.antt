@@ -10,10 +10,10 @@ use lib.Seq.{drop-cons, ext-getD}
 use lib.Bits.{xor-self}
 use Rattle.field.specs.Field.{power, mul, below}
 use Rattle.field.proofs.Field.{Passes, below-at, sum-lt}
-use Rattle.algebra.specs.Sum.{_⊕_, seq, horner, syndrome}
-use Rattle.algebra.proofs.Sum.{Null, add-zero-eq}
-use Rattle.algebra.proofs.Peel.{Out, syndrome-add, only-zero}
-use Rattle.algebra.proofs.Horner.{syndrome-value}
+use Rattle.reed_solomon.specs.Sum.{_⊕_, seq, horner, syndrome}
+use Rattle.reed_solomon.proofs.Sum.{Null, add-zero-eq}
+use Rattle.reed_solomon.proofs.Peel.{Out, syndrome-add, only-zero}
+use Rattle.reed_solomon.proofs.Horner.{syndrome-value}
 use Rattle.reed_solomon.specs.Block.{evalFrom, eval, isCodeword, distance}
 use Rattle.reed_solomon.proofs.Search.{Bytes}
 use Rattle.reed_solomon.proofs.Distance.{places, places-length, places-out}

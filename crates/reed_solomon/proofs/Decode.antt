@@ -11,13 +11,13 @@ use lib.Bits.{xor-self, xor-zero-r}
 use Rattle.field.specs.Field.{power, mul}
 use Rattle.field.proofs.Field.{Passes, mul-comm, mul-assoc, sum-lt}
 use Rattle.field.proofs.Field.{mul-sum as sum-mul}
-use Rattle.algebra.specs.Sum.{_⊕_, seq, horner, degree, locator, weight, syndrome}
-use Rattle.algebra.specs.Register.{Makes}
-use Rattle.algebra.proofs.Sum.{Null, null-add, sum-ext, sum-one, add-zero-eq}
-use Rattle.algebra.proofs.Peel.{Out, null-mul, null-div, power-alive, only-zero, apart}
-use Rattle.algebra.proofs.Register.{discrepancy-ext}
-use Rattle.algebra.proofs.Horner.{quotient, horner-one, horner-lt, quotient-law, convolution, discrepancy-value, few-roots}
-use Rattle.algebra.proofs.Locator.{product, product-first, product-makes}
+use Rattle.reed_solomon.specs.Sum.{_⊕_, seq, horner, degree, locator, weight, syndrome}
+use Rattle.reed_solomon.specs.Register.{Makes}
+use Rattle.reed_solomon.proofs.Sum.{Null, null-add, sum-ext, sum-one, add-zero-eq}
+use Rattle.reed_solomon.proofs.Peel.{Out, null-mul, null-div, power-alive, only-zero, apart}
+use Rattle.reed_solomon.proofs.Register.{discrepancy-ext}
+use Rattle.reed_solomon.proofs.Horner.{quotient, horner-one, horner-lt, quotient-law, convolution, discrepancy-value, few-roots}
+use Rattle.reed_solomon.proofs.LocatorLaws.{product, product-first, product-makes}
 use Rattle.reed_solomon.specs.Block.{eval, distance}
 use Rattle.reed_solomon.specs.Inner.{Syndromes, Shortest, locatorAt, dividedAt, numerator, denominator, Magnitude}
 use Rattle.reed_solomon.proofs.Search.{Bytes}

@@ -8,10 +8,10 @@ use native.Mathlib.Omega.{arith}
 use lib.Dec.{T, eqb, eqb→eq, eqb-refl}
 use lib.ListN.{length, getD}
 use Rattle.field.proofs.Field.{Passes}
-use Rattle.algebra.specs.Sum.{horner, locator}
-use Rattle.algebra.proofs.Sum.{Null}
-use Rattle.algebra.proofs.Peel.{Out}
-use Rattle.algebra.proofs.Horner.{Roots}
+use Rattle.reed_solomon.specs.Sum.{horner, locator}
+use Rattle.reed_solomon.proofs.Sum.{Null}
+use Rattle.reed_solomon.proofs.Peel.{Out}
+use Rattle.reed_solomon.proofs.Horner.{Roots}
 use Rattle.reed_solomon.specs.Block.{orOneMore, distance}
 
 abbrev orAlso : Bool → ℕ → List ℕ → List ℕ

@@ -6,7 +6,7 @@ use native.Mathlib.Omega.{arith}
 use native.Mathlib.Decide.{ℕ-discrete}
 use lib.ListN.{length, set, length-set}
 use lib.Seq.{getD-set-same, getD-set-other}
-use Rattle.algebra.specs.Sum.{seq}
+use Rattle.reed_solomon.specs.Sum.{seq}
 use Rattle.reed_solomon.specs.Inner.{Each}
 
 -- nothing changes where F leaves each of the first n as it is

@@ -1,4 +1,9 @@
 -- Laws of blocks, for any field whose polynomial passes the order test and any first root.
+pub mod Sum
+pub mod Peel
+pub mod Register
+pub mod Horner
+pub mod LocatorLaws
 pub mod Each
 pub mod Fit
 pub mod Search

@@ -10,8 +10,8 @@ use lib.ListN.{length, set, length-set}
 use lib.Seq.{getD-set-same, getD-set-other}
 use Rattle.field.specs.Field.{raised, power, mul}
 use Rattle.field.proofs.Field.{Passes, mul-lt, mul-assoc, mul-one, mul-power, power-period}
-use Rattle.algebra.specs.Sum.{_⊕_, seq, sum, horner, degree}
-use Rattle.algebra.proofs.Sum.{sum-next}
+use Rattle.reed_solomon.specs.Sum.{_⊕_, seq, sum, horner, degree}
+use Rattle.reed_solomon.proofs.Sum.{sum-next}
 use Rattle.reed_solomon.specs.Inner.{Reduced, stepped, SteppedTwo, dividedAt, numerator, denominator, Magnitude, ErrorAt, Errors}
 use Rattle.reed_solomon.proofs.Values.{two-at-once}
 

@@ -11,9 +11,9 @@ use lib.Bits.{xor-zero-r}
 use Rattle.field.specs.Field.{mul}
 use Rattle.field.proofs.Field.{Passes, mul-lt, sum-lt}
 use Rattle.field.proofs.Entries.{mul-right-zero}
-use Rattle.algebra.specs.Sum.{_⊕_, seq}
-use Rattle.algebra.specs.Register.{discrepancy, Makes, Tail, moved, stepped, State}
-use Rattle.algebra.proofs.Register.{moved-low, moved-high, stepped-low, stepped-tail, massey, kept, stayed, grown}
+use Rattle.reed_solomon.specs.Sum.{_⊕_, seq}
+use Rattle.reed_solomon.specs.Register.{discrepancy, Makes, Tail, moved, stepped, State}
+use Rattle.reed_solomon.proofs.Register.{moved-low, moved-high, stepped-low, stepped-tail, massey, kept, stayed, grown}
 use Rattle.reed_solomon.specs.Inner.{Each, added, copied, Register, Shortest}
 use Rattle.reed_solomon.proofs.Each.{each-same, each-next}
 

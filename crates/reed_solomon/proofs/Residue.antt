@@ -9,8 +9,8 @@ use Rattle.field.specs.Field.{power, mul}
 use Rattle.field.proofs.Xor.{xor-assoc}
 use Rattle.field.proofs.Field.{Passes, mul-assoc, mul-power, power-period}
 use Rattle.field.proofs.Entries.{mul-left-zero}
-use Rattle.algebra.specs.Sum.{_⊕_, seq, sum, degree}
-use Rattle.algebra.proofs.Sum.{sum-next}
+use Rattle.reed_solomon.specs.Sum.{_⊕_, seq, sum, degree}
+use Rattle.reed_solomon.proofs.Sum.{sum-next}
 use Rattle.reed_solomon.specs.Inner.{Each, without, withoutAll, repaired}
 use Rattle.reed_solomon.proofs.Each.{each-same, each-next}
 

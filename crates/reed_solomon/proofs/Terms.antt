@@ -7,9 +7,9 @@ use native.Mathlib.Omega.{arith}
 use lib.ListN.{length, set}
 use Rattle.field.specs.Field.{raised, power, mul}
 use Rattle.field.proofs.Field.{Passes, mul-assoc, mul-one, mul-power}
-use Rattle.algebra.specs.Sum.{_⊕_, seq, sum, degree}
-use Rattle.algebra.proofs.Sum.{sum-ext, sum-next}
-use Rattle.algebra.proofs.Horner.{horner-sum, horner-lt}
+use Rattle.reed_solomon.specs.Sum.{_⊕_, seq, sum, degree}
+use Rattle.reed_solomon.proofs.Sum.{sum-ext, sum-next}
+use Rattle.reed_solomon.proofs.Horner.{horner-sum, horner-lt}
 use Rattle.reed_solomon.specs.Inner.{Each, Reduced, shifted, carried, Sums, Terms, locatorAt, Located}
 use Rattle.reed_solomon.proofs.Each.{each-next}
 use Rattle.reed_solomon.proofs.Values.{reduced-power}

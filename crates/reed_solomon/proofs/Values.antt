@@ -11,7 +11,7 @@ use Rattle.field.specs.Field.{power, mul}
 use Rattle.field.proofs.Field.{Passes, mul-lt, mul-assoc, mul-power, power-period, sum-lt}
 use Rattle.field.proofs.Field.{mul-sum as sum-mul}
 use Rattle.field.proofs.Xor.{xor-assoc}
-use Rattle.algebra.specs.Sum.{_⊕_, seq, horner}
+use Rattle.reed_solomon.specs.Sum.{_⊕_, seq, horner}
 use Rattle.reed_solomon.specs.Inner.{Each, advanced, advancedTwo, Reduced, Syndromes}
 use Rattle.reed_solomon.proofs.Search.{Bytes}
 use Rattle.reed_solomon.proofs.Codeword.{eval-horner}

@@ -7,8 +7,8 @@ use Prim.Native.Nat.{ℕ, suc, _+_, _-_, _*_, _%_, _≤_, _<_}
 use lib.Dec.{eqb}
 use lib.ListN.{length}
 use Rattle.field.specs.Field.{power, mul, below}
-use Rattle.algebra.specs.Sum.{_⊕_, seq, sum, horner, degree}
-use Rattle.algebra.specs.Register.{Makes, moved, State}
+use Rattle.reed_solomon.specs.Sum.{_⊕_, seq, sum, horner, degree}
+use Rattle.reed_solomon.specs.Register.{Makes, moved, State}
 use Rattle.reed_solomon.specs.Block.{eval}
 
 -- the first n of s, each replaced by F of its place and itself; the rest as it was

@@ -1,3 +1,5 @@
 -- SPECIFICATION 3: blocks. `Inner` is for inner functions: nobody has to believe it.
 pub mod Block
 pub mod Inner
+pub mod Sum
+pub mod Register

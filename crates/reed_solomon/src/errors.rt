@@ -5,7 +5,7 @@ ghost use Prim.Native.Nat.{ℕ, suc, _+_, _*_, _≤_, _<_};
 ghost use lib.ListN.{length, set};
 ghost use Rattle.field.specs.Field.{mul};
 ghost use Rattle.field.specs.Table.{Field, polyOf};
-ghost use Rattle.algebra.specs.Sum.{_⊕_, seq};
+ghost use Rattle.reed_solomon.specs.Sum.{_⊕_, seq};
 ghost use Rattle.reed_solomon.specs.Inner.{Each, Reduced, shifted, carried, Sums, Located, stepped, SteppedTwo, numerator, denominator, Magnitude, ErrorAt, Errors, without, withoutAll, repaired};
 use crate::syndromes::reduced;
 

@@ -3,8 +3,8 @@ ghost use mathlib.Core.Path.{_≡_};
 ghost use Prim.Native.Nat.{ℕ, _+_, _≤_, _<_};
 ghost use lib.ListN.{length};
 ghost use Rattle.field.specs.Table.{Field, polyOf};
-ghost use Rattle.algebra.specs.Sum.{seq};
-ghost use Rattle.algebra.specs.Register.{discrepancy};
+ghost use Rattle.reed_solomon.specs.Sum.{seq};
+ghost use Rattle.reed_solomon.specs.Register.{discrepancy};
 ghost use Rattle.reed_solomon.specs.Inner.{Each, added, copied, Register, Shortest};
 
 // By how much the register f of length l misses s at r.

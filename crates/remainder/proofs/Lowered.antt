@@ -13,9 +13,9 @@ use Rattle.field.specs.Field.{raised, mul, power}
 use Rattle.field.proofs.Field.{Passes, passes, mul-assoc, mul-one, mul-power, power-period, mul-lt}
 use Rattle.field.proofs.Instances.{passes-163}
 use Rattle.field.proofs.Entries.{mul-left-zero}
-use Rattle.algebra.specs.Sum.{_⊕_, seq, horner}
-use Rattle.algebra.proofs.Sum.{add-zero-eq}
-use Rattle.algebra.proofs.Horner.{horner-ext, horner-lt}
+use Rattle.reed_solomon.specs.Sum.{_⊕_, seq, horner}
+use Rattle.reed_solomon.proofs.Sum.{add-zero-eq}
+use Rattle.reed_solomon.proofs.Horner.{horner-ext, horner-lt}
 use Rattle.reed_solomon.specs.Block.{eval}
 use Rattle.reed_solomon.specs.Inner.{Each, Syndromes}
 use Rattle.reed_solomon.proofs.Codeword.{eval-horner}

@@ -8,3 +8,4 @@ pub mod Starts
 pub mod AnySquare
 pub mod Theorems
 pub mod Instance
+pub mod Edges

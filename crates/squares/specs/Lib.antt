@@ -3,3 +3,4 @@ pub mod Receipt
 pub mod Read
 pub mod Write
 pub mod Promise
+pub mod Edges

@@ -4,7 +4,7 @@ use Prim.Native.Nat.{_≤_, _-_}
 use lib.ListN.{length, replicate}
 use Rattle.field.specs.Table.{polyOf}
 use Rattle.field.proofs.Entries.{the-field}
-use Rattle.algebra.specs.Sum.{seq}
+use Rattle.reed_solomon.specs.Sum.{seq}
 use Rattle.reed_solomon.proofs.Massey.{zeros, one-first}
 use Rattle.parity.specs.Inner.{Generator}
 use Rattle.parity.proofs.Remainder.{generator-start, multiplied, generator-end}

@@ -6,7 +6,7 @@ use Prim.Native.Nat.{ℕ, _≤_, _<_, _*_, _-_, _+_}
 use lib.ListN.{length, drop}
 use Rattle.bits.specs.Bits.{bitsOf}
 use Rattle.bits.proofs.Words.{WordAt, word-read, word-few}
-use Rattle.bit_reader.proofs.Inside.{read-inside}
+use Rattle.bits.proofs.Inside.{read-inside}
 use Rattle.segments.specs.declared.Count.{Count}
 use Rattle.segments.specs.Segments.{cut, lacking, segmentOf, parse, segmentsOf}
 use Rattle.segments.specs.Passes.{Passed}

@@ -4,7 +4,7 @@ use Prim.Native.Nat.{_+_, _≤_, _-_}
 use lib.ListN.{length}
 use Rattle.field.specs.Table.{polyOf}
 use Rattle.field.proofs.Entries.{the-field}
-use Rattle.algebra.specs.Sum.{seq}
+use Rattle.reed_solomon.specs.Sum.{seq}
 use Rattle.parity.specs.Inner.{Divided}
 use Rattle.parity.proofs.Remainder.{divided-start, reduced, divided-end}
 use borrow.Author.Needs.{needs}

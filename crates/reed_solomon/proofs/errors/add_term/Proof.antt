@@ -1,7 +1,7 @@
 -- `errors::add_term` meets its contract. Assumes nothing.
 use mathlib.Core.Path.{refl, ap}
 use Rattle.field.proofs.Entries.{the-field}
-use Rattle.algebra.specs.Sum.{_⊕_}
+use Rattle.reed_solomon.specs.Sum.{_⊕_}
 use Rattle.reed_solomon.proofs.Terms.{by-one, by-reduced}
 use borrow.Author.Needs.{needs}
 use Rattle.reed_solomon.proofs.errors.add_term.Statement.{statement}

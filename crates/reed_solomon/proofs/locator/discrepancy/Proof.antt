@@ -4,9 +4,9 @@ use Prim.Native.Nat.{suc, _≤_, _-_}
 use lib.Bits.{bitXor}
 use Rattle.field.specs.Table.{polyOf}
 use Rattle.field.specs.Field.{mul}
-use Rattle.algebra.specs.Sum.{seq, sum}
-use Rattle.algebra.specs.Register.{discrepancy}
-use Rattle.algebra.proofs.Sum.{sum-next}
+use Rattle.reed_solomon.specs.Sum.{seq, sum}
+use Rattle.reed_solomon.specs.Register.{discrepancy}
+use Rattle.reed_solomon.proofs.Sum.{sum-next}
 use borrow.Author.Needs.{needs}
 use native.Mathlib.Omega.{arith}
 use Rattle.reed_solomon.proofs.locator.discrepancy.Statement.{statement}

@@ -2,7 +2,7 @@
 use mathlib.Core.Path.{_≡_}
 use Prim.Native.Nat.{ℕ, _≤_, _<_, _-_}
 use borrow.Author.Count.{below-more}
-use Rattle.algebra.specs.Sum.{seq}
+use Rattle.reed_solomon.specs.Sum.{seq}
 use Rattle.reed_solomon.proofs.Clean.{clean-yes, clean-no}
 use borrow.Author.Needs.{needs}
 use native.Mathlib.Omega.{arith}

@@ -9,10 +9,10 @@ use Rattle.field.specs.Field.{mul}
 use Rattle.field.proofs.Field.{Passes, mul-assoc}
 use Rattle.field.proofs.Field.{mul-sum as sum-mul}
 use Rattle.field.proofs.Entries.{mul-left-zero, mul-right-zero}
-use Rattle.algebra.specs.Sum.{_⊕_, sum}
-use Rattle.algebra.specs.Register.{discrepancy, Makes, Tail, moved, stepped, State}
-use Rattle.algebra.proofs.Sum.{Null, sum-ext, sum-add, sum-zero, sum-one, sum-swap, sum-more, sum-drop, sum-scale, mul-left}
-use Rattle.algebra.proofs.Peel.{null-div}
+use Rattle.reed_solomon.specs.Sum.{_⊕_, sum}
+use Rattle.reed_solomon.specs.Register.{discrepancy, Makes, Tail, moved, stepped, State}
+use Rattle.reed_solomon.proofs.Sum.{Null, sum-ext, sum-add, sum-zero, sum-one, sum-swap, sum-more, sum-drop, sum-scale, mul-left}
+use Rattle.reed_solomon.proofs.Peel.{null-div}
 
 -- only the values up to x count
 pub discrepancy-ext : (poly : ℕ) (s t f : ℕ → ℕ) (l x : ℕ) → ((j : ℕ) → j ≤ x → s j ≡ t j) → discrepancy poly s f l x ≡ discrepancy poly t f l x

@@ -5,8 +5,8 @@ use Prim.Native.Nat.{ℕ, _*_, _≤_}
 use native.Mathlib.Omega.{arith}
 use borrow.Author.Tests.{le-ltb}
 use lib.ListN.{length, drop}
 use Rattle.bits.specs.Bits.{bitsOf, readOf}
-use Rattle.bit_reader.specs.Read.{readAt}
+use Rattle.bits.specs.Read.{readAt}
 
 pub read-inside : (s : List ℕ) (at n : ℕ) → length s ≤ 4096 → at ≤ 8 * length s → n ≤ 21 → readAt s at n ≡ readOf n (drop at (bitsOf s))
 unfolding readAt

@@ -11,10 +11,10 @@ use Rattle.field.proofs.Xor.{xor-assoc, xor-swap}
 use Rattle.field.proofs.Field.{Passes, mul-lt, mul-comm, mul-assoc, mul-one, mul-power, sum-lt}
 use Rattle.field.proofs.Field.{mul-sum as sum-mul}
 use Rattle.field.proofs.Entries.{mul-left-zero, mul-right-zero}
-use Rattle.algebra.specs.Sum.{_⊕_, sum, horner, degree, locator, weight, syndrome}
-use Rattle.algebra.specs.Register.{discrepancy, Tail}
-use Rattle.algebra.proofs.Sum.{Null, null-add, sum-ext, sum-swap, sum-scale, mul-add, mul-left, add-cancel}
-use Rattle.algebra.proofs.Peel.{Out, null-div, apart}
+use Rattle.reed_solomon.specs.Sum.{_⊕_, sum, horner, degree, locator, weight, syndrome}
+use Rattle.reed_solomon.specs.Register.{discrepancy, Tail}
+use Rattle.reed_solomon.proofs.Sum.{Null, null-add, sum-ext, sum-swap, sum-scale, mul-add, mul-left, add-cancel}
+use Rattle.reed_solomon.proofs.Peel.{Out, null-div, apart}
 
 -- f divided by x + a
 abbrev pub quotient : ℕ → (ℕ → ℕ) → ℕ → ℕ → ℕ

@@ -1,9 +1,9 @@
 -- `read_at` meets its contract. Assumes nothing.
 use borrow.Author.Tests.{lt-ltb, le-ltb}
-use Rattle.bit_reader.specs.Read.{readAt}
+use Rattle.bits.specs.Read.{readAt}
 use borrow.Author.Needs.{needs}
-use Rattle.bit_reader.proofs.read_at.Statement.{statement}
-use Rattle.bit_reader.proofs.read_at.Tie as tie
+use Rattle.bits.proofs.read_at.Statement.{statement}
+use Rattle.bits.proofs.read_at.Tie as tie
 
 returns : tie.Need-returns
 unfolding readAt

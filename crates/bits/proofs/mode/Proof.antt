@@ -40,21 +40,21 @@ use denote.Triple.Table.{entered, cited}
 use denote.Triple.Walked.{says, Stays, stay-none, stay-none-slice, walkOf, goes-none, goes-none-slice, Walks, ends-at, walked, walk-meets}
 use denote.Exit.{yes}
 use denote.Triple.Clauses.{ensured, lasts}
-use Rattle.bit_reader.specs.Read.{readAt}
-use Rattle.bit_reader.specs.declared.Bits.{Bits}
+use Rattle.bits.specs.Read.{readAt}
+use Rattle.bits.specs.declared.Bits.{Bits}
 use Rattle.bits.specs.declared.Word.{Word}
-use Rattle.bit_reader.proofs.Bits as T
-use Rattle.bit_reader.proofs.Bits.Laws as T′
+use Rattle.bits.proofs.Bits as T
+use Rattle.bits.proofs.Bits.Laws as T′
 use Rattle.bits.proofs.Word as S
 use Rattle.bits.proofs.Word.Laws as S′
-use Rattle.bit_reader.proofs.read as read
-use Rattle.bit_reader.proofs.read.Symbol as read-def
-use Rattle.bit_reader.proofs.read.Symbol.{name as #bit-reader·read}
-use Rattle.bit_reader.proofs.read.Met as read-thm
-use Rattle.bit_reader.proofs.mode.Key.{name as #bit-reader·mode}
-use Rattle.bit_reader.proofs.mode as mode
-use Rattle.bit_reader.proofs.mode.Statement as stated
-use Rattle.bit_reader.proofs.mode.Code as code
+use Rattle.bits.proofs.read as read
+use Rattle.bits.proofs.read.Symbol as read-def
+use Rattle.bits.proofs.read.Symbol.{name as #bits·read}
+use Rattle.bits.proofs.read.Met as read-thm
+use Rattle.bits.proofs.mode.Key.{name as #bits·mode}
+use Rattle.bits.proofs.mode as mode
+use Rattle.bits.proofs.mode.Statement as stated
+use Rattle.bits.proofs.mode.Code as code
 
 -- the struct's type, over the signature's lifetimes
 abbrev B : Lfts 1 → RattleType
@@ -122,7 +122,7 @@ module _ {M : Type 1} (𝓤 : URA M) (H : Heap 𝓤) (A : Atoms 𝓤) (W : Given
       suffices ! _ (ends-at 𝓤 H A mode.ended stayed (mode.clauses 𝓤 H A mem run) W (((κ, tt), (q, tt), tt, (s, (n, tt)), argv), tt) u r (tt, (tt, tt)) (tt, (tt, tt))) $ says ! e $
       move ! (1 ∷ []) $ frame ! $ nothing ! $ owned ! usize (Is usize) (uint-makes 𝓤 H A W w64) n _ (refl, gi) $ fjoin ! $ move ! (2 ∷ 0 ∷ []) $ fjoin ! $ frame ! $ done !
 
-  module _ (C : Calls 𝓤 H) (Λ : Loops 𝓤 H) (fm : FmC 𝓤 H (W .laws) C) (known : Triple 𝓤 (C #bit-reader·read) (Read 𝓤 H A mem run)) where
+  module _ (C : Calls 𝓤 H) (Λ : Loops 𝓤 H) (fm : FmC 𝓤 H (W .laws) C) (known : Triple 𝓤 (C #bits·read) (Read 𝓤 H A mem run)) where
     walk : Is (ShrSlice (named 0) κ u8) s (v ∷ []) → n < 2 ^ 64 → ent 𝓤 (onEntry 𝓤 H A mode.signature (κ, tt) (q, tt) (s, (n, tt)) argv) (WpFn 𝓤 H C Λ code.function (v ∷ vint w64 n ∷ []) Post)
     walk p gi =
         qed W (raw (onEntry 𝓤 H A mode.signature (κ, tt) (q, tt) (s, (n, tt)) argv) ∷ []) ∵ enter ! C Λ code.function (v ∷ vint w64 n ∷ []) _ $
@@ -139,13 +139,13 @@ module _ {M : Type 1} (𝓤 : URA M) (H : Heap 𝓤) (A : Atoms 𝓤) (W : Given
         move ! (9 ∷ 10 ∷ []) $ free1 ! $ move ! (7 ∷ 8 ∷ []) $ free1 ! $ move ! (5 ∷ 6 ∷ []) $ free1 ! $ move ! (3 ∷ 4 ∷ []) $ free1 ! $ free0 ! $ by ! (exits r u gi e)))))))))
 
 module _ {M : Type 1} (𝓤 : URA M) (H : Heap 𝓤) (A : Atoms 𝓤) (W : Given 𝓤 H A) (mem : Memory → SProp 𝓤) (run : Routine → Fun 𝓤) where
-  mode-walks : (C : Calls 𝓤 H) (Λ : Loops 𝓤 H) → FmC 𝓤 H (W .laws) C → Triple 𝓤 (C #bit-reader·read) (Read 𝓤 H A mem run)
+  mode-walks : (C : Calls 𝓤 H) (Λ : Loops 𝓤 H) → FmC 𝓤 H (W .laws) C → Triple 𝓤 (C #bits·read) (Read 𝓤 H A mem run)
       → Walks 𝓤 H A mode.ended stayed (WpFn 𝓤 H C Λ code.function) (mode.clauses 𝓤 H A mem run)
   mode-walks C Λ fm known = walked 𝓤 H A mode.ended stayed (mode.clauses 𝓤 H A mem run) (WpFn 𝓤 H C Λ code.function) (λ κs. (slice-vals, (uint-vals w64, tt))) (λ κs. (shr-slice-tells (named 0) (κs .0) u8, (uint-tells w64, tt)))
       (λ κs qs bounds a g are. via 𝓤 _ (fst∗ 𝓤 _ (emp 𝓤)) (walk 𝓤 H A W mem run (κs .0) (qs .0) (a .0) (a .1 .0) C Λ fm known (are .0) (are .1 .0 .1)))
 
 mode-meets : {M : Type 1} (𝓤 : URA M) (H : Heap 𝓤) (A : Atoms 𝓤) (W : Given 𝓤 H A) (mem : Memory → SProp 𝓤) (run : Routine → Fun 𝓤) (𝓣 : Tables 𝓤 H)
-    → Triple 𝓤 (𝓣 .C #bit-reader·read) (Read 𝓤 H A mem run)
+    → Triple 𝓤 (𝓣 .C #bits·read) (Read 𝓤 H A mem run)
     → Meets 𝓤 H A mode.signature (WpFn 𝓤 H (𝓣 .C) (𝓣 .Λ) code.function) (mode.spec 𝓤 H A mem run)
 mode-meets 𝓤 H A W mem run 𝓣 known = walk-meets 𝓤 H A mode.ended stayed W (goes-none-slice 𝓤 H A W 1 (0 ∷ []) tt (plain (λ _. u8)) yes, (goes-none 𝓤 H A W 1 (λ _. usize) yes (λ κs x f. refl), tt)) (mode.clauses 𝓤 H A mem run) (WpFn 𝓤 H (𝓣 .C) (𝓣 .Λ) code.function) (WpFn-mono 𝓤 H (W .laws) 𝓣 code.function)
     (mode-walks 𝓤 H A W mem run (𝓣 .C) (𝓣 .Λ) (fmOf 𝓤 H (W .laws) 𝓣) known)
@@ -154,6 +154,6 @@ pub mode-spec : {M : Type 1} → stated.statement M
 unfolding code.routine tablesOf
 mode-spec 𝓤 H 𝓜 𝓖 𝓡 =
     entered 𝓤 H (tripleOf 𝓤 H (𝓖 .A) mode.signature (mode.spec 𝓤 H (𝓖 .A) (𝓜 .mem) (𝓡 .run)))
-    (tables 𝓤 H 𝓜 𝓡 code.env .C) (tables 𝓤 H 𝓜 𝓡 code.env .Λ) #bit-reader·mode code.function (code.unfolded 𝓤 H 𝓜 𝓡)
+    (tables 𝓤 H 𝓜 𝓡 code.env .C) (tables 𝓤 H 𝓜 𝓡 code.env .Λ) #bits·mode code.function (code.unfolded 𝓤 H 𝓜 𝓡)
     (mode-meets 𝓤 H (𝓖 .A) (givenOf 𝓤 H 𝓜 𝓖) (𝓜 .mem) (𝓡 .run) (tablesOf 𝓤 H 𝓜 (tables 𝓤 H 𝓜 𝓡 code.env))
-    (cited 𝓤 H (Read 𝓤 H (𝓖 .A) (𝓜 .mem) (𝓡 .run)) 𝓜 𝓡 code.env #bit-reader·read read-def.routine code.calls-bit-reader·read (read-thm.met 𝓤 H 𝓜 𝓖 𝓡)))
+    (cited 𝓤 H (Read 𝓤 H (𝓖 .A) (𝓜 .mem) (𝓡 .run)) 𝓜 𝓡 code.env #bits·read read-def.routine code.calls-bits·read (read-thm.met 𝓤 H 𝓜 𝓖 𝓡)))

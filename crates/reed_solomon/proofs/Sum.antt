@@ -12,7 +12,7 @@ use Rattle.field.proofs.Xor.{xor-assoc, xor-swap}
 use Rattle.field.proofs.Field.{Passes, mul-comm, mul-assoc}
 use Rattle.field.proofs.Field.{mul-sum as sum-mul}
 use Rattle.field.proofs.Entries.{mul-right-zero}
-use Rattle.algebra.specs.Sum.{_⊕_, sum}
+use Rattle.reed_solomon.specs.Sum.{_⊕_, sum}
 
 -- ---- sums alone
 

@@ -4,7 +4,7 @@ use mathlib.Core.Logic.{ite}
 use Prim.Native.Nat.{ℕ, suc, _+_, _-_, _≤_, _<_}
 use native.Mathlib.Decide.{decLe}
 use Rattle.field.specs.Field.{mul}
-use Rattle.algebra.specs.Sum.{_⊕_, sum}
+use Rattle.reed_solomon.specs.Sum.{_⊕_, sum}
 
 -- by how much the register f of length l misses s at x (reed_solomon.rs: the discrepancy)
 unfoldable pub discrepancy : ℕ → (ℕ → ℕ) → (ℕ → ℕ) → ℕ → ℕ → ℕ

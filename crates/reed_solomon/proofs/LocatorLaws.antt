@@ -10,11 +10,11 @@ use lib.Bits.{xor-self}
 use Rattle.field.specs.Field.{mul}
 use Rattle.field.proofs.Field.{Passes, mul-lt}
 use Rattle.field.proofs.Entries.{mul-left-zero, mul-right-zero}
-use Rattle.algebra.specs.Sum.{_⊕_, horner, locator, syndrome}
-use Rattle.algebra.specs.Register.{discrepancy, Tail}
-use Rattle.algebra.proofs.Sum.{Null, mul-left}
-use Rattle.algebra.proofs.Peel.{Out, null-mul, syndrome-zero}
-use Rattle.algebra.proofs.Horner.{rooted, rooted-law, discrepancy-value}
+use Rattle.reed_solomon.specs.Sum.{_⊕_, horner, locator, syndrome}
+use Rattle.reed_solomon.specs.Register.{discrepancy, Tail}
+use Rattle.reed_solomon.proofs.Sum.{Null, mul-left}
+use Rattle.reed_solomon.proofs.Peel.{Out, null-mul, syndrome-zero}
+use Rattle.reed_solomon.proofs.Horner.{rooted, rooted-law, discrepancy-value}
 
 -- the product of x + X k over the places k
 unfoldable pub product : ℕ → ℕ → List ℕ → ℕ → ℕ

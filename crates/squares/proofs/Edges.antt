@@ -8,7 +8,7 @@ use Rattle.bits.specs.Bits.{lowBits, bitsOf, value, firstWords, words}
 use Rattle.segments.specs.Script.{runCommand, payloadOf, scriptOf}
 use Rattle.segments.specs.Segments.{digits, groupsOf, numericOf, charOf, textOf, firstOf, secondOf, doubleByteOf, fourBytes, fourByteOf, bytesOfMode, segmentOf, parse}
 use Rattle.script.specs.Writer.{same}
-use Rattle.edges.specs.Edges.{payloadIn, edges, hold}
+use Rattle.squares.specs.Edges.{payloadIn, edges, hold}
 
 pub edges-hold : T (hold edges)
 unfolding hold same edges payloadIn raised timesAlpha isSide sideRefusal sideVersion timesX plusIfOdd productFrom gf16Mul generatorTimes remainder wordOf dataOf infoBits

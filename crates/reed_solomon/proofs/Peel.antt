@@ -13,8 +13,8 @@ use Rattle.field.specs.Field.{power, times, mul}
 use Rattle.field.proofs.Field.{Passes, power-lt, power-pos, power-inj, mul-lt, mul-comm, mul-assoc, mul-power, mul-none, sum-lt}
 use Rattle.field.proofs.Field.{mul-sum as sum-mul}
 use Rattle.field.proofs.Entries.{mul-right-zero}
-use Rattle.algebra.specs.Sum.{_⊕_, degree, locator, weight, syndrome}
-use Rattle.algebra.proofs.Sum.{Null, sum-ext, sum-add, sum-zero, sum-one, sum-scale, mul-add, mul-left, add-zero-eq}
+use Rattle.reed_solomon.specs.Sum.{_⊕_, degree, locator, weight, syndrome}
+use Rattle.reed_solomon.proofs.Sum.{Null, sum-ext, sum-add, sum-zero, sum-one, sum-scale, mul-add, mul-left, add-zero-eq}
 
 -- i is none of ks
 abbrev pub Out : ℕ → List ℕ → Type 0

@@ -1,1 +1,0 @@
-// Laws only: sums, shift registers and polynomials over the field. There is no code here.

@@ -1,2 +1,0 @@
--- Laws of the bit reader.
-pub mod Inside

@@ -1,2 +1,0 @@
--- What the bit reader gives.
-pub mod Read

@@ -1,2 +1,0 @@
--- The edges of SPECIFICATION 12.1, proved.
-pub mod Theorems

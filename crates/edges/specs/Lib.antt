@@ -1,2 +1,0 @@
--- SPECIFICATION 12.1: the edges that are proved.
-pub mod Edges
