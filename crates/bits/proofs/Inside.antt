@@ -5,9 +5,9 @@ use Prim.Native.Nat.{ℕ, _*_, _≤_}
 use native.Mathlib.Omega.{arith}
 use borrow.Author.Tests.{le-ltb}
 use lib.ListN.{length, drop}
-use Rattle.bits.specs.Bits.{bitsOf, readOf}
+use Rattle.bits.specs.Bits.{bitsOf, readBits}
 use Rattle.bits.specs.Read.{readAt}
 
-pub read-inside : (s : List ℕ) (at n : ℕ) → length s ≤ 4096 → at ≤ 8 * length s → n ≤ 21 → readAt s at n ≡ readOf n (drop at (bitsOf s))
+pub read-inside : (s : List ℕ) (at n : ℕ) → length s ≤ 4096 → at ≤ 8 * length s → n ≤ 21 → readAt s at n ≡ readBits n (drop at (bitsOf s))
 unfolding readAt
 read-inside s at n h k l = simp (le-ltb 4096 (length s) h, le-ltb (length s * 8) at (omega arith), le-ltb 21 n l)

@@ -9,7 +9,7 @@ use lib.Pow.{pow-mono}
 use lib.Seq.{getD-drop}
 use borrow.Author.Tests.{lt-leb}
 use Rattle.bits.specs.declared.Word.the-variants.{Cut}
-use Rattle.bits.specs.Bits.{lowBits, bitsOf, value, readOf}
+use Rattle.bits.specs.Bits.{lowBits, bitsOf, value, readBits}
 
 pub length-bits : (s : List ℕ) → length (bitsOf s) ≡ 8 * length s
 unfolding bitsOf lowBits
@@ -38,8 +38,8 @@ bit-lt s i = omega (arith, bit-at s i)
 pub length-left : (s : List ℕ) (at : ℕ) → length (drop at (bitsOf s)) ≡ 8 * length s - at
 length-left s at = rw (length-drop, length-bits)
 
-pub read-short : (s : List ℕ) (at n : ℕ) → 8 * length s < at + n → at ≤ 8 * length s → Cut ≡ readOf n (drop at (bitsOf s))
-unfolding readOf
+pub read-short : (s : List ℕ) (at n : ℕ) → 8 * length s < at + n → at ≤ 8 * length s → Cut ≡ readBits n (drop at (bitsOf s))
+unfolding readBits
 read-short s at n h g = simp (length-left, lt-leb n (8 * length s - at) (omega arith))
 
 -- n bits behind a number of k bits say a number of k + n bits

@@ -9,7 +9,7 @@ use lib.ListN.{length, getD, take, drop, length-drop}
 use lib.Pow.{high, low, pow-mono, shl-exact}
 use lib.Seq.{take-add, drop-drop, length-take-le, getD-drop, take-at, drop-at}
 use Rattle.bits.specs.declared.Word.the-variants.{Value}
-use Rattle.bits.specs.Bits.{lowBits, bitsOf, value, readOf}
+use Rattle.bits.specs.Bits.{lowBits, bitsOf, value, readBits}
 use Rattle.bits.proofs.Reading.{length-left, bit-lt}
 use Rattle.bits.proofs.Words.{length-low, value-low}
 use Rattle.bits.proofs.Bytes.{value-add, value-small, take-small}
@@ -78,8 +78,8 @@ pub one-shifted : (n : ℕ) → n ≤ 24 → (1 * 2 ^ n) % 2 ^ 64 ≡ 2 ^ n
 one-shifted n h = shl-exact {a = 1} 1 n 64 (omega arith) (omega arith) ∙ one-mul (2 ^ n)
 
 pub read-window : (s : List ℕ) (at n v : ℕ) → at + n ≤ 8 * length s → n ≤ 21 → v ≡ window s (at / 8) ((at + n + 7) / 8 - at / 8)
-    → Value (v / 2 ^ (8 * ((at + n + 7) / 8) - (at + n)) % ((1 * 2 ^ n) % 2 ^ 64)) ≡ readOf n (drop at (bitsOf s))
-unfolding readOf
+    → Value (v / 2 ^ (8 * ((at + n + 7) / 8) - (at + n)) % ((1 * 2 ^ n) % 2 ^ 64)) ≡ readBits n (drop at (bitsOf s))
+unfolding readBits
 read-window s at n v h l e =
     let z : 8 * (at / 8) + at % 8 ≡ at = omega arith in
     let k : n ≤ length (drop at (bitsOf s)) = rw length-left (omega arith) in
@@ -97,8 +97,8 @@ window-four s f a b c d h l ea eb ec ed =
     first : window s f 0 * 256 + a ≡ window s f 1 → a ≡ window s f 1
     first e = let n = window-none s f in omega arith
 
-pub read-four : (s : List ℕ) (at n v : ℕ) → at / 8 + 4 ≤ length s → n ≤ 21 → v ≡ window s (at / 8) 4 → Value (v / 2 ^ (32 - at % 8 - n) % ((1 * 2 ^ n) % 2 ^ 64)) ≡ readOf n (drop at (bitsOf s))
-unfolding readOf
+pub read-four : (s : List ℕ) (at n v : ℕ) → at / 8 + 4 ≤ length s → n ≤ 21 → v ≡ window s (at / 8) 4 → Value (v / 2 ^ (32 - at % 8 - n) % ((1 * 2 ^ n) % 2 ^ 64)) ≡ readBits n (drop at (bitsOf s))
+unfolding readBits
 read-four s at n v h l e =
     let z : 8 * (at / 8) + at % 8 ≡ at = omega arith in
     let k : n ≤ length (drop at (bitsOf s)) = rw length-left (omega arith) in

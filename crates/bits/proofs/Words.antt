@@ -13,7 +13,7 @@ use lib.Seq.{sets, drop-drop, take-at, drop-at}
 use lib.Pow.{mod-pow-add}
 use Rattle.bits.specs.declared.Word.{Word}
 use Rattle.bits.specs.declared.Word.the-variants.{Value, Cut}
-use Rattle.bits.specs.Bits.{lowBits, bitsOf, value, readOf, firstWords, words, wordBits}
+use Rattle.bits.specs.Bits.{lowBits, bitsOf, value, readBits, firstWords, words, wordBits}
 use Rattle.bits.proofs.Reading.{length-left, value-lt}
 
 pub words-none : (w : ℕ) (bs : List ℕ) → length bs < w → words w bs ≡ []
@@ -32,9 +32,9 @@ pub record WordAt (w at v : ℕ) (s : List ℕ) : Type 0 where
   pub next : words w (drop at (bitsOf s)) ≡ v ∷ words w (drop (at + w) (bitsOf s))
 
 -- what the two answers of `read_bits` say
-module _ (w at : ℕ) (s : List ℕ) (r : Word) (e : r ≡ readOf w (drop at (bitsOf s))) where
+module _ (w at : ℕ) (s : List ℕ) (r : Word) (e : r ≡ readBits w (drop at (bitsOf s))) where
   pub word-read : (v : ℕ) → 0 < w → at ≤ 8 * length s → r ≡ Value v → WordAt w at v s
-  unfolding readOf
+  unfolding readBits
   word-read v p h g = go (leb w (length (drop at (bitsOf s)))) refl
     where
       go : (b : Bool) → leb w (length (drop at (bitsOf s))) ≡ b → WordAt w at v s
@@ -54,7 +54,7 @@ module _ (w at : ℕ) (s : List ℕ) (r : Word) (e : r ≡ readOf w (drop at (bi
           absurd (omega arith)
 
   pub word-few : r ≡ Cut → length (drop at (bitsOf s)) < w
-  unfolding readOf
+  unfolding readBits
   word-few g = go (leb w (length (drop at (bitsOf s)))) refl
     where
       go : (b : Bool) → leb w (length (drop at (bitsOf s))) ≡ b → length (drop at (bitsOf s)) < w

@@ -23,8 +23,8 @@ value a [] = a
 value a (b ∷ bs) = value (a * 2 + b) bs
 
 -- the number that the first n bits say, where there are so many
-unfoldable pub readOf : ℕ → List ℕ → Word
-readOf n bs = cond (leb n (length bs)) (Value (value 0 (take n bs))) Cut
+unfoldable pub readBits : ℕ → List ℕ → Word
+readBits n bs = cond (leb n (length bs)) (Value (value 0 (take n bs))) Cut
 
 -- the first k words of w bits each
 unfoldable pub firstWords : ℕ → ℕ → List ℕ → List ℕ

@@ -4,7 +4,7 @@ ghost use Prim.Native.Nat.{_+_, _*_, _<_, _≤_};
 ghost use mathlib.Core.List.{_++_};
 ghost use lib.ListN.{length, getD, take, drop, set};
 ghost use lib.Seq.{sets};
-ghost use Rattle.bits.specs.Bits.{bitsOf, readOf, lowBits};
+ghost use Rattle.bits.specs.Bits.{bitsOf, readBits, lowBits};
 ghost use Rattle.bits.specs.Four.{fourOf};
 ghost use Rattle.bits.specs.Read.{readAt};
 
@@ -32,7 +32,7 @@ pub fn bit(s: &[u8], at: usize) -> usize
 // The number that n bits say, near the end of the bytes: the bytes that hold them, as one number.
 fn read_last(s: &[u8], at: usize, n: usize) -> Word
     requires { ⌜ (length (now s) ≤ 4096) × (at + n ≤ 8 * length (now s)) × (n ≤ 21) ⌝ }
-    ensures { λ r. ⌜ r ≡ readOf n (drop at (bitsOf (now (s .entry)))) ⌝ }
+    ensures { λ r. ⌜ r ≡ readBits n (drop at (bitsOf (now (s .entry)))) ⌝ }
 {
     let first = at / 8;
     let end = at + n;
@@ -49,7 +49,7 @@ fn read_last(s: &[u8], at: usize, n: usize) -> Word
 // The number that the n bits from a position on say. Four bytes hold them wherever they start.
 pub fn read_bits(s: &[u8], at: usize, n: usize) -> Word
     requires { ⌜ (length (now s) ≤ 4096) × (at ≤ 8 * length (now s)) × (n ≤ 21) ⌝ }
-    ensures { λ r. ⌜ r ≡ readOf n (drop at (bitsOf (now (s .entry)))) ⌝ }
+    ensures { λ r. ⌜ r ≡ readBits n (drop at (bitsOf (now (s .entry)))) ⌝ }
 {
     let i = at / 8;
     if 4 <= s.len() - i {

@@ -12,7 +12,7 @@ use lib.ListN.{length, take, drop, length-take, length-drop, take-append-drop}
 use lib.Seq.{drop-drop, length-take-le}
 use Rattle.reed_solomon.specs.Block.{nearest, unfit}
 use Rattle.reed_solomon.proofs.Nearest.{some-near}
-use Rattle.corrector.specs.Correct.{Outcome, refused, settled, orOutcome, correctOf, outcome}
+use Rattle.corrector.specs.Correct.{BlockOutcome, refusedBlock, settled, orOutcome, correctOf, outcome}
 use Rattle.corrector.specs.declared.Correction.{Correction}
 use Rattle.corrector.specs.declared.Correction.the-variants as Correction
 use Rattle.parity.proofs.Followed.{distance-le}
@@ -21,7 +21,7 @@ use Rattle.blocks.proofs.Rows.{total-append}
 use Rattle.blocks.proofs.Cuts.{Shaped, cut-shaped, length-joined}
 use Rattle.blockwise.specs.declared.Blocks.{Blocks}
 use Rattle.blockwise.specs.declared.Blocks.the-variants.{Corrected, Refused}
-use Rattle.blockwise.specs.Blockwise.{outcomes, refusalOf, countOf, blocksOf, corrected, leftOf, correctionsOf}
+use Rattle.blockwise.specs.Blockwise.{outcomes, firstRefused, countOf, blocksOf, corrected, leftOf, correctionsOf}
 use Rattle.blockwise.specs.Inner.{spliced, Pass, answerOf, more, plus, onward, outcomeAt, leftAt, passed, Corrects}
 use Rattle.blockwise.proofs.Splice.{part-back, opened, spliced-front, spliced-behind, spliced-length}
 
@@ -30,11 +30,11 @@ use Rattle.blockwise.proofs.Splice.{part-back, opened, spliced-front, s
 -- it keeps its length, has no more corrections than codewords, and is as it was if it is refused
 pub block-facts : (p : ℕ) (w : List ℕ)
     → let o = correctOf 0x163 1 p w in (length (o .block) ≡ length w) × (o .count ≤ length w) × (o .number ≢ 0 → o .block ≡ w)
-unfolding correctOf settled refused
+unfolding correctOf settled refusedBlock
 block-facts p w = go (unfit p w) (nearest 0x163 1 p w) refl
   where
     go : (t : Bool) (v : Option (List ℕ)) → nearest 0x163 1 p w ≡ v
-        → let o = orOutcome t (refused 5 w) (settled w v) in (length (o .block) ≡ length w) × (o .count ≤ length w) × (o .number ≢ 0 → o .block ≡ w)
+        → let o = orOutcome t (refusedBlock 5 w) (settled w v) in (length (o .block) ≡ length w) × (o .count ≤ length w) × (o .number ≢ 0 → o .block ≡ w)
     go true v e = (refl, zero-le, λ d. refl)
     go false none e = (refl, zero-le, λ d. refl)
     go false (some v) e = (some-near 0x163 1 p w v e .size, distance-le w v, λ d. absurd (d refl))
@@ -58,7 +58,7 @@ pub joined-size : (bs : List Shape) (t : List ℕ) → totalSize bs ≤ length t
 joined-size bs t h = length-joined bs (blocksOf (corrected bs t)) (blocks-shaped bs (cut bs t) (cut-shaped bs t h))
 
 pub settled-number : (w : List ℕ) (o : Option (List ℕ)) → (settled w o .number ≡ 0) ⊎ (settled w o .number ≡ 6)
-unfolding settled refused
+unfolding settled refusedBlock
 settled-number w none = inr refl
 settled-number w (some v) = inl refl
 
@@ -72,15 +72,15 @@ first-zero (suc n) r e = absurd (omega (arith, ap (λ (t : Bool). cond t r (suc 
 
 -- ---- the stream that is left
 
-pub left-behind : (bs cs : List Shape) (s : List ℕ) → refusalOf (corrected bs s) ≡ 0
+pub left-behind : (bs cs : List Shape) (s : List ℕ) → firstRefused (corrected bs s) ≡ 0
     → leftOf (bs ++ cs) s ≡ joined (blocksOf (corrected bs s)) ++ leftOf cs (drop (totalSize bs) s)
-unfolding leftOf outcomes cut refusalOf blocksOf joined totalSize
+unfolding leftOf outcomes cut firstRefused blocksOf joined totalSize
 left-behind [] cs s e = refl
 left-behind (b ∷ bs) cs s e =
     let o = correctOf 0x163 1 (b .parity) (take (size b) s) in
     let t = drop (size b) s in
     let us = joined (blocksOf (corrected bs t)) in
-    let z = first-zero (o .number) (refusalOf (corrected bs t)) e in
+    let z = first-zero (o .number) (firstRefused (corrected bs t)) e in
     ap (λ (n : ℕ). o .block ++ cond (eqb n 0) (leftOf (bs ++ cs) t) t) (z .0)
     ∙ ap (λ (l : List ℕ). o .block ++ l) (left-behind bs cs t (z .1) ∙ ap (λ (l : List ℕ). us ++ leftOf cs l) (drop-drop (totalSize bs) (size b) s))
     ∙ sym (append-assoc (o .block) us (leftOf cs (drop (size b + totalSize bs) s)))
@@ -140,10 +140,10 @@ onward-told (suc n) c k m pre w u t =
 
 pub passed-is : (bs : List Shape) (a : ℕ) (s : List ℕ) → a + totalSize bs ≤ length s
     → passed bs a s ≡ record {
-      answer = told (refusalOf (corrected bs (drop a s))) (countOf (corrected bs (drop a s)));
+      answer = told (firstRefused (corrected bs (drop a s))) (countOf (corrected bs (drop a s)));
       stream = take a s ++ leftOf bs (drop a s);
     }
-unfolding passed outcomes cut refusalOf countOf leftOf totalSize
+unfolding passed outcomes cut firstRefused countOf leftOf totalSize
 passed-is [] a s h = ap (λ (l : List ℕ). record { answer = Corrected 0; stream = l }) (sym (take-append-drop a s))
 passed-is (b ∷ bs) a s h =
     let o = outcomeAt b a s in
@@ -157,9 +157,9 @@ passed-is (b ∷ bs) a s h =
     opened a (size b) (o .block) s n room ∙ ap (λ (l : List ℕ). (take a s ++ o .block) ++ l) (sym (drop-drop (size b) a s)) in
     ap₂ (λ (u : List ℕ) (q : Pass). onward (o .number) (o .count) u q) f
     (passed-is bs (a + size b) s₁ (omega (arith, spliced-length a (size b) (o .block) s n room))
-    ∙ ap₂ (λ (p u : List ℕ). record { answer = told (refusalOf (corrected bs u)) (countOf (corrected bs u)); stream = p ++ leftOf bs u })
+    ∙ ap₂ (λ (p u : List ℕ). record { answer = told (firstRefused (corrected bs u)) (countOf (corrected bs u)); stream = p ++ leftOf bs u })
     (spliced-front a (size b) (o .block) s n room) e)
-    ∙ onward-told (o .number) (o .count) (refusalOf (corrected bs t)) (countOf (corrected bs t)) (take a s) (o .block) (leftOf bs t) t
+    ∙ onward-told (o .number) (o .count) (firstRefused (corrected bs t)) (countOf (corrected bs t)) (take a s) (o .block) (leftOf bs t) t
 
 told-le : (k n : ℕ) → correctionsOf (told k n) ≤ n
 unfolding correctionsOf
@@ -172,7 +172,7 @@ corrects-le {bs} {a} {s} {s′} {r} C h =
     omega (
       arith,
       ap (λ (q : Pass). correctionsOf (q .answer)) (C .is ∙ passed-is bs a s h),
-      told-le (refusalOf (corrected bs (drop a s))) (countOf (corrected bs (drop a s))),
+      told-le (firstRefused (corrected bs (drop a s))) (countOf (corrected bs (drop a s))),
       count-le bs (drop a s),
     )
 
@@ -225,7 +225,7 @@ passing-end {a′ = a′} {n = n} {s′ = s′} P e = record {
 
 pub one-corrects : (d p a e : ℕ) (s xs : List ℕ) (c : Correction) (r : Blocks) → e ≡ a + (d + p) → r ≡ answerOf c
     → outcome c xs ≡ correctOf 0x163 1 p (take (e - a) (drop a s)) → Corrects (batch 1 d p) a s (take a s ++ (xs ++ drop (e - a) (drop a s))) r
-unfolding passed batch answerOf outcome refused
+unfolding passed batch answerOf outcome refusedBlock
 one-corrects d p a e s xs c r h f g = record {
   is =
       ap₂ (λ (x : Blocks) (y : List ℕ). record { answer = x; stream = y }) f (part-back a (d + p) e s xs h)
@@ -234,7 +234,7 @@ one-corrects d p a e s xs c r h f g = record {
       (g ∙ (let n : e - a ≡ d + p = omega arith in ap (λ (k : ℕ). correctOf 0x163 1 p (take k (drop a s))) n));
 }
   where
-    after : Outcome → Pass
+    after : BlockOutcome → Pass
     after o = let s₁ = spliced a (d + p) (o .block) s in onward (o .number) (o .count) s₁ (record { answer = Corrected 0; stream = s₁ })
 
     go : (c : Correction) → record { answer = answerOf c; stream = spliced a (d + p) xs s } ≡ after (outcome c xs)

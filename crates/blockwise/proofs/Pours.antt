@@ -12,7 +12,7 @@ use Rattle.remainder.specs.Words.{Prepared}
 use Rattle.reed_solomon.proofs.Search.{Bytes}
 use Rattle.blocks.specs.Blocks.{rowLength, Shape, size, batch, shapes, totalSize, totalData, cut, joined, dataParts, cutData}
 use Rattle.blocks.proofs.Rows.{Sound, total-shapes}
-use Rattle.blockwise.specs.Blockwise.{encoded, streamOf}
+use Rattle.blockwise.specs.Blockwise.{withParities, streamOf}
 use Rattle.blockwise.specs.declared.Batch.{Batch}
 use Rattle.blockwise.specs.Inner.{batchOf, blocksIn, behind, spliced, Way, gathering, writing, sum, poured, Room}
 use Rattle.blockwise.proofs.Splice.{part-back, spliced-behind, spliced-more, spliced-length}
@@ -143,13 +143,13 @@ unfolding made dataParts cut
 made-gathered [] t = refl
 made-gathered (b ∷ bs) t = ap₂ _++_ (sym (take-take (b .info) (size b) t (omega arith))) (made-gathered bs (drop (size b) t))
 
-written-fills : (bs : List Shape) (t : List ℕ) → Coded bs (encoded bs (cutData bs t)) → Fills writing bs t
-unfolding encoded cutData
+written-fills : (bs : List Shape) (t : List ℕ) → Coded bs (withParities bs (cutData bs t)) → Fills writing bs t
+unfolding withParities cutData
 written-fills [] t C = tt
 written-fills (b ∷ bs) t C = (C .0 .0, written-fills bs (drop (b .info) t) (C .1))
 
 made-written : (bs : List Shape) (t : List ℕ) → made writing bs t ≡ streamOf bs t
-unfolding made joined encoded cutData
+unfolding made joined withParities cutData
 made-written [] t = refl
 made-written (b ∷ bs) t = ap (λ (l : List ℕ). writing .makes b t ++ l) (made-written bs (drop (b .info) t))
 

@@ -13,12 +13,12 @@ use Rattle.reed_solomon.specs.Block.{distance, nearest, isCodeword}
 use Rattle.reed_solomon.proofs.Search.{Bytes}
 use Rattle.reed_solomon.proofs.Nearest.{near-some}
 use Rattle.reed_solomon.proofs.Fit.{fit}
-use Rattle.corrector.specs.Correct.{Outcome, refused, settled, correctOf}
+use Rattle.corrector.specs.Correct.{BlockOutcome, refusedBlock, settled, correctOf}
 use Rattle.corrector.proofs.Settle.{fit-settled}
 use Rattle.blocks.specs.Blocks.{Shape, size}
 use Rattle.blocks.proofs.Rows.{Sound, more}
 use Rattle.blocks.proofs.Cuts.{Shaped}
-use Rattle.blockwise.specs.Blockwise.{outcomes, refusalOf, countOf, blocksOf, differences, blockAt, parityAt}
+use Rattle.blockwise.specs.Blockwise.{outcomes, firstRefused, countOf, blocksOf, differences, blockAt, parityAt}
 use Rattle.blockwise.proofs.Corrects.{first, settled-number}
 
 -- what the search finds for block j
@@ -42,19 +42,19 @@ block-settled b w i p s l = sym (fit-settled 0x163 1 (b .parity) w (fit (b .pari
 six : (w : List ℕ) (o : Option (List ℕ)) → first (settled w o .number) 6 ≡ 6
 six w o = elim (settled-number w o) [ inl z ↦ ap (λ (n : ℕ). first n 6) z | inr z ↦ ap (λ (n : ℕ). first n 6) z ]
 
-pub lost-refused : (bs : List Shape) (ws : List (List ℕ)) → Sound bs → Shaped bs ws → Lost bs ws → refusalOf (outcomes bs ws) ≡ 6
-unfolding outcomes refusalOf settled refused
+pub lost-refused : (bs : List Shape) (ws : List (List ℕ)) → Sound bs → Shaped bs ws → Lost bs ws → firstRefused (outcomes bs ws) ≡ 6
+unfolding outcomes firstRefused settled refusedBlock
 lost-refused [] ws S h (j, l, e) = absurd (omega arith)
 lost-refused (b ∷ bs) [] S h x = absurd h
 lost-refused (b ∷ bs) (w ∷ ws) (more i p s S) h (zero, l, e) =
-    ap (λ (o : Outcome). first (o .number) (refusalOf (outcomes bs ws))) (block-settled b w i p s (h .0) ∙ ap (settled w) e)
+    ap (λ (o : BlockOutcome). first (o .number) (firstRefused (outcomes bs ws))) (block-settled b w i p s (h .0) ∙ ap (settled w) e)
 lost-refused (b ∷ bs) (w ∷ ws) (more i p s S) h (suc j, l, e) =
-    ap₂ (λ (o : Outcome) (r : ℕ). first (o .number) r) (block-settled b w i p s (h .0)) (lost-refused bs ws S (h .1) (j, omega arith, e))
+    ap₂ (λ (o : BlockOutcome) (r : ℕ). first (o .number) r) (block-settled b w i p s (h .0)) (lost-refused bs ws S (h .1) (j, omega arith, e))
     ∙ six w (nearest 0x163 1 (b .parity) w)
 
 pub each-settled : (bs : List Shape) (ws vs : List (List ℕ)) → Sound bs → Shaped bs ws → Each bs ws vs
-    → (refusalOf (outcomes bs ws) ≡ 0) × (blocksOf (outcomes bs ws) ≡ vs) × (countOf (outcomes bs ws) ≡ differences ws vs)
-unfolding outcomes refusalOf blocksOf countOf differences settled
+    → (firstRefused (outcomes bs ws) ≡ 0) × (blocksOf (outcomes bs ws) ≡ vs) × (countOf (outcomes bs ws) ≡ differences ws vs)
+unfolding outcomes firstRefused blocksOf countOf differences settled
 each-settled [] [] [] S h E = (refl, refl, refl)
 each-settled [] [] (v ∷ vs) S h E = absurd (omega (arith, E .number))
 each-settled [] (w ∷ ws) vs S h E = absurd h
@@ -64,9 +64,9 @@ each-settled (b ∷ bs) (w ∷ ws) (v ∷ vs) (more i p s S) h E =
     let ih = each-settled bs ws vs S (h .1) (record { number = omega (arith, E .number); are = λ j l. E .are (suc j) (omega arith) }) in
     let o : correctOf 0x163 1 (b .parity) w ≡ record { number = 0; count = distance w v; block = v } =
     block-settled b w i p s (h .0) ∙ ap (settled w) (E .are 0 (omega arith)) in (
-      ap₂ (λ (o : Outcome) (r : ℕ). first (o .number) r) o (ih .0),
-      ap₂ (λ (o : Outcome) (us : List (List ℕ)). o .block ∷ us) o (ih .1),
-      ap₂ (λ (o : Outcome) (n : ℕ). o .count + n) o (ih .2),
+      ap₂ (λ (o : BlockOutcome) (r : ℕ). first (o .number) r) o (ih .0),
+      ap₂ (λ (o : BlockOutcome) (us : List (List ℕ)). o .block ∷ us) o (ih .1),
+      ap₂ (λ (o : BlockOutcome) (n : ℕ). o .count + n) o (ih .2),
     )
 
 -- one or the other

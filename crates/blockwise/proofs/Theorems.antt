@@ -16,7 +16,7 @@ use Rattle.corrector.specs.Correct.{correctOf}
 use Rattle.blocks.specs.Blocks.{rowLength, rowHolds, Shape, size, totalSize, totalData, cut, joined, dataParts, cutData}
 use Rattle.blocks.proofs.Rows.{Sound, row-rules}
 use Rattle.blocks.proofs.Cuts.{Shaped, cut-shaped, cut-joined, length-joined, data-back}
-use Rattle.blockwise.specs.Blockwise.{refusalOf, countOf, blocksOf, corrected, leftOf, dataOf, encoded, streamOf, differences, blockAt, parityAt}
+use Rattle.blockwise.specs.Blockwise.{firstRefused, countOf, blocksOf, corrected, leftOf, correctedData, withParities, streamOf, differences, blockAt, parityAt}
 use Rattle.blockwise.proofs.Corrects.{block-facts, blocks-shaped, joined-size, left-behind}
 use Rattle.blockwise.proofs.Rule.{cut-front}
 use Rattle.blockwise.proofs.Settle.{Coded, lost-refused, each-settled, either, coded-shaped, coded-each}
@@ -27,13 +27,13 @@ pub row-holds-own : (r : List ℕ) (total : ℕ) → T (rowHolds r total) → (r
 row-holds-own r total t = let e = row-rules r total t .3 in (e, rw e t)
 
 -- The stream that is left where no block is refused: each block as it was corrected, and what is behind them as it was.
-pub left-accepted : (bs : List Shape) (s : List ℕ) → refusalOf (corrected bs s) ≡ 0
+pub left-accepted : (bs : List Shape) (s : List ℕ) → firstRefused (corrected bs s) ≡ 0
     → leftOf bs s ≡ joined (blocksOf (corrected bs s)) ++ drop (totalSize bs) s
 unfolding leftOf
 left-accepted bs s e = ap (λ (l : List Shape). leftOf l s) (sym (append-nil bs)) ∙ left-behind bs [] s e
 
 -- Where the first of the blocks to be refused is b: those before it as they were corrected, and b and what is behind it as they were.
-pub left-refused : (bs cs : List Shape) (b : Shape) (s : List ℕ) → refusalOf (corrected bs s) ≡ 0
+pub left-refused : (bs cs : List Shape) (b : Shape) (s : List ℕ) → firstRefused (corrected bs s) ≡ 0
     → correctOf 0x163 1 (b .parity) (take (size b) (drop (totalSize bs) s)) .number ≢ 0
     → leftOf (bs ++ (b ∷ cs)) s ≡ joined (blocksOf (corrected bs s)) ++ drop (totalSize bs) s
 unfolding leftOf
@@ -54,31 +54,31 @@ module _ (bs : List Shape) (sound : Sound bs) where
     shaped = cut-shaped bs s (omega arith)
 
     -- If some block has no codeword in reach, the stream is answered 6 ..
-    pub lost-then-six : (j : ℕ) → j < length bs → nearest 0x163 1 (parityAt bs j) (blockAt (cut bs s) j) ≡ none → refusalOf (corrected bs s) ≡ 6
+    pub lost-then-six : (j : ℕ) → j < length bs → nearest 0x163 1 (parityAt bs j) (blockAt (cut bs s) j) ≡ none → firstRefused (corrected bs s) ≡ 6
     lost-then-six j l e = lost-refused bs (cut bs s) sound shaped (j, l, e)
 
     -- .. and if each has one, each is set to it, and the count is the number of places in which the stream's blocks differ from these.
     pub each-then-set : (vs : List (List ℕ)) → length vs ≡ length bs
         → ((j : ℕ) → j < length bs → nearest 0x163 1 (parityAt bs j) (blockAt (cut bs s) j) ≡ some (blockAt vs j))
-        → (refusalOf (corrected bs s) ≡ 0) × (blocksOf (corrected bs s) ≡ vs) × (countOf (corrected bs s) ≡ differences (cut bs s) vs)
+        → (firstRefused (corrected bs s) ≡ 0) × (blocksOf (corrected bs s) ≡ vs) × (countOf (corrected bs s) ≡ differences (cut bs s) vs)
     each-then-set vs n e = each-settled bs (cut bs s) vs sound shaped (record { number = n; are = e })
 
     -- There is no other answer than 0 and 6.
-    pub zero-or-six : (refusalOf (corrected bs s) ≡ 0) ⊎ (refusalOf (corrected bs s) ≡ 6)
+    pub zero-or-six : (firstRefused (corrected bs s) ≡ 0) ⊎ (firstRefused (corrected bs s) ≡ 6)
     zero-or-six = elim (either bs (cut bs s) shaped) [
       | inl x ↦ inr (lost-refused bs (cut bs s) sound shaped x)
       | inr x ↦ inl (each-settled bs (cut bs s) (x .0) sound shaped (x .1) .0)
     ]
 
     -- 6 only where some block has no codeword in reach.
-    pub six-then-lost : refusalOf (corrected bs s) ≡ 6 → (j : ℕ) × (j < length bs) × (nearest 0x163 1 (parityAt bs j) (blockAt (cut bs s) j) ≡ none)
+    pub six-then-lost : firstRefused (corrected bs s) ≡ 6 → (j : ℕ) × (j < length bs) × (nearest 0x163 1 (parityAt bs j) (blockAt (cut bs s) j) ≡ none)
     six-then-lost e = elim (either bs (cut bs s) shaped) [
       | inl x ↦ x
       | inr x ↦ absurd (omega (arith, e, each-settled bs (cut bs s) (x .0) sound shaped (x .1) .0))
     ]
 
     -- 0 only where each block has one, and then the blocks are left as these.
-    pub zero-then-each : refusalOf (corrected bs s) ≡ 0
+    pub zero-then-each : firstRefused (corrected bs s) ≡ 0
         → ((j : ℕ) → j < length bs → nearest 0x163 1 (parityAt bs j) (blockAt (cut bs s) j) ≡ some (blockAt (blocksOf (corrected bs s)) j))
         × (countOf (corrected bs s) ≡ differences (cut bs s) (blocksOf (corrected bs s)))
     zero-then-each e = elim (either bs (cut bs s) shaped) [
@@ -95,7 +95,7 @@ module _ (bs : List Shape) (sound : Sound bs) where
     cut-corrected = cut-joined bs (blocksOf (corrected bs s)) (blocks-shaped bs (cut bs s) shaped)
 
     -- The data parts of the stream that is left, whatever stands behind it, are the data of the corrected blocks.
-    pub data-left : (rest : List ℕ) → dataParts bs (cut bs (joined (blocksOf (corrected bs s)) ++ rest)) ≡ dataOf bs s
+    pub data-left : (rest : List ℕ) → dataParts bs (cut bs (joined (blocksOf (corrected bs s)) ++ rest)) ≡ correctedData bs s
     data-left rest =
         ap (dataParts bs)
         (cut-front bs (joined (blocksOf (corrected bs s))) rest (omega (arith, joined-size bs s (omega arith))) ∙ cut-corrected)
@@ -103,27 +103,27 @@ module _ (bs : List Shape) (sound : Sound bs) where
   -- ---- a stream that is written
 
   module _ (ds : List ℕ) (bytes : Bytes ds) (number : length ds ≡ totalData bs) where
-    coded : Coded bs (encoded bs (cutData bs ds))
+    coded : Coded bs (withParities bs (cutData bs ds))
     coded = encoded-coded bs ds sound bytes (omega arith) .0
 
-    blocks-are : cut bs (streamOf bs ds) ≡ encoded bs (cutData bs ds)
-    blocks-are = cut-joined bs (encoded bs (cutData bs ds)) (coded-shaped bs (encoded bs (cutData bs ds)) coded)
+    blocks-are : cut bs (streamOf bs ds) ≡ withParities bs (cutData bs ds)
+    blocks-are = cut-joined bs (withParities bs (cutData bs ds)) (coded-shaped bs (withParities bs (cutData bs ds)) coded)
 
     -- The stream of data codewords has bytes, as many as the blocks; its blocks are codewords, and their data parts are the data.
     pub written-blocks : (length (streamOf bs ds) ≡ totalSize bs) × Bytes (streamOf bs ds) × Coded bs (cut bs (streamOf bs ds))
         × (dataParts bs (cut bs (streamOf bs ds)) ≡ ds)
     written-blocks = (
-      length-joined bs (encoded bs (cutData bs ds)) (coded-shaped bs (encoded bs (cutData bs ds)) coded),
-      joined-bytes bs (encoded bs (cutData bs ds)) coded,
+      length-joined bs (withParities bs (cutData bs ds)) (coded-shaped bs (withParities bs (cutData bs ds)) coded),
+      joined-bytes bs (withParities bs (cutData bs ds)) coded,
       subst (Coded bs) (sym blocks-are) coded,
-      ap (dataParts bs) blocks-are ∙ data-back bs ds (encoded bs (cutData bs ds)) number (encoded-coded bs ds sound bytes (omega arith) .1),
+      ap (dataParts bs) blocks-are ∙ data-back bs ds (withParities bs (cutData bs ds)) number (encoded-coded bs ds sound bytes (omega arith) .1),
     )
 
     -- If each block of a stream differs from the written block in at most floor(parity / 2) places, then the stream is accepted, each block
     -- becomes the written one, the data parts are the data, and the count is the number of places that differ.
     pub in-reach : (s : List ℕ) → length s ≡ totalSize bs
         → ((j : ℕ) → j < length bs → distance (blockAt (cut bs s) j) (blockAt (cut bs (streamOf bs ds)) j) ≤ parityAt bs j / 2)
-        → (refusalOf (corrected bs s) ≡ 0) × (blocksOf (corrected bs s) ≡ cut bs (streamOf bs ds)) × (dataOf bs s ≡ ds)
+        → (firstRefused (corrected bs s) ≡ 0) × (blocksOf (corrected bs s) ≡ cut bs (streamOf bs ds)) × (correctedData bs s ≡ ds)
         × (countOf (corrected bs s) ≡ differences (cut bs s) (cut bs (streamOf bs ds)))
     in-reach s size near =
         let h = cut-shaped bs s (omega arith) in

@@ -15,7 +15,7 @@ use Rattle.parity.proofs.Theorems.{has-parity, parity-makes-codeword}
 use Rattle.blocks.specs.Blocks.{Shape, size, totalData, joined, cutData}
 use Rattle.blocks.proofs.Rows.{Sound, more}
 use Rattle.blocks.proofs.Cuts.{Begins}
-use Rattle.blockwise.specs.Blockwise.{encoded}
+use Rattle.blockwise.specs.Blockwise.{withParities}
 use Rattle.blockwise.proofs.Settle.{Coded}
 
 pub drop-bytes : (k : ℕ) (xs : List ℕ) → Bytes xs → Bytes (drop k xs)
@@ -37,8 +37,8 @@ block-written b d small bytes l =
 
 -- all of them
 pub encoded-coded : (bs : List Shape) (ds : List ℕ) → Sound bs → Bytes ds → totalData bs ≤ length ds
-    → Coded bs (encoded bs (cutData bs ds)) × Begins bs (cutData bs ds) (encoded bs (cutData bs ds))
-unfolding encoded cutData totalData
+    → Coded bs (withParities bs (cutData bs ds)) × Begins bs (cutData bs ds) (withParities bs (cutData bs ds))
+unfolding withParities cutData totalData
 encoded-coded [] ds S bytes h = (tt, tt)
 encoded-coded (b ∷ bs) ds (more i p s S) bytes h =
     let w = block-written b (take (b .info) ds) s (take-bytes (b .info) ds bytes) (length-take-le (b .info) ds (omega arith)) in

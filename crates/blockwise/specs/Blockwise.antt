@@ -6,35 +6,35 @@ use Prim.Native.Nat.{ℕ, _+_}
 use lib.Dec.{eqb}
 use lib.ListN.{take, drop, getD}
 use Rattle.reed_solomon.specs.Block.{distance, parityOf}
-use Rattle.corrector.specs.Correct.{Outcome, correctOf}
+use Rattle.corrector.specs.Correct.{BlockOutcome, correctOf}
 use Rattle.parity.specs.Encode.{withParity}
 use Rattle.blocks.specs.Blocks.{Shape, size, cut, joined, dataParts, cutData}
 use Rattle.blockwise.specs.declared.Blocks.{Blocks}
 use Rattle.blockwise.specs.declared.Blocks.the-variants.{Corrected, Refused}
 
 -- what Correct a block gives for each block, in order
-unfoldable pub outcomes : List Shape → List (List ℕ) → List Outcome
+unfoldable pub outcomes : List Shape → List (List ℕ) → List BlockOutcome
 outcomes [] ws = []
 outcomes (b ∷ bs) [] = []
 outcomes (b ∷ bs) (w ∷ ws) = correctOf 0x163 1 (b .parity) w ∷ outcomes bs ws
 
 -- the refusal of the first block that is refused, or 0
-unfoldable pub refusalOf : List Outcome → ℕ
-refusalOf [] = 0
-refusalOf (o ∷ os) = cond (eqb (o .number) 0) (refusalOf os) (o .number)
+unfoldable pub firstRefused : List BlockOutcome → ℕ
+firstRefused [] = 0
+firstRefused (o ∷ os) = cond (eqb (o .number) 0) (firstRefused os) (o .number)
 
 -- the corrections of all blocks
-unfoldable pub countOf : List Outcome → ℕ
+unfoldable pub countOf : List BlockOutcome → ℕ
 countOf [] = 0
 countOf (o ∷ os) = o .count + countOf os
 
 -- the blocks as they are left
-unfoldable pub blocksOf : List Outcome → List (List ℕ)
+unfoldable pub blocksOf : List BlockOutcome → List (List ℕ)
 blocksOf [] = []
 blocksOf (o ∷ os) = o .block ∷ blocksOf os
 
 -- the blocks of a stream, corrected
-abbrev pub corrected : List Shape → List ℕ → List Outcome
+abbrev pub corrected : List Shape → List ℕ → List BlockOutcome
 corrected bs stream = outcomes bs (cut bs stream)
 
 -- the stream as it is left: each block as Correct a block leaves it, up to the first that is refused; what is behind that is as it was
@@ -45,18 +45,18 @@ leftOf (b ∷ bs) s =
     ++ cond (eqb (correctOf 0x163 1 (b .parity) (take (size b) s) .number) 0) (leftOf bs (drop (size b) s)) (drop (size b) s)
 
 -- the data parts of the corrected blocks, joined in block order
-abbrev pub dataOf : List Shape → List ℕ → List ℕ
-dataOf bs stream = dataParts bs (blocksOf (corrected bs stream))
+abbrev pub correctedData : List Shape → List ℕ → List ℕ
+correctedData bs stream = dataParts bs (blocksOf (corrected bs stream))
 
 -- each data part followed by its parity
-unfoldable pub encoded : List Shape → List (List ℕ) → List (List ℕ)
-encoded [] ds = []
-encoded (b ∷ bs) [] = []
-encoded (b ∷ bs) (d ∷ ds) = withParity d (parityOf 0x163 1 (b .parity) d) ∷ encoded bs ds
+unfoldable pub withParities : List Shape → List (List ℕ) → List (List ℕ)
+withParities [] ds = []
+withParities (b ∷ bs) [] = []
+withParities (b ∷ bs) (d ∷ ds) = withParity d (parityOf 0x163 1 (b .parity) d) ∷ withParities bs ds
 
 -- the stream of data codewords: cut into data parts, each followed by its parity, and joined
 abbrev pub streamOf : List Shape → List ℕ → List ℕ
-streamOf bs ds = joined (encoded bs (cutData bs ds))
+streamOf bs ds = joined (withParities bs (cutData bs ds))
 
 -- the refusal number (SPECIFICATION 2.7) and the count for each case of the answer
 unfoldable pub numberOf : Blocks → ℕ

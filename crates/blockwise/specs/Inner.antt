@@ -5,7 +5,7 @@ use mathlib.Core.List.{List, [], _∷_, _++_}
 use Prim.Native.Nat.{ℕ, zero, suc, _+_, _*_, _≤_}
 use lib.ListN.{length, take, drop, getD}
 use Rattle.reed_solomon.specs.Block.{parityOf}
-use Rattle.corrector.specs.Correct.{Outcome, correctOf}
+use Rattle.corrector.specs.Correct.{BlockOutcome, correctOf}
 use Rattle.corrector.specs.declared.Correction.{Correction}
 use Rattle.corrector.specs.declared.Correction.the-variants as Correction
 use Rattle.parity.specs.Encode.{withParity}
@@ -66,7 +66,7 @@ onward zero n s q = plus n q
 onward (suc k) n s q = record { answer = Refused; stream = s }
 
 -- what the corrector gives for the block at the place a
-abbrev pub outcomeAt : Shape → ℕ → List ℕ → Outcome
+abbrev pub outcomeAt : Shape → ℕ → List ℕ → BlockOutcome
 outcomeAt b a s = correctOf 0x163 1 (b .parity) (take (size b) (drop a s))
 
 abbrev pub leftAt : Shape → ℕ → List ℕ → List ℕ

@@ -8,7 +8,7 @@ ghost use lib.Dec.{T};
 ghost use lib.ListN.{length, take, drop};
 ghost use Rattle.remainder.specs.Words.{Prepared};
 ghost use Rattle.blocks.specs.Blocks.{rowLength, rowHolds, batch, shapes, totalSize, totalData, cut, joined, dataParts};
-ghost use Rattle.blockwise.specs.Blockwise.{corrected, refusalOf, countOf, blocksOf, leftOf, numberOf, correctionsOf};
+ghost use Rattle.blockwise.specs.Blockwise.{corrected, firstRefused, countOf, blocksOf, leftOf, numberOf, correctionsOf};
 ghost use Rattle.blockwise.specs.Inner.{Reads, blocksIn, spliced, answerOf, Corrects, gathering, poured, Room};
 use corrector::Correction;
 
@@ -120,7 +120,7 @@ pub fn correct_blocks(stream: &mut [u8], row: &[u8]) -> Blocks
         let bs = shapes (now (row .entry)) in
         let n = rowLength (now (row .entry)) in
         let s = now (stream .entry) in
-        ⌜ (numberOf r ≡ refusalOf (corrected bs (take n s)))
+        ⌜ (numberOf r ≡ firstRefused (corrected bs (take n s)))
         × (numberOf r ≡ 0 → (correctionsOf r ≡ countOf (corrected bs (take n s)))
         × (now (stream .exit) ≡ joined (blocksOf (corrected bs (take n s))) ++ drop n s))
         × (now (stream .exit) ≡ leftOf bs s) ⌝ }

@@ -10,7 +10,7 @@ use Rattle.information.specs.Information.{infoWritten}
 use Rattle.information.proofs.Flips.{info-length, info-else}
 use Rattle.blocks.specs.Blocks.{dataModules}
 use Rattle.bits.specs.Bits.{bitsOf}
-use Rattle.codewords.specs.Codewords.{maskBit, codewordsOf, dataBits, placed, order, interleaved, streamOf, streamIn, squareOf}
+use Rattle.codewords.specs.Codewords.{maskBit, codewordsOf, dataBits, placed, order, fromStream, toStream, streamIn, squareOf}
 use Rattle.codewords.proofs.Bits.{Bytes, length-bits, codewords-back}
 use Rattle.codewords.proofs.Interleave.{interleave-back, length-interleaved}
 use Rattle.codewords.proofs.Placement.{data-placed, length-placed, data-agree}
@@ -19,28 +19,28 @@ bytes-map : (s ps : List ℕ) → ((i : ℕ) → getD s i 0 < 256) → Bytes (ma
 bytes-map s [] h = tt
 bytes-map s (p ∷ ps) h = (h p, bytes-map s ps h)
 
-bytes-interleaved : (s : List ℕ) → ((i : ℕ) → getD s i 0 < 256) → Bytes (interleaved s)
-unfolding interleaved
+bytes-interleaved : (s : List ℕ) → ((i : ℕ) → getD s i 0 < 256) → Bytes (fromStream s)
+unfolding fromStream
 bytes-interleaved s h = bytes-map s (order (length s)) h
 
 pub length-square : (m : ℕ → ℕ) (ks s : List ℕ) → length (squareOf m ks s) ≡ length ks
 unfolding squareOf
-length-square m ks s = length-placed m 0 ks (bitsOf (interleaved s))
+length-square m ks s = length-placed m 0 ks (bitsOf (fromStream s))
 
 -- any square with the data modules of the square of s
 pub stream-back : (m : ℕ → ℕ) (ks s sq : List ℕ) → ((i : ℕ) → getD s i 0 < 256) → 8 * length s ≤ dataModules ks → length sq ≡ length ks
     → ((p : ℕ) → p < length ks → getD ks p 0 ≡ 0 → getD sq p 0 ≡ getD (squareOf m ks s) p 0) → streamIn (length s) m ks sq ≡ s
 unfolding streamIn squareOf
 stream-back m ks s sq b h l a =
-    let ds = bitsOf (interleaved s) in
+    let ds = bitsOf (fromStream s) in
     let R = dataBits m 0 ks (placed m 0 ks ds) in
-    let n : length (interleaved s) ≡ length s = length-interleaved s in
+    let n : length (fromStream s) ≡ length s = length-interleaved s in
     let e : dataBits m 0 ks sq ≡ R = data-agree m 0 ks sq (placed m 0 ks ds) (l ∙ sym (length-placed m 0 ks ds)) a in
-    let f : take (length ds) R ≡ ds = data-placed m 0 ks ds (omega (arith, length-bits (interleaved s))) in
+    let f : take (length ds) R ≡ ds = data-placed m 0 ks ds (omega (arith, length-bits (fromStream s))) in
     let g : R ≡ ds ++ drop (length ds) R = sym (take-append-drop (length ds) R) ∙ ap (λ (x : List ℕ). x ++ drop (length ds) R) f in
-    let c : codewordsOf (length s) (dataBits m 0 ks sq) ≡ interleaved s =
-    ap₂ codewordsOf (sym n) (e ∙ g) ∙ codewords-back (interleaved s) (drop (length ds) R) (bytes-interleaved s b) in
-    ap streamOf c ∙ interleave-back s
+    let c : codewordsOf (length s) (dataBits m 0 ks sq) ≡ fromStream s =
+    ap₂ codewordsOf (sym n) (e ∙ g) ∙ codewords-back (fromStream s) (drop (length ds) R) (bytes-interleaved s b) in
+    ap toStream c ∙ interleave-back s
 
 -- the square of a version, with an information word written into it
 pub written-stream : (v mask w : ℕ) (s : List ℕ) → 1 ≤ v → ((i : ℕ) → getD s i 0 < 256) → 8 * length s ≤ dataModules (layoutOf v)

@@ -8,7 +8,7 @@ use native.Mathlib.Decide.{ℕ-discrete}
 use native.Mathlib.Numerals.{add-one}
 use lib.ListN.{length, getD, set, take, drop, replicate, length-set, length-replicate, length-map, length-append, take-append-drop}
 use lib.Seq.{getD-set-same, getD-set-other, ext-getD, drop-cons, take-set-lt, drop-set-lt, take-suc-set, length-take-le, getD-take, take-all}
-use Rattle.codewords.specs.Codewords.{steps, starts, order, storeAt, streamOf, interleaved}
+use Rattle.codewords.specs.Codewords.{steps, starts, order, storeAt, toStream, fromStream}
 use Rattle.codewords.specs.Inner.{Storing, Collecting, ToStream, FromStream}
 
 -- p is one of ps
@@ -89,17 +89,17 @@ pub length-order : (n : ℕ) → length (order n) ≡ n
 unfolding order
 length-order n = length-starts n 0 13 (omega arith) ∙ omega arith
 
-pub length-interleaved : (s : List ℕ) → length (interleaved s) ≡ length s
-unfolding interleaved
+pub length-interleaved : (s : List ℕ) → length (fromStream s) ≡ length s
+unfolding fromStream
 length-interleaved s = length-map (order (length s)) (λ p. getD s p 0) ∙ length-order (length s)
 
-pub length-stream : (cs : List ℕ) → length (streamOf cs) ≡ length cs
-unfolding streamOf
+pub length-stream : (cs : List ℕ) → length (toStream cs) ≡ length cs
+unfolding toStream
 length-stream cs = length-store (order (length cs)) cs (replicate (length cs) 0) ∙ length-replicate (length cs) 0
 
 -- the stream of what was interleaved
-pub interleave-back : (s : List ℕ) → streamOf (interleaved s) ≡ s
-unfolding streamOf interleaved
+pub interleave-back : (s : List ℕ) → toStream (fromStream s) ≡ s
+unfolding toStream fromStream
 interleave-back s =
     let n = length s in
     let ps = order (length s) in
@@ -132,8 +132,8 @@ agree (q ∷ ps) (c ∷ cs) a b p l e h o =
     other z (inr (inr y)) = inr y
 
 -- what stood in the stream before does not matter
-pub stream-from : (cs a : List ℕ) → length a ≡ length cs → storeAt (order (length cs)) cs a ≡ streamOf cs
-unfolding streamOf
+pub stream-from : (cs a : List ℕ) → length a ≡ length cs → storeAt (order (length cs)) cs a ≡ toStream cs
+unfolding toStream
 stream-from cs a e =
     let n = length cs in
     let z : List ℕ = replicate n 0 in
@@ -185,7 +185,7 @@ module _ (cs : List ℕ) where
           },
         )
 
-    store-done : (s : ℕ) → 13 ≤ s → Storing cs out (starts (length cs) s (13 - s)) i → out ≡ streamOf cs
+    store-done : (s : ℕ) → 13 ≤ s → Storing cs out (starts (length cs) s (13 - s)) i → out ≡ toStream cs
     unfolding starts storeAt
     store-done s h U =
         let z : 13 - s ≡ 0 = omega arith in
@@ -197,7 +197,7 @@ module _ (s : List ℕ) where
   at-place p = getD s p 0
 
   collect-begun : (out : List ℕ) → length out ≡ length s → Collecting s out (starts (length s) 0 (13 - 0)) 0
-  unfolding order interleaved
+  unfolding order fromStream
   collect-begun out e = record { size = e; rest = omega (arith, length-order (length s)); left = refl }
 
   module _ (out : List ℕ) (i : ℕ) where
@@ -225,7 +225,7 @@ module _ (s : List ℕ) where
           },
         )
 
-    collect-done : (k : ℕ) → 13 ≤ k → Collecting s out (starts (length s) k (13 - k)) i → out ≡ interleaved s
+    collect-done : (k : ℕ) → 13 ≤ k → Collecting s out (starts (length s) k (13 - k)) i → out ≡ fromStream s
     unfolding starts
     collect-done k h U =
         let z : 13 - k ≡ 0 = omega arith in
@@ -278,7 +278,7 @@ module _ {total : ℕ} {cs out₀ : List ℕ} {start : ℕ} where
 pub store-first : (total : ℕ) (cs out : List ℕ) → total ≤ length out → total ≤ length cs → total ≤ 65535 → ToStream total cs out 0 0
 store-first total cs out a b d = record { few = d; room = a; whole = b; storing = store-begun (take total cs) (take total out) (length-take-le total out a ∙ sym (length-take-le total cs b)) }
 
-pub store-last : (out₀ : List ℕ) {total : ℕ} {cs out : List ℕ} {start i : ℕ} → ToStream total cs out start i → 13 ≤ start → drop total out ≡ drop total out₀ → out ≡ streamOf (take total cs) ++ drop total out₀
+pub store-last : (out₀ : List ℕ) {total : ℕ} {cs out : List ℕ} {start i : ℕ} → ToStream total cs out start i → 13 ≤ start → drop total out ≡ drop total out₀ → out ≡ toStream (take total cs) ++ drop total out₀
 store-last out₀ {total} {cs} {out} {start} {i} t h e =
     sym (take-append-drop total out) ∙ ap₂ _++_ (store-done (take total cs) (take total out) i start h (t .storing)) e
 
@@ -326,6 +326,6 @@ module _ {total : ℕ} {ss out₀ : List ℕ} {start : ℕ} where
 pub collect-first : (total : ℕ) (ss out : List ℕ) → total ≤ length out → total ≤ length ss → total ≤ 65535 → FromStream total ss out 0 0
 collect-first total ss out a b d = record { few = d; room = a; whole = b; collecting = collect-begun (take total ss) (take total out) (length-take-le total out a ∙ sym (length-take-le total ss b)) }
 
-pub collect-last : (out₀ : List ℕ) {total : ℕ} {ss out : List ℕ} {start i : ℕ} → FromStream total ss out start i → 13 ≤ start → drop total out ≡ drop total out₀ → out ≡ interleaved (take total ss) ++ drop total out₀
+pub collect-last : (out₀ : List ℕ) {total : ℕ} {ss out : List ℕ} {start i : ℕ} → FromStream total ss out start i → 13 ≤ start → drop total out ≡ drop total out₀ → out ≡ fromStream (take total ss) ++ drop total out₀
 collect-last out₀ {total} {ss} {out} {start} {i} t h e =
     sym (take-append-drop total out) ∙ ap₂ _++_ (collect-done (take total ss) (take total out) i start h (t .collecting)) e

@@ -10,7 +10,7 @@ use lib.Dec.{lit<}
 use lib.ListN.{length, getD, set, take, drop, replicate, length-take, getD-replicate, length-replicate, List·getD-eq-default}
 use lib.Seq.{getD-set-same, getD-set-other, set-out, getD-take, getD-drop}
 use Rattle.bits.specs.Bits.{bitsOf, value, firstWords}
-use Rattle.codewords.specs.Codewords.{codewordsOf, dataBits, placed, order, storeAt, streamOf, interleaved, streamIn, squareOf}
+use Rattle.codewords.specs.Codewords.{codewordsOf, dataBits, placed, order, storeAt, toStream, fromStream, streamIn, squareOf}
 use Rattle.codewords.proofs.Bits.{bit-at}
 
 -- every element of a list is below n
@@ -87,7 +87,7 @@ zeros-below k i = elim (decLt i k) [
 
 -- the stream of a square of bits has bytes
 pub stream-below : (total : ℕ) (m : ℕ → ℕ) (ks sq : List ℕ) → ((i : ℕ) → m i < 2) → Below 2 sq → Below 256 (streamIn total m ks sq)
-unfolding streamIn streamOf
+unfolding streamIn toStream
 stream-below total m ks sq small h =
     let cs = codewordsOf total (dataBits m 0 ks sq) in
     store-below 256 (order (length cs)) cs (replicate (length cs) 0) (codewords-below total (dataBits m 0 ks sq) (data-below m small 0 ks sq h)) (zeros-below (length cs))
@@ -98,4 +98,4 @@ bits-below cs i = subst (λ (x : ℕ). x < 2) (sym (bit-at cs i)) (mod-lt (getD 
 -- the square of a stream has bits
 pub square-below : (m : ℕ → ℕ) (ks s : List ℕ) → ((i : ℕ) → m i < 2) → Below 2 (squareOf m ks s)
 unfolding squareOf
-square-below m ks s small = placed-below m small 0 ks (bitsOf (interleaved s)) (bits-below (interleaved s))
+square-below m ks s small = placed-below m small 0 ks (bitsOf (fromStream s)) (bits-below (fromStream s))

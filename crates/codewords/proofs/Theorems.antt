@@ -7,13 +7,13 @@ use Rattle.symbol.specs.Version.{sideOf}
 use Rattle.symbol.specs.Layout.{layoutOf}
 use Rattle.information.specs.Information.{infoWritten}
 use Rattle.blocks.specs.Blocks.{dataModules}
-use Rattle.codewords.specs.Codewords.{maskBit, streamOf, interleaved, streamIn, squareOf}
+use Rattle.codewords.specs.Codewords.{maskBit, toStream, fromStream, streamIn, squareOf}
 use Rattle.codewords.proofs.Interleave as interleave
 use Rattle.codewords.proofs.Back as back
 use Rattle.codewords.proofs.Small as small
 
 -- Codewords that are interleaved out of a stream go back to it.
-pub interleave-back : (s : List ℕ) → streamOf (interleaved s) ≡ s
+pub interleave-back : (s : List ℕ) → toStream (fromStream s) ≡ s
 interleave-back = interleave.interleave-back
 
 -- A stream that was placed in a square is read out of it, for every layout with enough data modules, every mask, and whatever stands in the other modules.

@@ -63,15 +63,15 @@ storeAt (p ∷ ps) [] s = s
 storeAt (p ∷ ps) (c ∷ cs) s = storeAt ps cs (set s p c)
 
 -- the stream of the codewords of a square, and the codewords of a stream
-unfoldable pub streamOf : List ℕ → List ℕ
-streamOf cs = storeAt (order (length cs)) cs (replicate (length cs) 0)
+unfoldable pub toStream : List ℕ → List ℕ
+toStream cs = storeAt (order (length cs)) cs (replicate (length cs) 0)
 
-unfoldable pub interleaved : List ℕ → List ℕ
-interleaved s = map (λ p. getD s p 0) (order (length s))
+unfoldable pub fromStream : List ℕ → List ℕ
+fromStream s = map (λ p. getD s p 0) (order (length s))
 
 -- the stream of a square, and the square of a stream
 unfoldable pub streamIn : ℕ → (ℕ → ℕ) → List ℕ → List ℕ → List ℕ
-streamIn total m ks sq = streamOf (codewordsOf total (dataBits m 0 ks sq))
+streamIn total m ks sq = toStream (codewordsOf total (dataBits m 0 ks sq))
 
 unfoldable pub squareOf : (ℕ → ℕ) → List ℕ → List ℕ → List ℕ
-squareOf m ks s = placed m 0 ks (bitsOf (interleaved s))
+squareOf m ks s = placed m 0 ks (bitsOf (fromStream s))

@@ -3,19 +3,19 @@ use mathlib.Core.Path.{_≡_}
 use mathlib.Core.List.{List, _++_, map}
 use Prim.Native.Nat.{ℕ, _+_, _-_, _≤_}
 use lib.ListN.{length, getD, take, drop}
-use Rattle.codewords.specs.Codewords.{starts, storeAt, streamOf, interleaved}
+use Rattle.codewords.specs.Codewords.{starts, storeAt, toStream, fromStream}
 
 -- the codewords from the i-th on go to the places ps
 pub record Storing (cs out ps : List ℕ) (i : ℕ) : Type 0 where
   pub size : length out ≡ length cs
   pub rest : i + length ps ≡ length cs
-  pub left : storeAt ps (drop i cs) out ≡ streamOf cs
+  pub left : storeAt ps (drop i cs) out ≡ toStream cs
 
 -- the codewords from the i-th on come from the places ps
 pub record Collecting (s out ps : List ℕ) (i : ℕ) : Type 0 where
   pub size : length out ≡ length s
   pub rest : i + length ps ≡ length s
-  pub left : take i out ++ map (λ p. getD s p 0) ps ≡ interleaved s
+  pub left : take i out ++ map (λ p. getD s p 0) ps ≡ fromStream s
 
 -- the first `total` of two buffers, from one start on
 pub record ToStream (total : ℕ) (cs out : List ℕ) (start i : ℕ) : Type 0 where

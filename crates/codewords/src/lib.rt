@@ -4,7 +4,7 @@ ghost use mathlib.Core.Path.{_≡_};
 ghost use mathlib.Core.List.{_++_};
 ghost use Prim.Native.Nat.{_+_, _≤_, _<_};
 ghost use lib.ListN.{length, take, drop};
-ghost use Rattle.codewords.specs.Codewords.{maskAt, streamOf, interleaved};
+ghost use Rattle.codewords.specs.Codewords.{maskAt, toStream, fromStream};
 ghost use Rattle.codewords.specs.Inner.{ToStream, FromStream};
 
 // Whether data mask `mask` inverts (1) the module at i = row + 1 and j = column + 1.
@@ -42,7 +42,7 @@ fn store_start(out: &mut [u8], codewords: &[u8], total: usize, start: usize, i: 
 // The stream of the first total codewords of a square.
 pub fn to_stream(out: &mut [u8], codewords: &[u8], total: usize)
     requires { ⌜ (total ≤ length (now out)) × (total ≤ length (now codewords)) × (total ≤ 65535) ⌝ }
-    ensures { λ _. ⌜ now (out .exit) ≡ streamOf (take total (now (codewords .entry))) ++ drop total (now (out .entry)) ⌝ }
+    ensures { λ _. ⌜ now (out .exit) ≡ toStream (take total (now (codewords .entry))) ++ drop total (now (out .entry)) ⌝ }
 {
     let mut i: usize = 0;
     let mut start: usize = 0;
@@ -70,7 +70,7 @@ fn collect_start(out: &mut [u8], stream: &[u8], total: usize, start: usize, i: u
 // The codewords of a square out of the first total of a stream.
 pub fn from_stream(out: &mut [u8], stream: &[u8], total: usize)
     requires { ⌜ (total ≤ length (now out)) × (total ≤ length (now stream)) × (total ≤ 65535) ⌝ }
-    ensures { λ _. ⌜ now (out .exit) ≡ interleaved (take total (now (stream .entry))) ++ drop total (now (out .entry)) ⌝ }
+    ensures { λ _. ⌜ now (out .exit) ≡ fromStream (take total (now (stream .entry))) ++ drop total (now (out .entry)) ⌝ }
 {
     let mut i: usize = 0;
     let mut start: usize = 0;

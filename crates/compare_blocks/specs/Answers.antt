@@ -3,10 +3,10 @@ use mathlib.Core.Path.{_≡_}
 use mathlib.Core.List.{List}
 use Prim.Native.Nat.{ℕ, _<_}
 use Rattle.field.specs.Field.{mul}
-use Rattle.corrector.specs.Correct.{Outcome}
+use Rattle.corrector.specs.Correct.{BlockOutcome}
 use Rattle.parity.specs.Encode.{Encoding}
 
-abbrev pub outcomeOf : ℕ → ℕ → List ℕ → Outcome
+abbrev pub outcomeOf : ℕ → ℕ → List ℕ → BlockOutcome
 outcomeOf n c b = record { number = n; count = c; block = b }
 
 abbrev pub encodingOf : ℕ → List ℕ → Encoding

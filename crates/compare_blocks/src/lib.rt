@@ -2,7 +2,7 @@
 ghost use mathlib.Core.Path.{_≡_};
 ghost use Prim.Native.Nat.{ℕ, _%_};
 ghost use Rattle.field.specs.Field.{power, mul};
-ghost use Rattle.corrector.specs.Correct.{Outcome, correctOf};
+ghost use Rattle.corrector.specs.Correct.{BlockOutcome, correctOf};
 ghost use Rattle.parity.specs.Encode.{encodeOf};
 ghost use Rattle.compare_blocks.specs.Answers.{outcomeOf, encodingOf, IsQuotient};
 use corrector::Correction;

@@ -2,12 +2,12 @@
 use mathlib.Core.Path.{_≡_, ap, subst}
 use mathlib.Core.List.{List}
 use Rattle.segments.specs.declared.Answer.{Answer}
-use Rattle.segments.specs.FromData.{Outcome, told}
+use Rattle.segments.specs.FromData.{DataOutcome, dataOutcome}
 use Prim.Native.Nat.{ℕ}
 use Rattle.compare_segments.specs.Is.{Is}
 
-pub fields : (r q : Answer) (p c : List ℕ) (o : Outcome) → told r p c ≡ o → r ≡ q
-    → Is o (told q p c .refusal) (told q p c .payloadLength) (told q p c .scriptLength) (told q p c .payload) (told q p c .script)
+pub fields : (r q : Answer) (p c : List ℕ) (o : DataOutcome) → dataOutcome r p c ≡ o → r ≡ q
+    → Is o (dataOutcome q p c .refusal) (dataOutcome q p c .payloadLength) (dataOutcome q p c .scriptLength) (dataOutcome q p c .payload) (dataOutcome q p c .script)
 fields r q p c o e f =
-    let g : told q p c ≡ o = subst (λ (z : Answer). told z p c ≡ o) f e in
-    (ap (λ (z : Outcome). z .refusal) g, ap (λ (z : Outcome). z .payloadLength) g, ap (λ (z : Outcome). z .scriptLength) g, ap (λ (z : Outcome). z .payload) g, ap (λ (z : Outcome). z .script) g)
+    let g : dataOutcome q p c ≡ o = subst (λ (z : Answer). dataOutcome z p c ≡ o) f e in
+    (ap (λ (z : DataOutcome). z .refusal) g, ap (λ (z : DataOutcome). z .payloadLength) g, ap (λ (z : DataOutcome). z .scriptLength) g, ap (λ (z : DataOutcome). z .payload) g, ap (λ (z : DataOutcome). z .script) g)

@@ -2,11 +2,11 @@
 use mathlib.Core.Path.{_≡_}
 use mathlib.Core.List.{List}
 use Prim.Native.Nat.{ℕ}
-use Rattle.segments.specs.FromData.{Outcome}
+use Rattle.segments.specs.FromData.{DataOutcome}
 use Rattle.script.specs.declared.Check.{Check}
 use Rattle.script.specs.declared.Check.the-variants.{Bits, Malformed, Lacking, Empty}
 
-abbrev pub Is : Outcome → ℕ → ℕ → ℕ → List ℕ → List ℕ → Type 0
+abbrev pub Is : DataOutcome → ℕ → ℕ → ℕ → List ℕ → List ℕ → Type 0
 Is o refusal n m p c = (refusal ≡ o .refusal) × (n ≡ o .payloadLength) × (m ≡ o .scriptLength) × (p ≡ o .payload) × (c ≡ o .script)
 
 -- the refusal number, and the number of bits beside it

@@ -1,7 +1,7 @@
 // The symbol for the comparison with the Rust (compare/): version, layout, information, masks and the block table.
 ghost use mathlib.Core.Path.{_≡_};
 ghost use Rattle.symbol.specs.Version.{sideVersion, versionOf};
-ghost use Rattle.symbol.specs.Layout.{layoutRefusal, layoutWritten, refusalOf};
+ghost use Rattle.symbol.specs.Layout.{layoutRefusal, layoutWritten, layoutNumber};
 ghost use Rattle.information.specs.Information.{infoOf, infoAnswer, nearestOf, nearestAnswer};
 ghost use Rattle.compare_symbol.specs.Answers.{totalAnswer, rowAnswer, maskAnswer, positionAnswer};
 use information::InfoBits;
@@ -50,7 +50,7 @@ pub extern "C" fn hx_version(side: usize) -> usize
 }
 
 fn refusal(a: LayoutAnswer) -> usize
-    ensures { λ r. ⌜ r ≡ refusalOf a ⌝ }
+    ensures { λ r. ⌜ r ≡ layoutNumber a ⌝ }
 {
     match a {
         LayoutAnswer::Filled => 0,

@@ -22,7 +22,7 @@ use Rattle.remainder.specs.declared.Register.{Register}
 use Rattle.remainder.specs.Words.{tabled, Remains, Leaves}
 use Rattle.remainder.specs.Words as Words
 use Rattle.remainder.proofs.Lowered.{none-remains}
-use Rattle.corrector.specs.Correct.{refused, settled, orOutcome, correctOf}
+use Rattle.corrector.specs.Correct.{refusedBlock, settled, orOutcome, correctOf}
 use Rattle.reed_solomon.specs.Inner.{Each, Syndromes, isClean, Shortest, locatorAt, Located, Errors, withoutAll, repaired}
 use Rattle.reed_solomon.proofs.Search.{Bytes}
 use Rattle.reed_solomon.proofs.Codeword.{zero-codeword, eval-syndrome, difference}
@@ -33,13 +33,13 @@ use Rattle.reed_solomon.proofs.Decode.{few, of-errors, root-at, count-is, error
 -- ---- the refusals 5
 
 module _ (poly first parity : ℕ) (w : List ℕ) where
-  pub unfit-refused : unfit parity w ≡ true → refused 5 w ≡ correctOf poly first parity w
+  pub unfit-refused : unfit parity w ≡ true → refusedBlock 5 w ≡ correctOf poly first parity w
   unfolding correctOf
-  unfit-refused e = ap (λ (b : Bool). orOutcome b (refused 5 w) (settled w (nearest poly first parity w))) (sym e)
+  unfit-refused e = ap (λ (b : Bool). orOutcome b (refusedBlock 5 w) (settled w (nearest poly first parity w))) (sym e)
 
   pub fit-settled : unfit parity w ≡ false → settled w (nearest poly first parity w) ≡ correctOf poly first parity w
   unfolding correctOf
-  fit-settled e = ap (λ (b : Bool). orOutcome b (refused 5 w) (settled w (nearest poly first parity w))) (sym e)
+  fit-settled e = ap (λ (b : Bool). orOutcome b (refusedBlock 5 w) (settled w (nearest poly first parity w))) (sym e)
 
 -- ---- a block with no error
 
@@ -83,7 +83,7 @@ module _ (poly : ℕ) (P : Passes poly) (first parity : ℕ) (w : List ℕ) (sma
     R k = locatorAt poly f l (degree (length w) k)
 
     -- a locator that is too long
-    pub long-settled : parity < l + l → refused 6 w ≡ settled w (nearest poly first parity w)
+    pub long-settled : parity < l + l → refusedBlock 6 w ≡ settled w (nearest poly first parity w)
     unfolding settled
     long-settled h =
         sym (ap (settled w) (near-none poly first parity w
@@ -139,7 +139,7 @@ module _ (poly : ℕ) (P : Passes poly) (first parity : ℕ) (w : List ℕ) (sma
             ∙ ap₂ _⊕_ (of-errors poly P first parity w small bw s f l Y F c N j h) (syndrome-ext poly P first (length w) found (difference w c) j found-is)
             ∙ xor-self (syndrome poly first (length w) (difference w c) j)
 
-      pub left-settled : false ≡ isClean parity s₃ → refused 6 w ≡ settled w (nearest poly first parity w)
+      pub left-settled : false ≡ isClean parity s₃ → refusedBlock 6 w ≡ settled w (nearest poly first parity w)
       unfolding settled
       left-settled t =
           sym (ap (settled w) (near-none poly first parity w

@@ -16,7 +16,7 @@ use Rattle.segments.specs.Script.{Segment, run, eci}
 use Rattle.script.specs.declared.Command.{Command}
 use Rattle.script.specs.declared.Command.the-variants.{Run, Eci, Wrong}
 use Rattle.script.specs.Writer.{has, encodingOf, allHave, encodings}
-use Rattle.script.specs.Check.{commands, commandsOf, encoded}
+use Rattle.script.specs.Check.{commands, commandsOf, scriptData}
 use Rattle.script.specs.Inner.{commandAt, commandSize, with, Fits}
 use Rattle.script.proofs.Tests.{both}
 use Rattle.script.proofs.Checks.{at-wrong, at-eci, at-short, at-run}
@@ -144,7 +144,7 @@ module _ (s p : List ℕ) (n : ℕ) (t : List ℕ) (i j a : ℕ) (h : length s �
   end-room = let l = place-is in let m = d .room in omega arith
 
   -- zeros behind
-  pub ended : (u : List ℕ) → ((k : ℕ) → getD u k 0 < 256) → bitsOf u ≡ take a (bitsOf t) ++ replicate (8 * n - a) 0 → u ≡ encoded n (commandsOf s p)
+  pub ended : (u : List ℕ) → ((k : ℕ) → getD u k 0 < 256) → bitsOf u ≡ take a (bitsOf t) ++ replicate (8 * n - a) 0 → u ≡ scriptData n (commandsOf s p)
   unfolding encodings
   ended u b e =
       let q : take a (bitsOf t) ≡ encodings (d .whole) = rw (nothing, append-nil) at (d .bits) in

@@ -10,7 +10,7 @@ ghost use Rattle.bits.specs.Bits.{bitsOf, lowBits, wordBits};
 ghost use Rattle.script.specs.Writer.{all, isDigit, numericWords, modeHas, modeBits, eciBits, encodingOf};
 ghost use Rattle.script.specs.Glyphs.{wordsOf, hasAll, widthOf, switchOf, endOf, beginsIn};
 ghost use Rattle.segments.specs.Script.{run, eci};
-ghost use Rattle.script.specs.Check.{commandsOf, encoded};
+ghost use Rattle.script.specs.Check.{commandsOf, scriptData};
 ghost use Rattle.script.specs.Inner.{Fits};
 ghost use Rattle.encoding.specs.Written.{Written, Doing, groupAt};
 
@@ -212,7 +212,7 @@ fn pad(buf: &mut [u8], at: usize)
 // The data bytes of a script and its payload that the check has accepted: their bits, and zeros behind.
 pub fn encode(script: &[u8], payload: &[u8], codewords: &mut [u8])
     requires { ⌜ Fits (now script) (now payload) (length (now codewords)) × (length (now codewords) ≤ 3886) ⌝ }
-    ensures { λ _. ⌜ now (codewords .exit) ≡ encoded (length (now (codewords .entry))) (commandsOf (now (script .entry)) (now (payload .entry))) ⌝ }
+    ensures { λ _. ⌜ now (codewords .exit) ≡ scriptData (length (now (codewords .entry))) (commandsOf (now (script .entry)) (now (payload .entry))) ⌝ }
 {
     let mut i: usize = 0;
     let mut j: usize = 0;

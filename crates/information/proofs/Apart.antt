@@ -9,7 +9,7 @@ use lib.ListN.{getD}
 use lib.Pow.{shr-lt}
 use lib.Count.{ones, onesIn, ones-step}
 use borrow.Author.Tests.{ltb-true, ltb-false, eqb-true, eqb-false}
-use Rattle.information.specs.Information.{timesX, plusIfOdd, productFrom, gf16Mul, generatorTimes, remainder, wordOf, dataOf, infoBits, wordAt, distance, leastOf, nearest}
+use Rattle.information.specs.Information.{timesX, plusIfOdd, productFrom, gf16Mul, generatorTimes, remainder, wordOf, infoData, infoBits, wordAt, wordDistance, leastOf, nearestWord}
 use Rattle.information.specs.Inner.{differences}
 use Rattle.information.proofs.Xor.{xor-assoc, triangle}
 use Rattle.symbol.proofs.Finite.{upTo, every}
@@ -72,7 +72,7 @@ module _ (v : ℕ) (hi : v ≤ 84) where
   begun-lt = remainder-lt (remainder 0 ((v + 20) / 16)) ((v + 20) % 16) (remainder-lt 0 ((v + 20) / 16) (lit< tt) (omega arith)) (omega arith)
 
   pub word-at : (k : ℕ) → k < 16 → wordAt v k ≡ wordOf ((v + 20) * 16 + k)
-  unfolding wordAt infoBits dataOf
+  unfolding wordAt infoBits infoData
   word-at k h = let e : (v + 20) * 16 + k / 4 * 4 + k % 4 ≡ (v + 20) * 16 + k = omega arith in ap wordOf e
 
   word-last : (k : ℕ) → k < 16 → wordAt v k ≡ (((v + 20) * 16 + k) * 65536 + remainder begun k) * 64
@@ -150,19 +150,19 @@ module _ (d : ℕ → ℕ) where
       by false e false f ih = ih (omega (arith, eqb-false k (suc n) f))
 
 -- at most 8 flips of both copies: the nearest word is still that one
-pub few-flips : (v k a b : ℕ) → v ≤ 84 → k < 16 → distance v a b k ≤ 8 → nearest v a b ≡ k
-unfolding nearest distance
-few-flips v k a b hi h le = by (eqb (nearest v a b) k) refl
+pub few-flips : (v k a b : ℕ) → v ≤ 84 → k < 16 → wordDistance v a b k ≤ 8 → nearestWord v a b ≡ k
+unfolding nearestWord wordDistance
+few-flips v k a b hi h le = by (eqb (nearestWord v a b) k) refl
   where
     n : ℕ
-    n = nearest v a b
+    n = nearestWord v a b
 
     by : (t : Bool) → eqb n k ≡ t → n ≡ k
     by true e = eqb-true n k e
     by false e =
-        let n-le : n ≤ 15 = nearest-le (distance v a b) 15 in
+        let n-le : n ≤ 15 = nearest-le (wordDistance v a b) 15 in
         let far : 9 ≤ ones (bitXor (wordAt v n) (wordAt v k)) = apart v n k hi (omega arith) h (eqb-false n k e) in
-        let least : distance v a b n ≤ distance v a b k = nearest-least (distance v a b) 15 k (omega arith) in
+        let least : wordDistance v a b n ≤ wordDistance v a b k = nearest-least (wordDistance v a b) 15 k (omega arith) in
         absurd (omega (arith, triangle (wordAt v n) a (wordAt v k), triangle (wordAt v n) b (wordAt v k), ap ones (xor-comm a (wordAt v k)), ap ones (xor-comm b (wordAt v k))))
 
 -- a word has 34 bits
@@ -189,7 +189,7 @@ pub first-word : (v : ℕ) {w x : ℕ} → v ≤ 84 → w ≡ wordOf x → x ≡
 first-word v hi e d = let z : (v + 20) * 16 ≡ (v + 20) * 16 + 0 = omega arith in e ∙ ap wordOf (d ∙ z) ∙ sym (word-at v hi 0 (lit< tt))
 
 pub distance-at : (v k a b : ℕ) {w : ℕ} → v ≤ 84 → k < 16 → w ≡ wordAt v 0
-    → ones (bitXor (bitXor w (getD differences k 0)) a) + ones (bitXor (bitXor w (getD differences k 0)) b) ≡ distance v a b k
-unfolding distance
+    → ones (bitXor (bitXor w (getD differences k 0)) a) + ones (bitXor (bitXor w (getD differences k 0)) b) ≡ wordDistance v a b k
+unfolding wordDistance
 distance-at v k a b hi h e =
     ap (λ (n : ℕ). ones (bitXor n a) + ones (bitXor n b)) (ap₂ bitXor e (difference-is k h) ∙ word-difference v k hi h)

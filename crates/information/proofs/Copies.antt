@@ -9,7 +9,7 @@ use native.Mathlib.Omega.{arith}
 use lib.Dec.{lit<}
 use lib.Pow.{pow-mono}
 use lib.ListN.{set}
-use Rattle.information.specs.Information.{positionRow, positionColumn, infoPosition, numberOf, bitOf, bitsWritten, copyWritten}
+use Rattle.information.specs.Information.{positionRow, positionColumn, infoPosition, numberFrom, bitOf, bitsWritten, copyWritten}
 use Rattle.information.specs.Inner.{ArmWritten}
 use Rattle.information.proofs.Distinct.{row-lt, place-lt}
 
@@ -29,17 +29,17 @@ module _ (s n : ℕ) (big : 23 ≤ s) (hi : s ≤ 189) (h : n < 34) {r : ℕ} (d
     pub first-lt : r * s + c < s * s
     first-lt = subst (λ (k : ℕ). k < s * s) (sym first-is) (place-lt s big false n h)
 
-number-lt : (f : ℕ → ℕ) → ((k : ℕ) → f k < 2) → (n : ℕ) → numberOf f n < 2 ^ n
-unfolding numberOf
+number-lt : (f : ℕ → ℕ) → ((k : ℕ) → f k < 2) → (n : ℕ) → numberFrom f n < 2 ^ n
+unfolding numberFrom
 number-lt f b zero = lit< tt
 number-lt f b (suc n) = omega (arith, number-lt f b n, b n, pow-suc 2 n)
 
-pub number-small : (f : ℕ → ℕ) → ((k : ℕ) → f k < 2) → (n : ℕ) → n ≤ 34 → numberOf f n < 17179869184
+pub number-small : (f : ℕ → ℕ) → ((k : ℕ) → f k < 2) → (n : ℕ) → n ≤ 34 → numberFrom f n < 17179869184
 number-small f b n h = omega (arith, number-lt f b n, pow-mono {i = n} {j = 34} h)
 
-pub number-more : (f : ℕ → ℕ) (n : ℕ) {w x : ℕ} → w ≡ numberOf f n → x ≡ f n → w * 2 + x ≡ numberOf f (n + 1)
-unfolding numberOf
-number-more f n e d = ap₂ (λ (a b : ℕ). a * 2 + b) e d ∙ ap (numberOf f) (sym (add-one n))
+pub number-more : (f : ℕ → ℕ) (n : ℕ) {w x : ℕ} → w ≡ numberFrom f n → x ≡ f n → w * 2 + x ≡ numberFrom f (n + 1)
+unfolding numberFrom
+number-more f n e d = ap₂ (λ (a b : ℕ). a * 2 + b) e d ∙ ap (numberFrom f) (sym (add-one n))
 
 pub write-more : (s : ℕ) (b : Bool) (w n : ℕ) (g₀ : List ℕ) {g : List ℕ} {i x : ℕ} → g ≡ bitsWritten s b w n g₀ → i ≡ infoPosition s b n → x ≡ bitOf w n → set g i x ≡ bitsWritten s b w (n + 1) g₀
 unfolding bitsWritten

@@ -14,7 +14,7 @@ use lib.Count.{ones}
 use Rattle.symbol.specs.Version.{sideOf}
 use Rattle.symbol.specs.Layout.{layoutOf}
 use Rattle.symbol.proofs.Theorems.{layout-length}
-use Rattle.information.specs.Information.{wordAt, distance, nearest, infoPosition, copyOf, bitOf, bitsWritten, copyWritten, infoWritten, infoFlips}
+use Rattle.information.specs.Information.{wordAt, wordDistance, nearestWord, infoPosition, copyOf, bitOf, bitsWritten, copyWritten, infoWritten, infoFlips}
 use Rattle.information.proofs.Apart.{few-flips}
 use Rattle.information.proofs.Read.{differing, distance-is, written-length, written-else, round, round-first}
 use Rattle.information.proofs.Distinct.{place-same, place-other}
@@ -90,10 +90,10 @@ both v lo g h a b =
 pub flips-distance : (v k : ℕ) (g h : List ℕ) → 1 ≤ v → length g ≡ sideOf v * sideOf v → length h ≡ sideOf v * sideOf v
     → ((i : ℕ) → getD g i 0 < 2) → ((i : ℕ) → getD h i 0 < 2)
     → copyOf (sideOf v) false g ≡ wordAt v k → copyOf (sideOf v) true g ≡ wordAt v k
-    → distance v (copyOf (sideOf v) false h) (copyOf (sideOf v) true h) k ≤ infoFlips (layoutOf v) g h
-unfolding copyOf distance
+    → wordDistance v (copyOf (sideOf v) false h) (copyOf (sideOf v) true h) k ≤ infoFlips (layoutOf v) g h
+unfolding copyOf wordDistance
 flips-distance v k g h lo lg lh p q a b =
-    let d : distance v (copyOf (sideOf v) false h) (copyOf (sideOf v) true h) k
+    let d : wordDistance v (copyOf (sideOf v) false h) (copyOf (sideOf v) true h) k
     ≡ differing (λ n. getD g (infoPosition (sideOf v) false n) 0) (λ n. getD h (infoPosition (sideOf v) false n) 0) 34
     + differing (λ n. getD g (infoPosition (sideOf v) true n) 0) (λ n. getD h (infoPosition (sideOf v) true n) 0) 34 =
     ap₂ (λ (x y : ℕ). ones (bitXor x (copyOf (sideOf v) false h)) + ones (bitXor y (copyOf (sideOf v) true h))) (sym a) (sym b)
@@ -110,7 +110,7 @@ flips-distance v k g h lo lg lh p q a b =
 pub flips-nearest : (v k : ℕ) (g h : List ℕ) → 1 ≤ v → v ≤ 84 → k < 16 → length g ≡ sideOf v * sideOf v → length h ≡ sideOf v * sideOf v
     → ((i : ℕ) → getD g i 0 < 2) → ((i : ℕ) → getD h i 0 < 2)
     → copyOf (sideOf v) false g ≡ wordAt v k → copyOf (sideOf v) true g ≡ wordAt v k → infoFlips (layoutOf v) g h ≤ 8
-    → nearest v (copyOf (sideOf v) false h) (copyOf (sideOf v) true h) ≡ k
+    → nearestWord v (copyOf (sideOf v) false h) (copyOf (sideOf v) true h) ≡ k
 flips-nearest v k g h lo hi small lg lh p q a b few =
     few-flips v k (copyOf (sideOf v) false h) (copyOf (sideOf v) true h) hi small (omega (arith, flips-distance v k g h lo lg lh p q a b))
 

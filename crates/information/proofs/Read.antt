@@ -12,21 +12,21 @@ use lib.Pow.{shr-shr}
 use lib.ListN.{length, getD, set, length-set}
 use lib.Seq.{getD-set-same, getD-set-other}
 use borrow.Author.Tests.{eqb-true, eqb-false}
-use Rattle.information.specs.Information.{infoPosition, numberOf, copyOf, bitOf, bitsWritten, copyWritten}
+use Rattle.information.specs.Information.{infoPosition, numberFrom, copyOf, bitOf, bitsWritten, copyWritten}
 use Rattle.information.proofs.Distinct.{place-lt, place-same, place-other}
 
-pub number-same : (f h : ℕ → ℕ) (n : ℕ) → ((k : ℕ) → k < n → f k ≡ h k) → numberOf f n ≡ numberOf h n
-unfolding numberOf
+pub number-same : (f h : ℕ → ℕ) (n : ℕ) → ((k : ℕ) → k < n → f k ≡ h k) → numberFrom f n ≡ numberFrom h n
+unfolding numberFrom
 number-same f h zero e = refl
 number-same f h (suc n) e = ap₂ (λ (x y : ℕ). x * 2 + y) (number-same f h n (λ k l. e k (omega arith))) (e n (omega arith))
 
-pub number-bits : (w n : ℕ) → w < 2 ^ 34 → n ≤ 34 → numberOf (bitOf w) n ≡ w / 2 ^ (34 - n)
-unfolding numberOf bitOf
+pub number-bits : (w n : ℕ) → w < 2 ^ 34 → n ≤ 34 → numberFrom (bitOf w) n ≡ w / 2 ^ (34 - n)
+unfolding numberFrom bitOf
 number-bits w zero h l = sym (div-eq-of-lt h)
 number-bits w (suc n) h l =
     let e : 34 - n ≡ 33 - n + 1 = omega arith in
     let d : 34 - suc n ≡ 33 - n = omega arith in
-    let ih : numberOf (bitOf w) n ≡ w / 2 ^ (34 - n) = number-bits w n h (omega arith) in
+    let ih : numberFrom (bitOf w) n ≡ w / 2 ^ (34 - n) = number-bits w n h (omega arith) in
     let s : w / 2 ^ (33 - n) / 2 ≡ w / 2 ^ (33 - n + 1) = shr-shr w (33 - n) 1 in
     rw (ih, e, d, ← s) (omega arith)
 
@@ -100,7 +100,7 @@ one-more a b x y p q =
     last n false = ones-step (n * 2 + 1) ∙ (let c : (n * 2 + 1) / 2 ≡ n = omega arith in let d : (n * 2 + 1) % 2 ≡ 1 = omega arith in rw (c, d) (omega arith))
 
 -- the differing bits of two readings are the differing places
-pub distance-is : (f h : ℕ → ℕ) → ((k : ℕ) → f k < 2) → ((k : ℕ) → h k < 2) → (n : ℕ) → ones (bitXor (numberOf f n) (numberOf h n)) ≡ differing f h n
-unfolding numberOf differing ones
+pub distance-is : (f h : ℕ → ℕ) → ((k : ℕ) → f k < 2) → ((k : ℕ) → h k < 2) → (n : ℕ) → ones (bitXor (numberFrom f n) (numberFrom h n)) ≡ differing f h n
+unfolding numberFrom differing ones
 distance-is f h p q zero = refl
-distance-is f h p q (suc n) = one-more (numberOf f n) (numberOf h n) (f n) (h n) (p n) (q n) ∙ ap (λ (m : ℕ). m + cond (eqb (f n) (h n)) 0 1) (distance-is f h p q n)
+distance-is f h p q (suc n) = one-more (numberFrom f n) (numberFrom h n) (f n) (h n) (p n) (q n) ∙ ap (λ (m : ℕ). m + cond (eqb (f n) (h n)) 0 1) (distance-is f h p q n)

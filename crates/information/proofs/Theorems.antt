@@ -8,7 +8,7 @@ use lib.Count.{ones}
 use lib.ListN.{length, getD}
 use Rattle.symbol.specs.Version.{sideOf}
 use Rattle.symbol.specs.Layout.{layoutOf}
-use Rattle.information.specs.Information.{wordAt, distance, nearest, infoPosition, copyOf, infoWritten, infoFlips}
+use Rattle.information.specs.Information.{wordAt, wordDistance, nearestWord, infoPosition, copyOf, infoWritten, infoFlips}
 use Rattle.information.proofs.Apart as apart
 use Rattle.information.proofs.Distinct as distinct
 use Rattle.information.proofs.Kind as kind
@@ -19,7 +19,7 @@ pub nine-apart : (v j k : ℕ) → v ≤ 84 → j < 16 → k < 16 → (j ≡ k �
 nine-apart v j k = apart.apart v j k
 
 -- If at most 8 bits of two copies differ from a word of this version, the nearest word is that word.
-pub few-bits : (v k a b : ℕ) → v ≤ 84 → k < 16 → distance v a b k ≤ 8 → nearest v a b ≡ k
+pub few-bits : (v k a b : ℕ) → v ≤ 84 → k < 16 → wordDistance v a b k ≤ 8 → nearestWord v a b ≡ k
 few-bits v k a b = apart.few-flips v k a b
 
 -- The 68 information places of a version are distinct ..
@@ -42,9 +42,9 @@ read-back v w g lo room h = (flips.write-then-first v lo w g room h, flips.write
 module _ (v k : ℕ) (g h : List ℕ) (lo : 1 ≤ v) (lg : length g ≡ sideOf v * sideOf v) (lh : length h ≡ sideOf v * sideOf v)
     (bg : (i : ℕ) → getD g i 0 < 2) (bh : (i : ℕ) → getD h i 0 < 2)
     (first : copyOf (sideOf v) false g ≡ wordAt v k) (second : copyOf (sideOf v) true g ≡ wordAt v k) where
-  pub flips-bound : distance v (copyOf (sideOf v) false h) (copyOf (sideOf v) true h) k ≤ infoFlips (layoutOf v) g h
+  pub flips-bound : wordDistance v (copyOf (sideOf v) false h) (copyOf (sideOf v) true h) k ≤ infoFlips (layoutOf v) g h
   flips-bound = flips.flips-distance v k g h lo lg lh bg bh first second
 
   -- .. and where at most 8 modules do, the nearest word is the one written.
-  pub few-modules : v ≤ 84 → k < 16 → infoFlips (layoutOf v) g h ≤ 8 → nearest v (copyOf (sideOf v) false h) (copyOf (sideOf v) true h) ≡ k
+  pub few-modules : v ≤ 84 → k < 16 → infoFlips (layoutOf v) g h ≤ 8 → nearestWord v (copyOf (sideOf v) false h) (copyOf (sideOf v) true h) ≡ k
   few-modules hi small few = flips.flips-nearest v k g h lo hi small lg lh bg bh first second few

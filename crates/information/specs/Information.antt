@@ -45,11 +45,11 @@ unfoldable pub wordOf : ℕ → ℕ
 wordOf d = (d * 65536 + remainder (remainder (remainder 0 (d / 256)) (d / 16 % 16)) (d % 16)) * 64
 
 -- the 12 bits v + 20, level, mask
-unfoldable pub dataOf : ℕ → ℕ → ℕ → ℕ
-dataOf v level mask = (v + 20) * 16 + level * 4 + mask
+unfoldable pub infoData : ℕ → ℕ → ℕ → ℕ
+infoData v level mask = (v + 20) * 16 + level * 4 + mask
 
 unfoldable pub infoBits : ℕ → ℕ → ℕ → ℕ
-infoBits v level mask = wordOf (dataOf v level mask)
+infoBits v level mask = wordOf (infoData v level mask)
 
 -- SPECIFICATION 10.3, Information word. 1: version, level or mask outside its range; 0, and the word beside it.
 unfoldable pub isInfo : ℕ → ℕ → ℕ → Bool
@@ -74,8 +74,8 @@ unfoldable pub wordAt : ℕ → ℕ → ℕ
 wordAt v k = infoBits v (k / 4) (k % 4)
 
 -- the differing bits of both copies, a and b
-unfoldable pub distance : ℕ → ℕ → ℕ → ℕ → ℕ
-distance v a b k = ones (bitXor (wordAt v k) a) + ones (bitXor (wordAt v k) b)
+unfoldable pub wordDistance : ℕ → ℕ → ℕ → ℕ → ℕ
+wordDistance v a b k = ones (bitXor (wordAt v k) a) + ones (bitXor (wordAt v k) b)
 
 -- the first of 0 to n at which d is least
 unfoldable pub leastOf : (ℕ → ℕ) → ℕ → ℕ
@@ -83,8 +83,8 @@ leastOf d zero = 0
 leastOf d (suc n) = let best = leastOf d n in cond (ltb (d (suc n)) (d best)) (suc n) best
 
 -- the nearest word: ties to the lowest level, then mask
-unfoldable pub nearest : ℕ → ℕ → ℕ → ℕ
-nearest v a b = leastOf (distance v a b) 15
+unfoldable pub nearestWord : ℕ → ℕ → ℕ → ℕ
+nearestWord v a b = leastOf (wordDistance v a b) 15
 
 -- SPECIFICATION 10.4, Nearest word. 1: version outside its range; 0, and level, mask and distance beside it.
 pub record NearestAnswer : Type 0 where
@@ -95,8 +95,8 @@ pub record NearestAnswer : Type 0 where
 
 unfoldable pub nearestOf : ℕ → ℕ → ℕ → NearestAnswer
 nearestOf v a b =
-    let k = nearest v a b in
-    cond (isVersion v) (record { number = 0; level = k / 4; mask = k % 4; distance = distance v a b k })
+    let k = nearestWord v a b in
+    cond (isVersion v) (record { number = 0; level = k / 4; mask = k % 4; distance = wordDistance v a b k })
     (record { number = 1; level = 0; mask = 0; distance = 0 })
 
 -- what each case of the code's answer says
@@ -118,13 +118,13 @@ unfoldable pub infoPosition : ℕ → Bool → ℕ → ℕ
 infoPosition s second n = cond second (s * s - 1 - (positionRow n * s + positionColumn s n)) (positionRow n * s + positionColumn s n)
 
 -- the number with the bits f 0, .. f (n − 1), the first the highest
-unfoldable pub numberOf : (ℕ → ℕ) → ℕ → ℕ
-numberOf f zero = 0
-numberOf f (suc n) = numberOf f n * 2 + f n
+unfoldable pub numberFrom : (ℕ → ℕ) → ℕ → ℕ
+numberFrom f zero = 0
+numberFrom f (suc n) = numberFrom f n * 2 + f n
 
 -- a copy that is read out of a square
 unfoldable pub copyOf : ℕ → Bool → List ℕ → ℕ
-copyOf s second g = numberOf (λ n. getD g (infoPosition s second n) 0) 34
+copyOf s second g = numberFrom (λ n. getD g (infoPosition s second n) 0) 34
 
 -- bit n of a word, the first of 34 the highest
 unfoldable pub bitOf : ℕ → ℕ → ℕ

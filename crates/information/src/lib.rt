@@ -7,7 +7,7 @@ ghost use lib.Dec.{ltb};
 ghost use lib.Bits.{bitXor};
 ghost use lib.Count.{ones};
 ghost use lib.ListN.{length, getD};
-ghost use Rattle.information.specs.Information.{timesX, plusIfOdd, gf16Mul, generatorTimes, remainder, wordOf, distance, leastOf, nearest, positionRow, positionColumn, infoPosition, numberOf, copyOf, bitOf, copyWritten, infoWritten, infoOf, infoAnswer, nearestOf, nearestAnswer};
+ghost use Rattle.information.specs.Information.{timesX, plusIfOdd, gf16Mul, generatorTimes, remainder, wordOf, wordDistance, leastOf, nearestWord, positionRow, positionColumn, infoPosition, numberFrom, copyOf, bitOf, copyWritten, infoWritten, infoOf, infoAnswer, nearestOf, nearestAnswer};
 ghost use Rattle.information.specs.Inner.{Found, ArmWritten};
 use symbol::Version;
 
@@ -166,7 +166,7 @@ fn nearer(best: Best, k: usize, distance: u32) -> Best
 // The first of the 16 words of a version with the least distance.
 fn nearest_word(version: usize, first: u64, second: u64) -> Best
     requires { ⌜ version ≤ 84 ⌝ }
-    ensures { λ r. ⌜ Found (distance version first second) (nearest version first second) r ⌝ }
+    ensures { λ r. ⌜ Found (wordDistance version first second) (nearestWord version first second) r ⌝ }
 {
     let differences = DIFFERENCES;
     let word = word_of(wide((version + 20) * 16));
@@ -253,8 +253,8 @@ fn wide8(x: u8) -> u64
 // The bits from to below to of a copy, behind those before. Called for one arm at a time: the compiler then knows the row or the column of
 // each bit and unrolls the loop.
 fn read_arm(square: &[u8], side: usize, second: bool, word: u64, from: usize, to: usize) -> u64
-    requires { ⌜ (23 ≤ side) × (side ≤ 189) × (side * side ≤ length (now square)) × ((i : ℕ) → getD (now square) i 0 < 2) × (from ≤ to) × (to ≤ 34) × (word ≡ numberOf (λ n. getD (now square) (infoPosition side second n) 0) from) ⌝ }
-    ensures { λ r. ⌜ r ≡ numberOf (λ n. getD (now (square .entry)) (infoPosition side second n) 0) to ⌝ }
+    requires { ⌜ (23 ≤ side) × (side ≤ 189) × (side * side ≤ length (now square)) × ((i : ℕ) → getD (now square) i 0 < 2) × (from ≤ to) × (to ≤ 34) × (word ≡ numberFrom (λ n. getD (now square) (infoPosition side second n) 0) from) ⌝ }
+    ensures { λ r. ⌜ r ≡ numberFrom (λ n. getD (now (square .entry)) (infoPosition side second n) 0) to ⌝ }
 {
     let mut w = word;
     let mut n = from;

@@ -12,7 +12,7 @@ use Rattle.field.specs.Field.{orderTest}
 use Rattle.field.proofs.Field.{passes}
 use Rattle.reed_solomon.specs.Block.{isCodeword, parityOf}
 use Rattle.reed_solomon.proofs.Search.{Bytes, found-passing}
-use Rattle.parity.specs.Encode.{dataOf, withParity, writtenOf}
+use Rattle.parity.specs.Encode.{dataPart, withParity, writtenOf}
 use Rattle.parity.proofs.Followed.{append-bytes, take-bytes, Follows, follows-one, follows-found, some-follows}
 
 module _ (poly : ℕ) (test : T (orderTest poly)) (first parity : ℕ) (ds : List ℕ) where
@@ -40,16 +40,16 @@ module _ (poly : ℕ) (test : T (orderTest poly)) (first parity : ℕ) (ds : Lis
 -- What is written is a codeword of the same length with the same data.
 pub written-codeword : (poly : ℕ) → T (orderTest poly) → (first parity : ℕ) (block : List ℕ) → Bytes block → parity ≤ length block → length block ≤ 255
     → T (isCodeword poly first parity (writtenOf poly first parity block)) × (length (writtenOf poly first parity block) ≡ length block)
-    × (dataOf parity (writtenOf poly first parity block) ≡ dataOf parity block) × Bytes (writtenOf poly first parity block)
+    × (dataPart parity (writtenOf poly first parity block) ≡ dataPart parity block) × Bytes (writtenOf poly first parity block)
 unfolding writtenOf withParity
 written-codeword poly test first parity block b h small =
-    let ds = dataOf parity block in
+    let ds = dataPart parity block in
     let k : length ds ≡ length block - parity = length-take-le (length block - parity) block (omega arith) in
     let bd : Bytes ds = take-bytes (length block - parity) block b in
     let r = has-parity poly test first parity ds bd (omega arith) in
     let n : length (ds ++ r .0) ≡ length block = length-append ds (r .0) ∙ omega (arith, r .2) in
     subst
-    (λ (w : List ℕ). T (isCodeword poly first parity w) × (length w ≡ length block) × (dataOf parity w ≡ ds) × Bytes w)
+    (λ (w : List ℕ). T (isCodeword poly first parity w) × (length w ≡ length block) × (dataPart parity w ≡ ds) × Bytes w)
     (sym (ap (withParity ds) (r .1))) (
       parity-makes-codeword poly test first parity ds (r .0) (r .1),
       n,

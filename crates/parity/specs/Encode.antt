@@ -14,8 +14,8 @@ pub record Encoding : Type 0 where
   pub block : List ℕ
 
 -- the data of a block: all but its last bytes
-abbrev pub dataOf : ℕ → List ℕ → List ℕ
-dataOf parity block = take (length block - parity) block
+abbrev pub dataPart : ℕ → List ℕ → List ℕ
+dataPart parity block = take (length block - parity) block
 
 -- data followed by their parity; there always is one where they are fit
 unfoldable pub withParity : List ℕ → Option (List ℕ) → List ℕ
@@ -24,7 +24,7 @@ withParity ds (some p) = ds ++ p
 
 -- the data of a block followed by their parity
 unfoldable pub writtenOf : ℕ → ℕ → ℕ → List ℕ → List ℕ
-writtenOf poly first parity block = withParity (dataOf parity block) (parityOf poly first parity (dataOf parity block))
+writtenOf poly first parity block = withParity (dataPart parity block) (parityOf poly first parity (dataPart parity block))
 
 -- 5, and the block untouched, as in Correct a block; else 0, and the parity written behind the data
 unfoldable pub encodeOf : ℕ → ℕ → ℕ → List ℕ → Encoding

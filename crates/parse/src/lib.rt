@@ -5,7 +5,7 @@ ghost use Prim.Native.Nat.{_≤_};
 ghost use lib.ListN.{length, take, drop};
 ghost use Rattle.segments.specs.Segments.{segmentsOf};
 ghost use Rattle.segments.specs.Passes.{Passed};
-ghost use Rattle.segments.specs.FromData.{fromData, told};
+ghost use Rattle.segments.specs.FromData.{fromData, dataOutcome};
 use bits::Word;
 use segments::Answer;
 use segments::Count;
@@ -71,7 +71,7 @@ pub fn from_data_with(
     spare: &mut [u8],
     other: &mut [u8],
 ) -> Answer
-    ensures { λ r. ⌜ told r (now (payload .exit)) (now (script .exit)) ≡ fromData (now («data» .entry)) (now (payload .entry)) (now (script .entry)) ⌝ }
+    ensures { λ r. ⌜ dataOutcome r (now (payload .exit)) (now (script .exit)) ≡ fromData (now («data» .entry)) (now (payload .entry)) (now (script .entry)) ⌝ }
 {
     if 3886 < data.len() {
         return Answer::TooLong;
@@ -107,7 +107,7 @@ pub fn from_data_with(
 
 // The same with spare buffers of its own.
 pub fn from_data(data: &[u8], payload: &mut [u8], script: &mut [u8]) -> Answer
-    ensures { λ r. ⌜ told r (now (payload .exit)) (now (script .exit)) ≡ fromData (now («data» .entry)) (now (payload .entry)) (now (script .entry)) ⌝ }
+    ensures { λ r. ⌜ dataOutcome r (now (payload .exit)) (now (script .exit)) ≡ fromData (now («data» .entry)) (now (payload .entry)) (now (script .entry)) ⌝ }
 {
     let mut spare = [0u8; 8192];
     let mut other = [0u8; 4096];

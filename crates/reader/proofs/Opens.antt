@@ -10,7 +10,7 @@ use borrow.Author.Tests.{le-leb, lt-leb}
 use lib.Dec.{eqb, leb}
 use lib.ListN.{length, getD}
 use Rattle.symbol.specs.Version.{sideOf, isSide, sideVersion, sideRefusal, versionOf}
-use Rattle.symbol.specs.Version.{refusalOf as sideNumber}
+use Rattle.symbol.specs.Version.{sideNumber as sideNumber}
 use Rattle.symbol.specs.declared.Version.{Version}
 use Rattle.symbol.specs.declared.FromSide.{FromSide}
 use Rattle.symbol.specs.declared.FromSide.the-variants as from-side

@@ -12,7 +12,7 @@ use Rattle.segments.specs.declared.Answer.{Answer}
 use Rattle.segments.specs.declared.Answer.the-variants.{Read}
 use Rattle.segments.specs.Script.{Segment, payloadOf, scriptOf}
 use Rattle.segments.specs.Segments.{segmentsOf}
-use Rattle.segments.specs.FromData.{Outcome, told, refused, given, isBroken, fromData}
+use Rattle.segments.specs.FromData.{DataOutcome, dataOutcome, refusedData, given, isBroken, fromData}
 use Rattle.segments.proofs.Theorems.{room-enough}
 use Rattle.receipts.specs.declared.Told.{Told}
 use Rattle.receipts.specs.Inner.{Refuses, Answers, Tells}
@@ -26,7 +26,7 @@ answers-read a p s n t e f g h k =
       zero = λ z. g;
     })
 
-pub answers-refused : (k : ℕ) (b a : Answer) (n : ℕ) (t : Told) → a ≡ b → ((p s : List ℕ) → told b p s ≡ refused k p s) → (k ≡ 0 → ⊥) → Refuses k t → Answers a n t
+pub answers-refused : (k : ℕ) (b a : Answer) (n : ℕ) (t : Told) → a ≡ b → ((p s : List ℕ) → dataOutcome b p s ≡ refusedData k p s) → (k ≡ 0 → ⊥) → Refuses k t → Answers a n t
 answers-refused k b a n t e f d R =
     subst (λ (b : Answer). Answers b n t) (sym e)
     (record {
@@ -37,15 +37,15 @@ answers-refused k b a n t e f d R =
     })
 
 -- the numbers of an outcome are small
-pub record Little (o : Outcome) : Type 0 where
+pub record Little (o : DataOutcome) : Type 0 where
   pub number : o .refusal < 256
   pub payload : o .payloadLength < 65536
   pub script : o .scriptLength < 65536
 
-little-refused : (k : ℕ) (p c : List ℕ) → k < 256 → Little (refused k p c)
+little-refused : (k : ℕ) (p c : List ℕ) → k < 256 → Little (refusedData k p c)
 little-refused k p c h = record { number = h; payload = omega arith; script = omega arith }
 
-little-if : (b : Bool) (o q : Outcome) → Little o → Little q → Little (cond b o q)
+little-if : (b : Bool) (o q : DataOutcome) → Little o → Little q → Little (cond b o q)
 little-if true o q l m = l
 little-if false o q l m = m
 
@@ -63,7 +63,7 @@ from-data-little s p c h =
     (little-given (segmentsOf s .segments) p c (room-enough s h .0) (room-enough s h .1)))
 
 -- what is told of the answer is told of the outcome
-pub tells : (n : ℕ) (a : Answer) (t : Told) (d p₀ s₀ p s : List ℕ) (m : ℕ) → n < 65536 → length d ≡ m → m ≤ 3886 → Answers a n t → told a p s ≡ fromData d p₀ s₀
+pub tells : (n : ℕ) (a : Answer) (t : Told) (d p₀ s₀ p s : List ℕ) (m : ℕ) → n < 65536 → length d ≡ m → m ≤ 3886 → Answers a n t → dataOutcome a p s ≡ fromData d p₀ s₀
     → Tells n (fromData d p₀ s₀) t p s
 tells n a t d p₀ s₀ p s m h k k′ A e =
     let q = sym e ∙ A .is p s in

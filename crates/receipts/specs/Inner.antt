@@ -6,7 +6,7 @@ use mathlib.Core.List.{List}
 use Prim.Native.Nat.{ℕ, _<_}
 use lib.Dec.{eqb}
 use Rattle.segments.specs.declared.Answer.{Answer}
-use Rattle.segments.specs.FromData.{Outcome, told}
+use Rattle.segments.specs.FromData.{DataOutcome, dataOutcome}
 use Rattle.squares.specs.Receipt.{receiptOf, refusalReceipt}
 use Rattle.receipts.specs.declared.Mark.{Mark}
 use Rattle.receipts.specs.declared.Told.{Told}
@@ -31,12 +31,12 @@ pub record Refuses (n : ℕ) (t : Told) : Type 0 where
 
 -- what is told of an answer of Segments from data
 pub record Answers (a : Answer) (n : ℕ) (t : Told) : Type 0 where
-  pub is : (p s : List ℕ) → told a p s ≡ record { refusal = t .number; payloadLength = t .payload; scriptLength = t .script; payload = p; script = s }
+  pub is : (p s : List ℕ) → dataOutcome a p s ≡ record { refusal = t .number; payloadLength = t .payload; scriptLength = t .script; payload = p; script = s }
   pub count : (t .count ≡ 0) ⊎ (t .count ≡ n)
   pub zero : t .number ≡ 0 → t .count ≡ n
 
 -- what is told of an outcome of Segments from data, p and s being the buffers afterwards
-pub record Tells (n : ℕ) (o : Outcome) (t : Told) (p s : List ℕ) : Type 0 where
+pub record Tells (n : ℕ) (o : DataOutcome) (t : Told) (p s : List ℕ) : Type 0 where
   pub outcome : o ≡ record { refusal = t .number; payloadLength = t .payload; scriptLength = t .script; payload = p; script = s }
   pub count : t .number ≡ 0 → t .count ≡ n
   pub small : Small t

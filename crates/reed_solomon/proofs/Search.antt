@@ -9,7 +9,7 @@ use native.Mathlib.Omega.{arith}
 use native.Mathlib.Nat.{le-of-suc-le-suc, eq-or-lt-of-le}
 use lib.Dec.{T}
 use lib.ListN.{length, getD}
-use Rattle.reed_solomon.specs.Block.{led, allWords, orElse, firstOf}
+use Rattle.reed_solomon.specs.Block.{led, allWords, orElse, firstThat}
 
 -- a list of bytes
 abbrev pub Bytes : List ℕ → Type 0
@@ -81,21 +81,21 @@ of-all (suc n) c h =
 
 -- ---- the first that passes
 
-first-some : (t : List ℕ → Bool) (ws : List (List ℕ)) (c : List ℕ) → firstOf t ws ≡ some c → T (t c) × In c ws
-unfolding firstOf
+first-some : (t : List ℕ → Bool) (ws : List (List ℕ)) (c : List ℕ) → firstThat t ws ≡ some c → T (t c) × In c ws
+unfolding firstThat
 first-some t [] c e = absurd (let z : _≡_ {A = ℕ} 0 1 = cc in omega arith)
 first-some t (w ∷ ws) c e = go (t w) refl e (first-some t ws c)
   where
-    go : (b : Bool) → t w ≡ b → orElse b w (firstOf t ws) ≡ some c → (firstOf t ws ≡ some c → T (t c) × In c ws) → T (t c) × In c (w ∷ ws)
+    go : (b : Bool) → t w ≡ b → orElse b w (firstThat t ws) ≡ some c → (firstThat t ws ≡ some c → T (t c) × In c ws) → T (t c) × In c (w ∷ ws)
     go true q g f = let z : w ≡ c = cc in (subst (λ (x : List ℕ). T (t x)) z (subst T (sym q) tt), inl (sym z))
     go false q g f = let r = f g in (r .0, inr (r .1))
 
-first-none : (t : List ℕ → Bool) (ws : List (List ℕ)) (c : List ℕ) → firstOf t ws ≡ none → In c ws → T (t c) → ⊥
-unfolding firstOf
+first-none : (t : List ℕ → Bool) (ws : List (List ℕ)) (c : List ℕ) → firstThat t ws ≡ none → In c ws → T (t c) → ⊥
+unfolding firstThat
 first-none t [] c e h p = h
 first-none t (w ∷ ws) c e h p = go (t w) refl e h (first-none t ws c)
   where
-    go : (b : Bool) → t w ≡ b → orElse b w (firstOf t ws) ≡ none → In c (w ∷ ws) → (firstOf t ws ≡ none → In c ws → T (t c) → ⊥) → ⊥
+    go : (b : Bool) → t w ≡ b → orElse b w (firstThat t ws) ≡ none → In c (w ∷ ws) → (firstThat t ws ≡ none → In c ws → T (t c) → ⊥) → ⊥
     go true q g i f = let z : _≡_ {A = ℕ} 0 1 = cc in omega arith
     go false q g (inl z) f = subst T (ap t z ∙ q) p
     go false q g (inr i) f = f g i p
@@ -107,28 +107,28 @@ pub record Passing (t : List ℕ → Bool) (n : ℕ) (c : List ℕ) : Type 0 whe
   pub bytes : Bytes c
 
 module _ (t : List ℕ → Bool) (n : ℕ) where
-  pub found-passing : (c : List ℕ) → firstOf t (allWords n) ≡ some c → Passing t n c
+  pub found-passing : (c : List ℕ) → firstThat t (allWords n) ≡ some c → Passing t n c
   found-passing c e =
       let r = first-some t (allWords n) c e in
       let s = of-all n c (r .1) in
       record { test = r .0; size = s .0; bytes = s .1 }
 
-  none-passing : firstOf t (allWords n) ≡ none → (c : List ℕ) → Passing t n c → ⊥
+  none-passing : firstThat t (allWords n) ≡ none → (c : List ℕ) → Passing t n c → ⊥
   none-passing e c p =
       first-none t (allWords n) c e (subst (λ (m : ℕ). In c (allWords m)) (p .size) (in-all c (p .bytes))) (p .test)
 
   -- nothing passes: nothing is found
-  pub passing-none : ((c : List ℕ) → Passing t n c → ⊥) → firstOf t (allWords n) ≡ none
-  passing-none h = go (firstOf t (allWords n)) refl
+  pub passing-none : ((c : List ℕ) → Passing t n c → ⊥) → firstThat t (allWords n) ≡ none
+  passing-none h = go (firstThat t (allWords n)) refl
     where
-      go : (o : Option (List ℕ)) → firstOf t (allWords n) ≡ o → o ≡ none
+      go : (o : Option (List ℕ)) → firstThat t (allWords n) ≡ o → o ≡ none
       go none e = refl
       go (some c) e = absurd (h c (found-passing c e))
 
   -- one passes and no other does: it is found
-  pub passing-some : (c : List ℕ) → Passing t n c → ((d : List ℕ) → Passing t n d → d ≡ c) → firstOf t (allWords n) ≡ some c
-  passing-some c p u = go (firstOf t (allWords n)) refl
+  pub passing-some : (c : List ℕ) → Passing t n c → ((d : List ℕ) → Passing t n d → d ≡ c) → firstThat t (allWords n) ≡ some c
+  passing-some c p u = go (firstThat t (allWords n)) refl
     where
-      go : (o : Option (List ℕ)) → firstOf t (allWords n) ≡ o → o ≡ some c
+      go : (o : Option (List ℕ)) → firstThat t (allWords n) ≡ o → o ≡ some c
       go none e = absurd (none-passing e c p)
       go (some d) e = ap some (u d (found-passing d e))

@@ -46,9 +46,9 @@ orElse true w rest = some w
 orElse false w rest = rest
 
 -- the first of ws that passes a test
-unfoldable pub firstOf : (List ℕ → Bool) → List (List ℕ) → Option (List ℕ)
-firstOf test [] = none
-firstOf test (w ∷ ws) = orElse (test w) w (firstOf test ws)
+unfoldable pub firstThat : (List ℕ → Bool) → List (List ℕ) → Option (List ℕ)
+firstThat test [] = none
+firstThat test (w ∷ ws) = orElse (test w) w (firstThat test ws)
 
 -- a word of n bytes
 unfoldable pub isWord : ℕ → List ℕ → Bool
@@ -60,11 +60,11 @@ inReach poly first parity block w = isWord (length block) w && (isCodeword poly 
 
 -- the codeword in reach of a block, if there is one: a search over all words of its length, to be believed and not to be run
 unfoldable pub nearest : ℕ → ℕ → ℕ → List ℕ → Option (List ℕ)
-nearest poly first parity block = firstOf (inReach poly first parity block) (allWords (length block))
+nearest poly first parity block = firstThat (inReach poly first parity block) (allWords (length block))
 
 -- the parity of data: bytes that make a codeword behind them
 unfoldable pub parityOf : ℕ → ℕ → ℕ → List ℕ → Option (List ℕ)
-parityOf poly first parity ds = firstOf (λ p. isCodeword poly first parity (ds ++ p)) (allWords parity)
+parityOf poly first parity ds = firstThat (λ p. isCodeword poly first parity (ds ++ p)) (allWords parity)
 
 -- what is no block of that parity: parity 0, parity ≥ length or length > 255
 unfoldable pub unfit : ℕ → List ℕ → Bool

@@ -11,7 +11,7 @@ use Rattle.bits.proofs.Reading.{length-bits}
 use Rattle.bits.proofs.Words.{length-low}
 use Rattle.bits.proofs.Bytes.{bits-words}
 use Rattle.segments.specs.Script.{Segment, run, eci}
-use Rattle.script.specs.Writer.{numericWords, textWords, regionWords, doubleWords, fourCode, eciBits, modeBits, encodingOf, encodings, paddedBits, dataOf}
+use Rattle.script.specs.Writer.{numericWords, textWords, regionWords, doubleWords, fourCode, eciBits, modeBits, encodingOf, encodings, paddedBits, dataBytes}
 use Rattle.script.proofs.Tests.{small-cons}
 
 -- a list of bits
@@ -69,13 +69,13 @@ pub padded-small : (n : ℕ) (gs : List Segment) → (i : ℕ) → getD (paddedB
 padded-small n gs =
     append-small (encodings gs) (replicate (8 * n - length (encodings gs)) 0) (encodings-small gs) (zeros-small (8 * n - length (encodings gs)))
 
-pub data-bits : (n : ℕ) (gs : List Segment) → length (encodings gs) ≤ 8 * n → bitsOf (dataOf n gs) ≡ paddedBits n gs
+pub data-bits : (n : ℕ) (gs : List Segment) → length (encodings gs) ≤ 8 * n → bitsOf (dataBytes n gs) ≡ paddedBits n gs
 data-bits n gs h =
     bits-words n (paddedBits n gs) (padded-length n gs h) (padded-small n gs)
 
-pub data-length : (n : ℕ) (gs : List Segment) → length (encodings gs) ≤ 8 * n → length (dataOf n gs) ≡ n
+pub data-length : (n : ℕ) (gs : List Segment) → length (encodings gs) ≤ 8 * n → length (dataBytes n gs) ≡ n
 data-length n gs h =
-    let e : 8 * length (dataOf n gs) ≡ 8 * n = sym (length-bits (dataOf n gs)) ∙ ap length (data-bits n gs h) ∙ padded-length n gs h in
+    let e : 8 * length (dataBytes n gs) ≡ 8 * n = sym (length-bits (dataBytes n gs)) ∙ ap length (data-bits n gs h) ∙ padded-length n gs h in
     omega arith
 
 -- each segment has bits

@@ -6,7 +6,7 @@ use Prim.Native.Nat.{ℕ, zero, suc, _<_}
 use borrow.Author.Tests.{ltb-true, eqb-true}
 use lib.Dec.{T, ltb, eqb}
 use lib.ListN.{getD}
-use Rattle.segments.specs.Segments.{charOf, highOf, lowOf, regionSize, firstOf, secondOf}
+use Rattle.segments.specs.Segments.{charOf, highOf, lowOf, regionSize, firstByte, secondByte}
 use Rattle.script.specs.Writer.{codeOf, inSubset, inText, pairCode, inRegion, inRegions, doubleCode, inDouble, same}
 
 pub false-true : false ≡ true → ⊥
@@ -51,12 +51,12 @@ other-region true a b t e = other-one (inRegion true a b) (inRegion false a b) t
 other-region false a b t e = other-two (inRegion true a b) (inRegion false a b) t e
 
 -- the two-byte mode has a pair
-pub double-has : (a b : ℕ) → inDouble a b ≡ true → (doubleCode a b < 23940) × (firstOf (doubleCode a b) ≡ a) × (secondOf (doubleCode a b) ≡ b)
+pub double-has : (a b : ℕ) → inDouble a b ≡ true → (doubleCode a b < 23940) × (firstByte (doubleCode a b) ≡ a) × (secondByte (doubleCode a b) ≡ b)
 unfolding inDouble
 double-has a b e =
-    let h = both (ltb (doubleCode a b) 23940) (eqb (firstOf (doubleCode a b)) a && eqb (secondOf (doubleCode a b)) b) e in
-    let g = both (eqb (firstOf (doubleCode a b)) a) (eqb (secondOf (doubleCode a b)) b) (h .1) in
-    (ltb-true (doubleCode a b) 23940 (h .0), eqb-true (firstOf (doubleCode a b)) a (g .0), eqb-true (secondOf (doubleCode a b)) b (g .1))
+    let h = both (ltb (doubleCode a b) 23940) (eqb (firstByte (doubleCode a b)) a && eqb (secondByte (doubleCode a b)) b) e in
+    let g = both (eqb (firstByte (doubleCode a b)) a) (eqb (secondByte (doubleCode a b)) b) (h .1) in
+    (ltb-true (doubleCode a b) 23940 (h .0), eqb-true (firstByte (doubleCode a b)) a (g .0), eqb-true (secondByte (doubleCode a b)) b (g .1))
 
 pub same-is : (xs ys : List ℕ) → same xs ys ≡ true → xs ≡ ys
 unfolding same

@@ -10,8 +10,8 @@ use lib.ListN.{length, getD, drop}
 use Rattle.segments.specs.Script.{Segment}
 use Rattle.segments.specs.Segments.{segmentsOf}
 use Rattle.segments.specs.FromData.{fromData}
-use Rattle.script.specs.Writer.{allHave, encodings, dataOf}
-use Rattle.script.specs.Check.{commandsOf, encoded}
+use Rattle.script.specs.Writer.{allHave, encodings, dataBytes}
+use Rattle.script.specs.Check.{commandsOf, scriptData}
 use Rattle.script.specs.Inner.{most, capped, Fits}
 use Rattle.script.proofs.Back.{AllLegal, Whole, round, encodings-length}
 use Rattle.script.proofs.Data.{data-bits, data-length, count-bits}
@@ -34,17 +34,17 @@ module _ (s p : List ℕ) (n : ℕ) (b : (i : ℕ) → getD s i 0 < 256) (f : Fi
   encodings-fit = rw (encodings-length (f .segments) (again .2) (f .have)) (f .room)
 
   -- the encoding has n bytes
-  pub encoded-data : (encoded n (commandsOf s p) ≡ dataOf n (f .segments)) × (length (dataOf n (f .segments)) ≡ n)
-  encoded-data = (ap (encoded n) (f .are), data-length n (f .segments) encodings-fit)
+  pub encoded-data : (scriptData n (commandsOf s p) ≡ dataBytes n (f .segments)) × (length (dataBytes n (f .segments)) ≡ n)
+  encoded-data = (ap (scriptData n) (f .are), data-length n (f .segments) encodings-fit)
 
-read-back : (n : ℕ) (gs : List Segment) → AllLegal gs → allHave gs ≡ true → length (encodings gs) ≤ 8 * n → Whole (segmentsOf (dataOf n gs)) gs
+read-back : (n : ℕ) (gs : List Segment) → AllLegal gs → allHave gs ≡ true → length (encodings gs) ≤ 8 * n → Whole (segmentsOf (dataBytes n gs)) gs
 read-back n gs l h k = rw (data-length n gs k, data-bits n gs k) (round (8 * n + 1) gs (8 * n - length (encodings gs)) (omega (arith, count-bits gs)) l h)
 
 -- ROUND TRIP. For every script and payload that are accepted and whose bits fit a run of n bytes, at most 3,886: Segments from data of the
 -- encoding, with buffers long enough, gives exactly that script and payload.
 pub round-trip : (s p : List ℕ) (n : ℕ) (buffer other : List ℕ) → ((i : ℕ) → getD s i 0 < 256) → Fits s p n → n ≤ 3886
     → length p ≤ length buffer → length s ≤ length other
-    → fromData (encoded n (commandsOf s p)) buffer other
+    → fromData (scriptData n (commandsOf s p)) buffer other
     ≡ record { refusal = 0; payloadLength = length p; scriptLength = length s; payload = p ++ drop (length p) buffer; script = s ++ drop (length s) other }
 round-trip s p n buffer other b f m lp ls =
     let gs = f .segments in

@@ -7,7 +7,7 @@ use lib.Dec.{ltb, eqb, leb}
 use lib.ListN.{length, replicate}
 use Rattle.bits.specs.Bits.{lowBits, wordBits, words}
 use Rattle.segments.specs.Script.{Segment, run, eci}
-use Rattle.segments.specs.Segments.{charOf, highOf, lowOf, regionSize, firstOf, secondOf, fourBytes}
+use Rattle.segments.specs.Segments.{charOf, highOf, lowOf, regionSize, firstByte, secondByte, fourBytes}
 
 -- every one passes a test
 abbrev pub all : (ℕ → Bool) → List ℕ → Bool
@@ -98,7 +98,7 @@ unfoldable pub doubleCode : ℕ → ℕ → ℕ
 doubleCode a b = (a - 0x81) * 190 + cond (ltb b 0x7F) (b - 0x40) (b - 0x41)
 
 unfoldable pub inDouble : ℕ → ℕ → Bool
-inDouble a b = ltb (doubleCode a b) 23940 && (eqb (firstOf (doubleCode a b)) a && eqb (secondOf (doubleCode a b)) b)
+inDouble a b = ltb (doubleCode a b) 23940 && (eqb (firstByte (doubleCode a b)) a && eqb (secondByte (doubleCode a b)) b)
 
 unfoldable pub doubleWords : List ℕ → List ℕ
 doubleWords [] = 32767 ∷ []
@@ -197,5 +197,5 @@ bitsOfSegments (g ∷ gs) = bitsOfSegment g + bitsOfSegments gs
 abbrev pub paddedBits : ℕ → List Segment → List ℕ
 paddedBits n gs = encodings gs ++ replicate (8 * n - length (encodings gs)) 0
 
-abbrev pub dataOf : ℕ → List Segment → List ℕ
-dataOf n gs = words 8 (paddedBits n gs)
+abbrev pub dataBytes : ℕ → List Segment → List ℕ
+dataBytes n gs = words 8 (paddedBits n gs)

@@ -13,7 +13,7 @@ use lib.Seq.{getD-drop}
 use Rattle.bits.specs.Bits.{value, firstWords, words}
 use Rattle.bits.proofs.Reading.{value-bound}
 use Rattle.segments.specs.Script.{Segment, run, eci, bytesOf, commandOf, payloadOf, scriptOf}
-use Rattle.segments.specs.Segments.{cut, lacking, Result, failed, got, andThen, before, inBits, digits, groupsOf, numericOf, charOf, textOf, bytesRun, bytesMode, highOf, lowOf, regionSize, regionOf, firstOf, secondOf, doubleByteOf, fourBytes, fourByteOf, eciValue, eciOf, bytesOfMode, segmentOf, Ending, endMark, fewBits, broken, Parsed, ended, following, parse}
+use Rattle.segments.specs.Segments.{cut, lacking, Result, failed, got, andThen, before, inBits, digits, groupsOf, numericOf, charOf, textOf, bytesRun, bytesMode, highOf, lowOf, regionSize, regionOf, firstByte, secondByte, doubleByteOf, fourBytes, fourByteOf, eciValue, eciOf, bytesOfMode, segmentOf, Ending, endMark, fewBits, broken, Parsed, ended, following, parse}
 use Rattle.segments.proofs.Turns.{length-digits}
 use Rattle.segments.proofs.Steps.{command-length}
 
@@ -93,8 +93,8 @@ unfolding doubleByteOf
 double-sized [] = tt
 double-sized (w ∷ ws) =
     cond-sized 2 (w ∷ ws) (eqb w 32767) (got [] 1) _ (end-sized 2 w ws)
-    (cond-sized 2 (w ∷ ws) (ltb w 23940) (before (firstOf w ∷ secondOf w ∷ []) (doubleByteOf ws)) (failed lacking)
-    (before-sized 2 w (firstOf w ∷ secondOf w ∷ []) ws (doubleByteOf ws) (omega arith) (double-sized ws)) tt)
+    (cond-sized 2 (w ∷ ws) (ltb w 23940) (before (firstByte w ∷ secondByte w ∷ []) (doubleByteOf ws)) (failed lacking)
+    (before-sized 2 w (firstByte w ∷ secondByte w ∷ []) ws (doubleByteOf ws) (omega arith) (double-sized ws)) tt)
 
 -- ---- bits
 

@@ -11,7 +11,7 @@ use lib.Seq.{sets, drop-drop}
 use Rattle.bits.specs.Bits.{bitsOf, words}
 use Rattle.bits.proofs.Reading.{length-left}
 use Rattle.bits.proofs.Words.{WordAt, sets-append}
-use Rattle.segments.specs.Segments.{cut, lacking, Result, failed, got, andThen, before, inBits, digits, groupsOf, numericOf, charOf, textOf, bytesRun, bytesMode, highOf, lowOf, regionSize, regionOf, firstOf, secondOf, doubleByteOf, fourBytes, fourByteOf}
+use Rattle.segments.specs.Segments.{cut, lacking, Result, failed, got, andThen, before, inBits, digits, groupsOf, numericOf, charOf, textOf, bytesRun, bytesMode, highOf, lowOf, regionSize, regionOf, firstByte, secondByte, doubleByteOf, fourBytes, fourByteOf}
 use Rattle.segments.specs.declared.Count.{Count}
 use Rattle.segments.specs.declared.Count.the-variants.{Done, Cut, Lacking}
 use Rattle.segments.specs.Passes.{stopped, Inside, at, behind, groupsAt, numericAt, textAt, bytesRunAt, bytesAt, regionAt, doubleByteAt, fourByteAt}
@@ -187,11 +187,11 @@ module _ (s : List ℕ) (i n : ℕ) (o : List ℕ) (w : ℕ) (r : WordAt 15 i w 
   unfolding doubleByteOf
   double-lacks h l = rw (r .next, ne-eqb w 32767 h, le-ltb w 23940 l)
 
-  pub double-pair : (w ≡ 32767 → ⊥) → w < 23940 → doubleByteAt s i n o ≡ doubleByteAt s (i + 15) (n + 2) (sets o n (firstOf w ∷ secondOf w ∷ []))
+  pub double-pair : (w ≡ 32767 → ⊥) → w < 23940 → doubleByteAt s i n o ≡ doubleByteAt s (i + 15) (n + 2) (sets o n (firstByte w ∷ secondByte w ∷ []))
   unfolding doubleByteOf
   double-pair h l =
       rw (r .next, ne-eqb w 32767 h, lt-ltb w 23940 l)
-      (behind-before 15 i n o (firstOf w ∷ secondOf w ∷ []) (doubleByteOf (words 15 (drop (i + 15) (bitsOf s)))))
+      (behind-before 15 i n o (firstByte w ∷ secondByte w ∷ []) (doubleByteOf (words 15 (drop (i + 15) (bitsOf s)))))
 
 -- ---- four-byte
 

@@ -11,7 +11,7 @@ use Rattle.segments.specs.Script.{Segment, payloadOf, scriptOf}
 use Rattle.segments.specs.Segments.{Ending, endMark, fewBits, broken, segmentsOf}
 
 -- what the operation answers and what the two lent buffers hold afterwards
-pub record Outcome : Type 0 where
+pub record DataOutcome : Type 0 where
   pub refusal : ℕ
   pub payloadLength : ℕ
   pub scriptLength : ℕ
@@ -19,15 +19,15 @@ pub record Outcome : Type 0 where
   pub script : List ℕ
 
 -- a refusal leaves the payload buffer p and the script buffer c as they were
-abbrev pub refused : ℕ → List ℕ → List ℕ → Outcome
-refused k p c = record { refusal = k; payloadLength = 0; scriptLength = 0; payload = p; script = c }
+abbrev pub refusedData : ℕ → List ℕ → List ℕ → DataOutcome
+refusedData k p c = record { refusal = k; payloadLength = 0; scriptLength = 0; payload = p; script = c }
 
 -- segments given in the buffers p and c
-abbrev pub given : List Segment → List ℕ → List ℕ → Outcome
+abbrev pub given : List Segment → List ℕ → List ℕ → DataOutcome
 given gs p c =
-    cond (eqb (length (payloadOf gs)) 0) (refused 8 p c)
-    (cond (ltb (length p) (length (payloadOf gs))) (refused 9 p c)
-    (cond (ltb (length c) (length (scriptOf gs))) (refused 10 p c)
+    cond (eqb (length (payloadOf gs)) 0) (refusedData 8 p c)
+    (cond (ltb (length p) (length (payloadOf gs))) (refusedData 9 p c)
+    (cond (ltb (length c) (length (scriptOf gs))) (refusedData 10 p c)
     (record {
       refusal = 0;
       payloadLength = length (payloadOf gs);
@@ -43,16 +43,16 @@ isBroken fewBits = false
 isBroken (broken bad) = true
 
 -- Segments from data: the data s, the payload buffer p and the script buffer c
-abbrev pub fromData : List ℕ → List ℕ → List ℕ → Outcome
+abbrev pub fromData : List ℕ → List ℕ → List ℕ → DataOutcome
 fromData s p c =
-    cond (ltb 3886 (length s)) (refused 2 p c)
-    (cond (isBroken (segmentsOf s .end)) (refused 7 p c) (given (segmentsOf s .segments) p c))
+    cond (ltb 3886 (length s)) (refusedData 2 p c)
+    (cond (isBroken (segmentsOf s .end)) (refusedData 7 p c) (given (segmentsOf s .segments) p c))
 
 -- what an answer says, with what the buffers hold afterwards
-abbrev pub told : Answer → List ℕ → List ℕ → Outcome
-told (Read n m) p c = record { refusal = 0; payloadLength = n; scriptLength = m; payload = p; script = c }
-told TooLong p c = refused 2 p c
-told Broken p c = refused 7 p c
-told Empty p c = refused 8 p c
-told PayloadFull p c = refused 9 p c
-told ScriptFull p c = refused 10 p c
+abbrev pub dataOutcome : Answer → List ℕ → List ℕ → DataOutcome
+dataOutcome (Read n m) p c = record { refusal = 0; payloadLength = n; scriptLength = m; payload = p; script = c }
+dataOutcome TooLong p c = refusedData 2 p c
+dataOutcome Broken p c = refusedData 7 p c
+dataOutcome Empty p c = refusedData 8 p c
+dataOutcome PayloadFull p c = refusedData 9 p c
+dataOutcome ScriptFull p c = refusedData 10 p c

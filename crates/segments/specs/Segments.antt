@@ -95,15 +95,15 @@ regionOf region (w ∷ ws) =
 
 -- ---- two-byte (8.8): words of 15 bits, ended by 32767
 
-unfoldable pub firstOf : ℕ → ℕ
-firstOf w = 0x81 + w / 190
+unfoldable pub firstByte : ℕ → ℕ
+firstByte w = 0x81 + w / 190
 
-unfoldable pub secondOf : ℕ → ℕ
-secondOf w = cond (ltb (w % 190) 63) (0x40 + w % 190) (0x41 + w % 190)
+unfoldable pub secondByte : ℕ → ℕ
+secondByte w = cond (ltb (w % 190) 63) (0x40 + w % 190) (0x41 + w % 190)
 
 unfoldable pub doubleByteOf : List ℕ → Result (List ℕ)
 doubleByteOf [] = failed cut
-doubleByteOf (w ∷ ws) = cond (eqb w 32767) (got [] 1) (cond (ltb w 23940) (before (firstOf w ∷ secondOf w ∷ []) (doubleByteOf ws)) (failed lacking))
+doubleByteOf (w ∷ ws) = cond (eqb w 32767) (got [] 1) (cond (ltb w 23940) (before (firstByte w ∷ secondByte w ∷ []) (doubleByteOf ws)) (failed lacking))
 
 -- ---- four-byte (8.9): one character in 21 bits
 

@@ -11,7 +11,7 @@ ghost use lib.ListN.{length, drop, set};
 ghost use lib.Seq.{sets};
 ghost use Rattle.bits.specs.Bits.{bitsOf};
 ghost use Rattle.segments.specs.Script.{commandOf, runCommand, eci};
-ghost use Rattle.segments.specs.Segments.{digits, charOf, highOf, lowOf, regionSize, firstOf, secondOf, fourBytes, eciOf, eciValue, segmentOf};
+ghost use Rattle.segments.specs.Segments.{digits, charOf, highOf, lowOf, regionSize, firstByte, secondByte, fourBytes, eciOf, eciValue, segmentOf};
 ghost use Rattle.segments.specs.Passes.{countOf, Left, Inside, RegionLeft, EciLeft, Stepped, numericAt, textAt, bytesRunAt, bytesAt, regionAt, doubleByteAt, fourByteAt, runAt};
 
 // Two numbers: a position with the payload bytes there or with an ECI's value, or the lengths of payload and script.
@@ -339,13 +339,13 @@ fn region_count(r: usize) -> Count
 // The two bytes of a 15-bit value.
 pub fn first_byte(w: usize) -> usize
     requires { ⌜ w < 23940 ⌝ }
-    ensures { λ r. ⌜ (r < 256) × (r ≡ firstOf w) ⌝ }
+    ensures { λ r. ⌜ (r < 256) × (r ≡ firstByte w) ⌝ }
 {
     0x81 + w / 190
 }
 
 pub fn second_byte(w: usize) -> usize
-    ensures { λ r. ⌜ (r < 256) × (r ≡ secondOf w) ⌝ }
+    ensures { λ r. ⌜ (r < 256) × (r ≡ secondByte w) ⌝ }
 {
     let rest = w % 190;
     if rest < 63 {

@@ -13,7 +13,7 @@ use lib.ListN.{length}
 use Rattle.symbol.specs.Version.{isSide, sideVersion}
 use Rattle.information.specs.Information.{isInfo}
 use Rattle.reed_solomon.specs.Block.{distance, nearest}
-use Rattle.corrector.specs.Correct.{Outcome, settled}
+use Rattle.corrector.specs.Correct.{BlockOutcome, settled}
 use Rattle.field.proofs.Instances.{passes-163}
 use Rattle.reed_solomon.proofs.Nearest.{near-none, near-reach}
 use Rattle.reed_solomon.proofs.Theorems.{found-in-reach, in-reach-found, no-block-has-two}
@@ -21,13 +21,13 @@ use Rattle.blocks.specs.Blocks.{Shape, shapesOf, totalSize, cut, dataParts}
 use Rattle.blocks.proofs.Rows.{Sound}
 use Rattle.blocks.proofs.Cuts.{Shaped, cut-shaped}
 use Rattle.blocks.proofs.Theorems.{shapes-total, shapes-sound}
-use Rattle.blockwise.specs.Blockwise.{refusalOf, countOf, blocksOf, corrected, dataOf, blockAt, parityAt}
+use Rattle.blockwise.specs.Blockwise.{firstRefused, countOf, blocksOf, corrected, correctedData, blockAt, parityAt}
 use Rattle.blockwise.proofs.Corrects.{blocks-shaped}
 use Rattle.blockwise.proofs.Settle.{block-small, at-settled}
 use Rattle.blockwise.proofs.Theorems as blocks
 use Rattle.segments.specs.Segments.{segmentsOf}
 use Rattle.segments.specs.Script.{Segment, payloadOf, scriptOf}
-use Rattle.segments.specs.FromData.{Outcome as Given, refused as refusedData, given, isBroken, fromData}
+use Rattle.segments.specs.FromData.{DataOutcome as Given, refusedData as refusedData, given, isBroken, fromData}
 use Rattle.squares.specs.Read.{Reading, refused, unless, levelIn, maskIn, distanceIn, streamFrom, blocksIn, readRefusal, knownRefusal}
 use Rattle.squares.specs.Read.{told, bodyOf, withReceipt, readOf, readKnownOf}
 use Rattle.squares.specs.Promise.{InReach, EachInReach, setTo, correctionsAt}
@@ -88,11 +88,11 @@ module _ (v l k d : ℕ) (sq p s : List ℕ) (low : 1 ≤ v) (high : v ≤ 84) (
   size : length (streamFrom v k sq) ≡ totalSize (shapesOf v l)
   size = stream-length v k sq ∙ sym (shapes-total v l low high level)
 
-  body-told : refusalOf (corrected bs stream) ≡ 0 → bodyOf v l k d sq p s ≡ told v l k d (countOf (corrected bs stream)) (fromData (dataOf bs stream) p s)
+  body-told : firstRefused (corrected bs stream) ≡ 0 → bodyOf v l k d sq p s ≡ told v l k d (countOf (corrected bs stream)) (fromData (correctedData bs stream) p s)
   unfolding bodyOf
-  body-told e = simp (eq-eqb (refusalOf (corrected bs stream)) 0 e)
+  body-told e = simp (eq-eqb (firstRefused (corrected bs stream)) 0 e)
 
-  body-refused : refusalOf (corrected bs stream) ≡ 6 → bodyOf v l k d sq p s ≡ refused 6 p s
+  body-refused : firstRefused (corrected bs stream) ≡ 6 → bodyOf v l k d sq p s ≡ refused 6 p s
   unfolding bodyOf
   body-refused e = simp e
 
@@ -117,7 +117,7 @@ module _ (v l k d : ℕ) (sq p s : List ℕ) (low : 1 ≤ v) (high : v ≤ 84) (
   unfolding blocksIn told
   six-lost e = elim (blocks.zero-or-six bs sound stream size) [
     | inr z ↦ (let x = blocks.six-then-lost bs sound stream size z in (x .0, x .1, λ w N. not-both w (x .2) (found (x .0) (x .1) w N)))
-    | inl z ↦ absurd (data-not-six (dataOf bs stream) p s (sym (ap (λ (r : Reading). r .number) (body-told z)) ∙ e))
+    | inl z ↦ absurd (data-not-six (correctedData bs stream) p s (sym (ap (λ (r : Reading). r .number) (body-told z)) ∙ e))
   ]
 
   -- where each has one, each is set to it
@@ -146,7 +146,7 @@ module _ (v l k d : ℕ) (sq p s : List ℕ) (low : 1 ≤ v) (high : v ≤ 84) (
   pub corrections : (j : ℕ) → j < length bs → (w : List ℕ) → InReach v l k sq j w
       → correctionsAt v l k sq j ≡ distance (blockAt (blocksIn v l k sq) j) w
   unfolding blocksIn settled
-  corrections j h w N = ap (λ (o : Outcome). o .count) (at-settled bs (cut bs stream) sound shaped j h ∙ ap (settled (blockAt (cut bs stream) j)) (found j h w N))
+  corrections j h w N = ap (λ (o : BlockOutcome). o .count) (at-settled bs (cut bs stream) sound shaped j h ∙ ap (settled (blockAt (cut bs stream) j)) (found j h w N))
 
   -- no block has two
   pub no-two : (j : ℕ) → j < length bs → (u w : List ℕ) → InReach v l k sq j u → InReach v l k sq j w → u ≡ w

@@ -5,9 +5,9 @@ use lib.ListN.{length}
 use Rattle.bits.specs.Bits.{words}
 use Rattle.codewords.proofs.Small.{Below, codewords-below}
 use Rattle.segments.specs.Script.{Segment}
-use Rattle.script.specs.Writer.{paddedBits, dataOf}
+use Rattle.script.specs.Writer.{paddedBits, dataBytes}
 use Rattle.script.proofs.Data.{padded-small}
 
-pub data-below : (n : ℕ) (gs : List Segment) → Below 256 (dataOf n gs)
+pub data-below : (n : ℕ) (gs : List Segment) → Below 256 (dataBytes n gs)
 unfolding words
 data-below n gs = codewords-below (length (paddedBits n gs) / 8) (paddedBits n gs) (padded-small n gs)

@@ -12,7 +12,7 @@ use lib.ListN.{length}
 use Rattle.symbol.specs.Version.{sideOf, isVersion, isSide, sideVersion}
 use Rattle.symbol.specs.Layout.{layoutOf}
 use Rattle.symbol.proofs.Theorems.{layout-length}
-use Rattle.information.specs.Information.{isInfo, infoBits, wordAt, copyOf, infoFlips, nearest, distance, NearestAnswer, nearestOf}
+use Rattle.information.specs.Information.{isInfo, infoBits, wordAt, copyOf, infoFlips, nearestWord, wordDistance, NearestAnswer, nearestOf}
 use Rattle.information.proofs.Apart.{word-lt}
 use Rattle.information.proofs.Flips.{flips-distance, flips-nearest, write-then-first, write-then-second, info-length, info-bits}
 use Rattle.blocks.specs.Blocks.{shapesOf, hasBlocks}
@@ -21,7 +21,7 @@ use Rattle.codewords.proofs.Back.{length-square}
 use Rattle.blockwise.specs.Blockwise.{streamOf}
 use Rattle.segments.specs.Script.{Segment}
 use Rattle.script.specs.Writer.{allHave, bitsOfSegments}
-use Rattle.script.specs.Check.{commandsOf, encoded}
+use Rattle.script.specs.Check.{commandsOf, scriptData}
 use Rattle.script.specs.Inner.{Fits}
 use Rattle.squares.specs.Read.{firstRefusal, unless, levelIn, maskIn, distanceIn, nearestIn}
 use Rattle.squares.specs.Write.{Writing, roomOf, scriptRefusals, writeRefusal, markOf, writeOf}
@@ -124,7 +124,7 @@ module _ (v l k : ℕ) (s p : List ℕ) (R : Ranges v l k) where
   mark = markOf v l k s p
 
   abbrev stream : List ℕ
-  stream = streamOf (shapesOf v l) (encoded (roomOf v l) (commandsOf s p))
+  stream = streamOf (shapesOf v l) (scriptData (roomOf v l) (commandsOf s p))
 
   abbrev base : List ℕ
   base = squareOf (maskBit (sideOf v) k) (layoutOf v) stream
@@ -164,20 +164,20 @@ module _ (v l k : ℕ) (s p : List ℕ) (R : Ranges v l k) where
     unfolding markOf
     second-copy = write-then-second v (R .low) (infoBits v l k) base (omega (arith, base-length)) word-small ∙ word-is
 
-    near : nearest v (copy false) (copy true) ≡ 4 * l + k
+    near : nearestWord v (copy false) (copy true) ≡ 4 * l + k
     near =
         flips-nearest v (4 * l + k) mark h (R .low) (R .high) (omega (arith, R .level, R .mask)) mark-length size mark-below b first-copy second-copy few
 
     versioned : isVersion v ≡ true
     versioned = version-is v (R .low) (R .high)
 
-    found : nearestIn v h ≡ record { number = 0; level = l; mask = k; distance = distance v (copy false) (copy true) (4 * l + k) }
+    found : nearestIn v h ≡ record { number = 0; level = l; mask = k; distance = wordDistance v (copy false) (copy true) (4 * l + k) }
     unfolding nearestIn nearestOf
     found =
         simp (versioned, near)
         (let a : (4 * l + k) / 4 ≡ l = omega (arith, R .mask) in
         let b : (4 * l + k) % 4 ≡ k = omega (arith, R .mask) in
-        λ i. record { number = 0; level = a i; mask = b i; distance = distance v (copy false) (copy true) (4 * l + k) })
+        λ i. record { number = 0; level = a i; mask = b i; distance = wordDistance v (copy false) (copy true) (4 * l + k) })
 
     pub level-is : levelIn v h ≡ l
     level-is = ap (λ (x : NearestAnswer). x .level) found

@@ -16,10 +16,10 @@ use Rattle.blocks.proofs.Theorems.{shapes-total, shapes-sound}
 use Rattle.codewords.specs.Codewords.{maskBit, streamIn}
 use Rattle.codewords.proofs.Back.{written-stream}
 use Rattle.reed_solomon.specs.Block.{distance}
-use Rattle.blockwise.specs.Blockwise.{refusalOf, countOf, corrected, dataOf, streamOf, differences, blockAt, parityAt}
+use Rattle.blockwise.specs.Blockwise.{firstRefused, countOf, corrected, correctedData, streamOf, differences, blockAt, parityAt}
 use Rattle.blockwise.proofs.Theorems.{written-blocks, in-reach}
 use Rattle.segments.specs.FromData.{fromData}
-use Rattle.script.specs.Check.{commandsOf, encoded}
+use Rattle.script.specs.Check.{commandsOf, scriptData}
 use Rattle.script.proofs.Theorems.{encoded-data, round-trip}
 use Rattle.squares.specs.Receipt.{receiptOf}
 use Rattle.squares.specs.Read.{Reading, refused, firstRefusal, unless, areModules, levelIn, maskIn, distanceIn, streamFrom, blocksIn, readRefusal, knownRefusal, told, bodyOf, withReceipt, readOf, readKnownOf}
@@ -70,7 +70,7 @@ module _ (v l k : ℕ) (script payload before : List ℕ) (bytes : Below 256 scr
   mark = markOf v l k script payload
 
   abbrev ds : List ℕ
-  ds = encoded (roomOf v l) (commandsOf script payload)
+  ds = scriptData (roomOf v l) (commandsOf script payload)
 
   sound : Sound (shapesOf v l)
   sound = shapes-sound v l (R .low) (R .high) (R .level)
@@ -115,7 +115,7 @@ module _ (v l k : ℕ) (script payload before : List ℕ) (bytes : Below 256 scr
         λ j h. subst (λ (x : List ℕ). distance (blockAt (cut bs stream) j) (blockAt (cut bs x) j) ≤ parityAt bs j / 2) mark-stream (reach j h) in
         let I = in-reach bs sound ds ds-bytes ds-length stream (stream-length v k square ∙ sym sized) near in
         let c : countOf (corrected bs stream) ≡ count = I .3 ∙ ap (λ (x : List ℕ). differences (cut bs stream) (cut bs x)) (sym mark-stream) in
-        ap (λ (b : Bool). cond b (told v l k d (countOf (corrected bs stream)) (fromData (dataOf bs stream) p s)) (refused (refusalOf (corrected bs stream)) p s)) (eq-eqb (refusalOf (corrected bs stream)) 0 (I .0))
+        ap (λ (b : Bool). cond b (told v l k d (countOf (corrected bs stream)) (fromData (correctedData bs stream) p s)) (refused (firstRefused (corrected bs stream)) p s)) (eq-eqb (firstRefused (corrected bs stream)) 0 (I .0))
         ∙ ap₂ (told v l k d) c
         (ap (λ (x : List ℕ). fromData x p s) (I .2) ∙ round-trip script payload (roomOf v l) p s bytes (W .fits) room-small room-p room-s)
 

@@ -15,7 +15,7 @@ use Rattle.symbol.specs.Layout.{layoutOf, layoutRefusal, layoutWritten}
 use Rattle.symbol.proofs.Theorems.{layout-length}
 use Rattle.information.specs.declared.InfoBits.{InfoBits}
 use Rattle.information.specs.declared.InfoBits.the-variants.{Word, OutOfRange}
-use Rattle.information.specs.Information.{infoBits, isInfo, InfoAnswer, infoOf, infoAnswer, copyOf, nearest, distance, NearestAnswer, nearestOf}
+use Rattle.information.specs.Information.{infoBits, isInfo, InfoAnswer, infoOf, infoAnswer, copyOf, nearestWord, wordDistance, NearestAnswer, nearestOf}
 use Rattle.information.proofs.Apart.{nearest-le}
 use Rattle.blocks.specs.Blocks.{totalOf, rowOf, rowLength, rowHolds, shapes, totalData, dataModules, hasBlocks}
 use Rattle.blocks.proofs.Rows.{total-small, total-shapes}
@@ -102,13 +102,13 @@ side-range side e =
     (omega arith, omega arith)
 
 abbrev found : ℕ → ℕ → ℕ → NearestAnswer
-found v a b = record { number = 0; level = nearest v a b / 4; mask = nearest v a b % 4; distance = distance v a b (nearest v a b) }
+found v a b = record { number = 0; level = nearestWord v a b / 4; mask = nearestWord v a b % 4; distance = wordDistance v a b (nearestWord v a b) }
 
 abbrev missing : NearestAnswer
 missing = record { number = 1; level = 0; mask = 0; distance = 0 }
 
 pub level-range : (v : ℕ) (sq : List ℕ) → levelIn v sq ≤ 3
-unfolding nearestIn nearestOf nearest
+unfolding nearestIn nearestOf nearestWord
 level-range v sq = go (isVersion v)
   where
     a : ℕ
@@ -118,7 +118,7 @@ level-range v sq = go (isVersion v)
     b = copyOf (sideOf v) true sq
 
     go : (t : Bool) → cond t (found v a b) missing .level ≤ 3
-    go true = omega (arith, nearest-le (distance v (copyOf (sideOf v) false sq) (copyOf (sideOf v) true sq)) 15)
+    go true = omega (arith, nearest-le (wordDistance v (copyOf (sideOf v) false sq) (copyOf (sideOf v) true sq)) 15)
     go false = omega arith
 
 pub mask-range : (v : ℕ) (sq : List ℕ) → maskIn v sq ≤ 3

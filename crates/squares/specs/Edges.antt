@@ -7,7 +7,7 @@ use Rattle.field.specs.Field.{power}
 use Rattle.symbol.specs.Version.{sideRefusal, sideVersion}
 use Rattle.information.specs.Information.{infoBits}
 use Rattle.codewords.specs.Codewords.{order}
-use Rattle.segments.specs.FromData.{Outcome, fromData}
+use Rattle.segments.specs.FromData.{DataOutcome, fromData}
 use Rattle.script.specs.Writer.{same}
 
 pub record Edge : Type 0 where
@@ -19,7 +19,7 @@ abbrev pub one : ℕ → ℕ → Edge
 one given expected = record { given = given ∷ []; expected = expected ∷ [] }
 
 -- what Segments from data gives: the refusal number and the payload
-unfoldable pub payloadIn : Outcome → List ℕ
+unfoldable pub payloadIn : DataOutcome → List ℕ
 payloadIn o = o .refusal ∷ take (o .payloadLength) (o .payload)
 
 abbrev pub reads : List ℕ → List ℕ → Edge

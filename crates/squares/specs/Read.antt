@@ -10,8 +10,8 @@ use Rattle.symbol.specs.Layout.{layoutOf}
 use Rattle.information.specs.Information.{isInfo, copyOf, NearestAnswer, nearestOf}
 use Rattle.blocks.specs.Blocks.{totalOf, shapesOf, hasBlocks, cut}
 use Rattle.codewords.specs.Codewords.{maskBit, streamIn}
-use Rattle.blockwise.specs.Blockwise.{refusalOf, countOf, corrected, dataOf}
-use Rattle.segments.specs.FromData.{Outcome, fromData}
+use Rattle.blockwise.specs.Blockwise.{firstRefused, countOf, corrected, correctedData}
+use Rattle.segments.specs.FromData.{DataOutcome, fromData}
 use Rattle.squares.specs.Receipt.{receiptOf, refusalReceipt}
 
 -- what a reading gives: the refusal number or 0, and what receipt, payload and script hold afterwards
@@ -78,7 +78,7 @@ knownRefusal v level mask sq =
     (unless (isInfo v level mask) 1 ∷ unless (eqb (length sq) (sideOf v * sideOf v)) 2 ∷ unless (areModules sq) 3 ∷ unless (hasBlocks v level) 1 ∷ [])
 
 -- what the segments of the corrected blocks give, with the count of their corrections
-unfoldable pub told : ℕ → ℕ → ℕ → ℕ → ℕ → Outcome → Reading
+unfoldable pub told : ℕ → ℕ → ℕ → ℕ → ℕ → DataOutcome → Reading
 told v level mask distance count o =
     readingOf (o .refusal)
     (cond (eqb (o .refusal) 0) (receiptOf v level mask count distance (o .payloadLength) (o .scriptLength)) (refusalReceipt (o .refusal)))
@@ -88,9 +88,9 @@ told v level mask distance count o =
 unfoldable pub bodyOf : ℕ → ℕ → ℕ → ℕ → List ℕ → List ℕ → List ℕ → Reading
 bodyOf v level mask distance sq p s =
     let os = corrected (shapesOf v level) (streamFrom v mask sq) in
-    cond (eqb (refusalOf os) 0)
-    (told v level mask distance (countOf os) (fromData (dataOf (shapesOf v level) (streamFrom v mask sq)) p s))
-    (refused (refusalOf os) p s)
+    cond (eqb (firstRefused os) 0)
+    (told v level mask distance (countOf os) (fromData (correctedData (shapesOf v level) (streamFrom v mask sq)) p s))
+    (refused (firstRefused os) p s)
 
 -- 2 if the receipt has not 12 bytes, and nothing is written at all
 unfoldable pub withReceipt : List ℕ → List ℕ → List ℕ → ℕ → Reading → Reading

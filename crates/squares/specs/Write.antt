@@ -13,7 +13,7 @@ use Rattle.codewords.specs.Codewords.{maskBit, squareOf}
 use Rattle.blockwise.specs.Blockwise.{streamOf}
 use Rattle.segments.specs.Script.{Segment}
 use Rattle.script.specs.Writer.{allHave, bitsOfSegments}
-use Rattle.script.specs.Check.{commandsOf, encoded}
+use Rattle.script.specs.Check.{commandsOf, scriptData}
 use Rattle.squares.specs.Read.{firstRefusal, unless}
 
 -- what writing gives: the refusal number or 0, and what the square holds afterwards
@@ -46,7 +46,7 @@ writeRefusal v level mask s p sq =
 unfoldable pub markOf : ℕ → ℕ → ℕ → List ℕ → List ℕ → List ℕ
 markOf v level mask s p =
     infoWritten (sideOf v) (infoBits v level mask)
-    (squareOf (maskBit (sideOf v) mask) (layoutOf v) (streamOf (shapesOf v level) (encoded (roomOf v level) (commandsOf s p))))
+    (squareOf (maskBit (sideOf v) mask) (layoutOf v) (streamOf (shapesOf v level) (scriptData (roomOf v level) (commandsOf s p))))
 
 -- a refusal leaves the square
 unfoldable pub writeOf : ℕ → ℕ → ℕ → List ℕ → List ℕ → List ℕ → Writing

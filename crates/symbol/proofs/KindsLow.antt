@@ -10,7 +10,7 @@ use lib.IntN.{ℤ, pos, _+ℤ_, _-ℤ_}
 use lib.ListN.{length, getD, set, List·getD-eq-default}
 use lib.Seq.{getD-set-same, getD-set-other, set-out}
 use Rattle.symbol.specs.Version.{sideOf}
-use Rattle.symbol.specs.Layout.{Plot, plot, placeAt, plotOne, plotAll, each, when, light, dark, odd, ring, finderAt, cornerAt, cornerKind, table, corners, threeAt, assistant, rowEnds, columnEnds, lineModule, lineLeft, lineDown, crossing, crossings, alignment, layoutOf, mOf, rowOf, columnOf, stepOf}
+use Rattle.symbol.specs.Layout.{Plot, plot, placeAt, plotOne, plotAll, each, when, light, dark, odd, ring, finderAt, cornerAt, cornerKind, table, corners, threeAt, assistant, rowEnds, columnEnds, lineModule, lineLeft, lineDown, crossing, crossings, alignment, layoutOf, mOf, rowLine, columnLine, stepOf}
 use Rattle.symbol.proofs.Places.{length-table, getD-table}
 
 -- each plot of a list has a kind up to 3
@@ -50,13 +50,13 @@ low-crossing : (v n j : ℕ) → Low (crossing v n j)
 unfolding crossing lineLeft lineDown
 low-crossing v n j =
     low-when (not (odd (n + j)) && not (eqb (n + j) 0))
-    (low-append (low-each (stepOf v j + 1) (λ i. low-line (columnOf v j -ℤ pos i) (rowOf v n))) (low-each (stepOf v n - 1) (λ i. low-line (columnOf v j) (rowOf v n +ℤ pos (i + 1)))))
+    (low-append (low-each (stepOf v j + 1) (λ i. low-line (columnLine v j -ℤ pos i) (rowLine v n))) (low-each (stepOf v n - 1) (λ i. low-line (columnLine v j) (rowLine v n +ℤ pos (i + 1)))))
 
 low-alignment : (v : ℕ) → Low (alignment v)
 unfolding alignment rowEnds columnEnds crossings
 low-alignment v =
-    low-append (low-each (mOf v + 2) (λ n. low-ends (odd (n + mOf v)) (odd n) (pos 0) (rowOf v n) (pos (sideOf v - 1)) (rowOf v n)))
-    (low-append (low-each (mOf v + 2) (λ n. low-ends (odd (n + mOf v)) (odd n) (columnOf v n) (pos (sideOf v - 1)) (columnOf v n) (pos 0)))
+    low-append (low-each (mOf v + 2) (λ n. low-ends (odd (n + mOf v)) (odd n) (pos 0) (rowLine v n) (pos (sideOf v - 1)) (rowLine v n)))
+    (low-append (low-each (mOf v + 2) (λ n. low-ends (odd (n + mOf v)) (odd n) (columnLine v n) (pos (sideOf v - 1)) (columnLine v n) (pos 0)))
     (low-each (mOf v + 2) (λ n. low-each (mOf v + 2) (low-crossing v n))))
 
 corner-low : (s r c : ℕ) → cornerAt s r c ≤ 3

@@ -11,7 +11,7 @@ use lib.ListN.{length}
 use borrow.Author.Tests.{lt-ltb, le-ltb}
 use Rattle.symbol.specs.Version.{sideOf}
 use Rattle.symbol.specs.declared.Spacing.{Spacing}
-use Rattle.symbol.specs.Layout.{ks, rs, ms, kOf, rOf, mOf, stepOf, lineOf, columnOf}
+use Rattle.symbol.specs.Layout.{ks, rs, ms, kOf, rOf, mOf, stepOf, lineOf, columnLine}
 use Rattle.symbol.specs.Inner.{Spaced, Roomy}
 use Rattle.symbol.proofs.Coordinates.{difference}
 use Rattle.symbol.proofs.Finite.{upTo, every}
@@ -86,7 +86,7 @@ module _ {p : Spacing} (q : Spaced p) where
       let e : n ≡ suc (p .m) = omega arith in ap (lineOf (p .version)) e ∙ omega
       (arith, line-near (p .m) (omega arith), far-step (p .m) (omega arith))
 
-  pub column-is : (n l : ℕ) → l ≡ lineOf (p .version) n → l < p .side → pos (p .side - 1 - l) ≡ columnOf (p .version) n
+  pub column-is : (n l : ℕ) → l ≡ lineOf (p .version) n → l < p .side → pos (p .side - 1 - l) ≡ columnLine (p .version) n
   column-is n l e h =
       sym (difference (p .side - 1) l (omega arith)) ∙ ap (λ (k : ℕ). pos (p .side - 1) -ℤ pos k) e
       ∙ ap (λ (k : ℕ). pos (k - 1) -ℤ pos (lineOf (p .version) n)) (q .side-is)

@@ -8,7 +8,7 @@ use mir.Syntax.{w64}
 use mir.Val.{SFits, toZ, ofZ}
 use mir.Facts.{toZ-ofZ}
 use borrow.Author.Tests.{eq-eqb, ne-eqb, lt-ltb, le-ltb}
-use Rattle.symbol.specs.Layout.{when, odd, assistant, lineLeft, lineDown, placeAt, crossing, columnOf, rowOf, stepOf, Plot, plot, plotOne, plotAll, each}
+use Rattle.symbol.specs.Layout.{when, odd, assistant, lineLeft, lineDown, placeAt, crossing, columnLine, rowLine, stepOf, Plot, plot, plotOne, plotAll, each}
 use lib.ListN.{length, getD, set}
 use native.Mathlib.Omega.{arith}
 use Rattle.symbol.specs.Inner.{Plotted}
@@ -86,7 +86,7 @@ module _ (v n j : ℕ) where
   unfolding crossing
   crossing-first h = simp h
 
-  pub crossing-on : ((n + j) % 2 ≡ 1 → ⊥) → (n + j ≡ 0 → ⊥) → lineLeft (columnOf v j) (rowOf v n) (stepOf v j) ++ lineDown (columnOf v j) (rowOf v n) (stepOf v n) ≡ crossing v n j
+  pub crossing-on : ((n + j) % 2 ≡ 1 → ⊥) → (n + j ≡ 0 → ⊥) → lineLeft (columnLine v j) (rowLine v n) (stepOf v j) ++ lineDown (columnLine v j) (rowLine v n) (stepOf v n) ≡ crossing v n j
   unfolding crossing
   crossing-on h k = simp (ne-eqb ((n + j) % 2) 1 h, ne-eqb (n + j) 0 k)
 

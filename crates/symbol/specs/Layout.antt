@@ -143,11 +143,11 @@ lineOf v zero = 0
 lineOf v (suc n) = lineOf v n + stepOf v n
 
 -- rows are counted from the top, columns from the right
-abbrev pub rowOf : ℕ → ℕ → ℤ
-rowOf v n = pos (lineOf v n)
+abbrev pub rowLine : ℕ → ℕ → ℤ
+rowLine v n = pos (lineOf v n)
 
-abbrev pub columnOf : ℕ → ℕ → ℤ
-columnOf v n = pos (sideOf v - 1) -ℤ pos (lineOf v n)
+abbrev pub columnLine : ℕ → ℕ → ℤ
+columnLine v n = pos (sideOf v - 1) -ℤ pos (lineOf v n)
 
 abbrev pub odd : ℕ → Bool
 odd n = eqb (n % 2) 1
@@ -162,11 +162,11 @@ assistant x y = threeAt x (y -ℤ pos 1) light ++ (threeAt x y dark ++ threeAt x
 
 -- the assistants at the left and right end of row n: at the left where n and m are not both even or both odd, at the right where n is odd
 unfoldable pub rowEnds : ℕ → ℕ → List Plot
-rowEnds v n = when (odd (n + mOf v)) (assistant (pos 0) (rowOf v n)) ++ when (odd n) (assistant (pos (sideOf v - 1)) (rowOf v n))
+rowEnds v n = when (odd (n + mOf v)) (assistant (pos 0) (rowLine v n)) ++ when (odd n) (assistant (pos (sideOf v - 1)) (rowLine v n))
 
 -- the assistants at the lower and upper end of column n
 unfoldable pub columnEnds : ℕ → ℕ → List Plot
-columnEnds v n = when (odd (n + mOf v)) (assistant (columnOf v n) (pos (sideOf v - 1))) ++ when (odd n) (assistant (columnOf v n) (pos 0))
+columnEnds v n = when (odd (n + mOf v)) (assistant (columnLine v n) (pos (sideOf v - 1))) ++ when (odd n) (assistant (columnLine v n) (pos 0))
 
 -- a dark module of a line, and the light one at its lower left
 unfoldable pub lineModule : ℤ → ℤ → List Plot
@@ -183,7 +183,7 @@ lineDown x y h = each (h - 1) (λ i. lineModule x (y +ℤ pos (i + 1)))
 unfoldable pub crossing : ℕ → ℕ → ℕ → List Plot
 crossing v n j =
     when (not (odd (n + j)) && not (eqb (n + j) 0))
-    (lineLeft (columnOf v j) (rowOf v n) (stepOf v j) ++ lineDown (columnOf v j) (rowOf v n) (stepOf v n))
+    (lineLeft (columnLine v j) (rowLine v n) (stepOf v j) ++ lineDown (columnLine v j) (rowLine v n) (stepOf v n))
 
 unfoldable pub crossings : ℕ → List Plot
 crossings v = each (mOf v + 2) (λ n. each (mOf v + 2) (crossing v n))
@@ -205,7 +205,7 @@ unfoldable pub layoutWritten : ℕ → List ℕ → List ℕ
 layoutWritten v out = cond (eqb (layoutRefusal v out) 0) (layoutOf v ++ drop (sideOf v * sideOf v) out) out
 
 -- an answer's refusal number
-abbrev pub refusalOf : LayoutAnswer → ℕ
-refusalOf Filled = 0
-refusalOf NoVersion = 1
-refusalOf TooShort = 2
+abbrev pub layoutNumber : LayoutAnswer → ℕ
+layoutNumber Filled = 0
+layoutNumber NoVersion = 1
+layoutNumber TooShort = 2

@@ -25,9 +25,9 @@ unfoldable pub sideVersion : ℕ → ℕ
 sideVersion s = cond (isSide s) ((s - 21) / 2) 0
 
 -- an answer's refusal number and version
-abbrev pub refusalOf : FromSide → ℕ
-refusalOf (Found v) = 0
-refusalOf NoVersion = 1
+abbrev pub sideNumber : FromSide → ℕ
+sideNumber (Found v) = 0
+sideNumber NoVersion = 1
 
 abbrev pub versionOf : FromSide → ℕ
 versionOf (Found v) = v .number

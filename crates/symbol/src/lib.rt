@@ -9,7 +9,7 @@ ghost use lib.IntN.{pos, _+ℤ_, _-ℤ_};
 ghost use lib.Signed.{mag};
 ghost use Rattle.symbol.specs.Version.{sideOf, sideRefusal, sideVersion, versionOf};
 ghost use Rattle.symbol.specs.Version as version;
-ghost use Rattle.symbol.specs.Layout.{finders, edge, half, within, finderRow, cornerKind, plot, each, when, stepOf, mOf, lineOf, rowOf, columnOf, odd, threeAt, assistant, rowEnds, columnEnds, lineModule, lineLeft, lineDown, crossing, crossings, alignment, layoutRefusal, layoutWritten, refusalOf};
+ghost use Rattle.symbol.specs.Layout.{finders, edge, half, within, finderRow, cornerKind, plot, each, when, stepOf, mOf, lineOf, rowLine, columnLine, odd, threeAt, assistant, rowEnds, columnEnds, lineModule, lineLeft, lineDown, crossing, crossings, alignment, layoutRefusal, layoutWritten, layoutNumber};
 ghost use Rattle.symbol.specs.Inner.{Stored, RowRoom, Ends, UpTo, Beyond, Plotted, Spaced, Roomy, Inside, drawn, fourModules};
 
 pub struct Version {
@@ -32,7 +32,7 @@ impl Version {
     pub const MAX_SIDE: usize = 189;
 
     pub fn from_side(side: usize) -> FromSide
-        ensures { λ r. ⌜ (version.refusalOf r ≡ sideRefusal side) × (versionOf r ≡ sideVersion side) ⌝ }
+        ensures { λ r. ⌜ (version.sideNumber r ≡ sideRefusal side) × (versionOf r ≡ sideVersion side) ⌝ }
     {
         if side < Version::MIN_SIDE {
             return FromSide::NoVersion;
@@ -561,7 +561,7 @@ fn line_of(p: Spacing, n: usize) -> usize
 // Rows are counted from the top.
 fn row_of(p: Spacing, n: usize) -> i64
     requires { ⌜ Spaced p × (n < p .m + 2) ⌝ }
-    ensures { λ r. ⌜ (r ≡ rowOf (p .version) n) × Inside (p .side) r ⌝ }
+    ensures { λ r. ⌜ (r ≡ rowLine (p .version) n) × Inside (p .side) r ⌝ }
 {
     line_of(p, n) as i64
 }
@@ -569,7 +569,7 @@ fn row_of(p: Spacing, n: usize) -> i64
 // Columns are counted from the right.
 fn column_of(p: Spacing, n: usize) -> i64
     requires { ⌜ Spaced p × (n < p .m + 2) ⌝ }
-    ensures { λ r. ⌜ (r ≡ columnOf (p .version) n) × Inside (p .side) r ⌝ }
+    ensures { λ r. ⌜ (r ≡ columnLine (p .version) n) × Inside (p .side) r ⌝ }
 {
     (p.side - 1 - line_of(p, n)) as i64
 }
@@ -682,7 +682,7 @@ pub enum LayoutAnswer {
 
 // SPECIFICATION 10.2, Layout: the layout of a version, in the first side * side bytes.
 pub fn layout(version: usize, out: &mut [u8]) -> LayoutAnswer
-    ensures { λ r. ⌜ (refusalOf r ≡ layoutRefusal version (now (out .entry))) × (now (out .exit) ≡ layoutWritten version (now (out .entry))) ⌝ }
+    ensures { λ r. ⌜ (layoutNumber r ≡ layoutRefusal version (now (out .entry))) × (now (out .exit) ≡ layoutWritten version (now (out .entry))) ⌝ }
 {
     if version < Version::MIN {
         return LayoutAnswer::NoVersion;

@@ -17,16 +17,16 @@ use Rattle.symbol.proofs.Theorems.{layout-length}
 use Rattle.blocks.specs.Blocks.{totalOf, rowOf, rowLength, dataModules, Shape, shapes, shapesOf, totalSize, cut, joined, dataParts}
 use Rattle.blocks.proofs.Rows.{Sound, total-shapes}
 use Rattle.blocks.proofs.Theorems.{shapes-sound}
-use Rattle.codewords.specs.Codewords.{maskBit, dataBits, codewordsOf, streamOf, streamIn}
+use Rattle.codewords.specs.Codewords.{maskBit, dataBits, codewordsOf, toStream, streamIn}
 use Rattle.placement.specs.Walk.{Legible}
 use Rattle.small_marks.proofs.Open.{open-enough}
 use Rattle.codewords.proofs.Placement.{data-front, length-data}
 use Rattle.blockwise.specs.declared.Blocks.{Blocks}
 use Rattle.blockwise.specs.declared.Blocks.the-variants.{Corrected, Refused}
-use Rattle.blockwise.specs.Blockwise.{corrected, refusalOf, countOf, blocksOf, dataOf, numberOf, correctionsOf}
+use Rattle.blockwise.specs.Blockwise.{corrected, firstRefused, countOf, blocksOf, correctedData, numberOf, correctionsOf}
 use Rattle.blockwise.proofs.Corrects.{count-le}
 use Rattle.blockwise.proofs.Theorems.{data-left}
-use Rattle.segments.specs.FromData.{Outcome, fromData}
+use Rattle.segments.specs.FromData.{DataOutcome, fromData}
 use Rattle.squares.specs.Receipt.{receiptOf, refusalReceipt}
 use Rattle.squares.specs.Read.{Reading, readingOf, refused, streamFrom, told, bodyOf}
 use Rattle.squares.proofs.Modules.{stream-length}
@@ -60,7 +60,7 @@ receipt-told m t n h = elim (ℕ-discrete (t .number) 0) [
   | no d ↦ sym (in-refused m t d) ∙ sym (simp (ne-eqb (t .number) 0 d))
 ]
 
-pub tells-reading : (m : Mark) (n : ℕ) (o : Outcome) (t : Told) (p s : List ℕ) → Tells n o t p s
+pub tells-reading : (m : Mark) (n : ℕ) (o : DataOutcome) (t : Told) (p s : List ℕ) → Tells n o t p s
     → readingIn m t p s ≡ told (m .version) (m .level) (m .mask) (m .distance) n o
 unfolding readingIn told
 tells-reading m n o t p s W =
@@ -97,13 +97,13 @@ module _ (m : Mark) (sq ks : List ℕ) (F : Fitting m sq) (D : Drawn (m .version
   pub enough-bits : (f : ℕ → ℕ) (total : ℕ) → total ≡ totalOf v → 8 * totalOf v ≤ dataModules (layoutOf v) → 8 * total ≤ length (dataBits f 0 ks sq)
   enough-bits f total e h = omega (arith, length-data f 0 ks sq, ap dataModules front-is)
 
-  pub stream-is : (side total : ℕ) (st rest : List ℕ) → side ≡ sideOf v → total ≡ totalOf v → st ≡ streamOf (codewordsOf total (dataBits (maskBit side (m .mask)) 0 ks sq)) ++ rest → Streamed m sq st
+  pub stream-is : (side total : ℕ) (st rest : List ℕ) → side ≡ sideOf v → total ≡ totalOf v → st ≡ toStream (codewordsOf total (dataBits (maskBit side (m .mask)) 0 ks sq)) ++ rest → Streamed m sq st
   unfolding streamIn streamFrom
   stream-is side total st rest e f g = record {
     rest = rest;
     is = g
-        ∙ (λ i. streamOf (codewordsOf (f i) (dataBits (maskBit (e i) (m .mask)) 0 ks sq)) ++ rest)
-        ∙ ap (λ (bs : List ℕ). streamOf (codewordsOf (totalOf v) bs) ++ rest) (bits-are (maskBit (sideOf v) (m .mask)));
+        ∙ (λ i. toStream (codewordsOf (f i) (dataBits (maskBit (e i) (m .mask)) 0 ks sq)) ++ rest)
+        ∙ ap (λ (bs : List ℕ). toStream (codewordsOf (totalOf v) bs) ++ rest) (bits-are (maskBit (sideOf v) (m .mask)));
   }
 
   -- ---- whether there are enough data modules
@@ -168,45 +168,45 @@ module _ (m : Mark) (R : Ranged m) (row : List ℕ) (e : row ≡ rowOf (m .versi
     -- the reading by a row's blocks
     abbrev reading : List Shape → Reading
     reading cs =
-        cond (eqb (refusalOf (corrected cs stream)) 0)
-        (told (m .version) (m .level) (m .mask) (m .distance) (countOf (corrected cs stream)) (fromData (dataOf cs stream) p s))
-        (refused (refusalOf (corrected cs stream)) p s)
+        cond (eqb (firstRefused (corrected cs stream)) 0)
+        (told (m .version) (m .level) (m .mask) (m .distance) (countOf (corrected cs stream)) (fromData (correctedData cs stream) p s))
+        (refused (firstRefused (corrected cs stream)) p s)
 
     reading-is : reading bs ≡ bodyOf (m .version) (m .level) (m .mask) (m .distance) sq p s
     unfolding bodyOf shapesOf
     reading-is = ap (λ (r : List ℕ). reading (shapes r)) e
 
-    refused-is : (r : Blocks) (t : Told) → r ≡ Refused → numberOf r ≡ refusalOf (corrected bs (take (rowLength row) st)) → Refuses 6 t
+    refused-is : (r : Blocks) (t : Told) → r ≡ Refused → numberOf r ≡ firstRefused (corrected bs (take (rowLength row) st)) → Refuses 6 t
         → readingIn m t p s ≡ bodyOf (m .version) (m .level) (m .mask) (m .distance) sq p s
     unfolding numberOf
     refused-is r t a b R6 =
-        let six : refusalOf (corrected bs stream) ≡ 6 = ap (λ (x : List ℕ). refusalOf (corrected bs x)) (sym taken) ∙ sym b ∙ ap numberOf a in
+        let six : firstRefused (corrected bs stream) ≡ 6 = ap (λ (x : List ℕ). firstRefused (corrected bs x)) (sym taken) ∙ sym b ∙ ap numberOf a in
         refuses-reading m 6 t p s (λ z. omega arith) R6
-        ∙ sym (ap (λ (x : ℕ). cond (eqb x 0) (told (m .version) (m .level) (m .mask) (m .distance) (countOf (corrected bs stream)) (fromData (dataOf bs stream) p s)) (refused x p s)) six)
+        ∙ sym (ap (λ (x : ℕ). cond (eqb x 0) (told (m .version) (m .level) (m .mask) (m .distance) (countOf (corrected bs stream)) (fromData (correctedData bs stream) p s)) (refused x p s)) six)
         ∙ reading-is
 
     told-is : (r : Blocks) (n : ℕ) (st′ rest′ : List ℕ) (t : Told) (p′ s′ : List ℕ) → r ≡ Corrected n
-        → numberOf r ≡ refusalOf (corrected bs (take (rowLength row) st))
+        → numberOf r ≡ firstRefused (corrected bs (take (rowLength row) st))
         → (numberOf r ≡ 0 → (correctionsOf r ≡ countOf (corrected bs (take (rowLength row) st))) × (st′ ≡ joined (blocksOf (corrected bs (take (rowLength row) st))) ++ rest′))
         → Tells n (fromData (dataParts bs (cut bs st′)) p s) t p′ s′
         → readingIn m t p′ s′ ≡ bodyOf (m .version) (m .level) (m .mask) (m .distance) sq p s
     unfolding numberOf correctionsOf
     told-is r n st′ rest′ t p′ s′ a b c W =
-        let zero : refusalOf (corrected bs stream) ≡ 0 = ap (λ (x : List ℕ). refusalOf (corrected bs x)) (sym taken) ∙ sym b ∙ ap numberOf a in
+        let zero : firstRefused (corrected bs stream) ≡ 0 = ap (λ (x : List ℕ). firstRefused (corrected bs x)) (sym taken) ∙ sym b ∙ ap numberOf a in
         let k = c (ap numberOf a) in
         let count : n ≡ countOf (corrected bs stream) = sym (ap correctionsOf a) ∙ k .0 ∙ ap (λ (x : List ℕ). countOf (corrected bs x)) taken in
         let left : st′ ≡ joined (blocksOf (corrected bs stream)) ++ rest′ = k .1 ∙ ap (λ (x : List ℕ). joined (blocksOf (corrected bs x)) ++ rest′) taken in
-        let parts : dataParts bs (cut bs st′) ≡ dataOf bs stream = ap (λ (x : List ℕ). dataParts bs (cut bs x)) left ∙ data-left bs sound stream size rest′ in
+        let parts : dataParts bs (cut bs st′) ≡ correctedData bs stream = ap (λ (x : List ℕ). dataParts bs (cut bs x)) left ∙ data-left bs sound stream size rest′ in
         tells-reading m n _ t p′ s′ W
         ∙ (λ i. told (m .version) (m .level) (m .mask) (m .distance) (count i) (fromData (parts i) p s))
-        ∙ sym (ap (λ (x : ℕ). cond (eqb x 0) (told (m .version) (m .level) (m .mask) (m .distance) (countOf (corrected bs stream)) (fromData (dataOf bs stream) p s)) (refused x p s)) zero)
+        ∙ sym (ap (λ (x : ℕ). cond (eqb x 0) (told (m .version) (m .level) (m .mask) (m .distance) (countOf (corrected bs stream)) (fromData (correctedData bs stream) p s)) (refused x p s)) zero)
         ∙ reading-is
 
-  pub blocks-refused : (st p s : List ℕ) (r : Blocks) (t : Told) → r ≡ Refused → numberOf r ≡ refusalOf (corrected bs (take (rowLength row) st)) → Refuses 6 t → Body m st p s t p s
+  pub blocks-refused : (st p s : List ℕ) (r : Blocks) (t : Told) → r ≡ Refused → numberOf r ≡ firstRefused (corrected bs (take (rowLength row) st)) → Refuses 6 t → Body m st p s t p s
   blocks-refused st p s r t a b R6 = record { reading = λ sq S. refused-is st p s sq S r t a b R6; small = refuses-small 6 t (omega arith) R6 }
 
   pub blocks-told : (st p s : List ℕ) (r : Blocks) (n : ℕ) (st′ rest′ : List ℕ) (t : Told) (p′ s′ : List ℕ) → r ≡ Corrected n
-      → numberOf r ≡ refusalOf (corrected bs (take (rowLength row) st))
+      → numberOf r ≡ firstRefused (corrected bs (take (rowLength row) st))
       → (numberOf r ≡ 0 → (correctionsOf r ≡ countOf (corrected bs (take (rowLength row) st))) × (st′ ≡ joined (blocksOf (corrected bs (take (rowLength row) st))) ++ rest′))
       → Tells n (fromData (dataParts bs (cut bs st′)) p s) t p′ s′
       → Body m st p s t p′ s′

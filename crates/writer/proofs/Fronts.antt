@@ -10,9 +10,9 @@ use Rattle.symbol.specs.Version.{sideOf}
 use Rattle.symbol.specs.Layout.{layoutOf}
 use Rattle.information.specs.Information.{infoBits, infoWritten}
 use Rattle.blocks.specs.Blocks.{totalOf, rowOf, rowLength, shapes, shapesOf, totalData}
-use Rattle.codewords.specs.Codewords.{maskBit, placed, interleaved, squareOf}
+use Rattle.codewords.specs.Codewords.{maskBit, placed, fromStream, squareOf}
 use Rattle.blockwise.specs.Blockwise.{streamOf}
-use Rattle.script.specs.Check.{commandsOf, encoded}
+use Rattle.script.specs.Check.{commandsOf, scriptData}
 use Rattle.squares.specs.Write.{roomOf, markOf}
 use Rattle.writer.specs.declared.Mark.{Mark}
 use Rattle.writer.specs.Inner.{Ranged, Ready}
@@ -24,39 +24,39 @@ front n xs s s′ h k e = ap (take n) e ∙ take-at xs (drop n s) n (omega (arit
 -- ---- the stream
 
 -- data encoded, and written into the blocks of a row
-pub stream-encoded : (script payload r ds s s′ : List ℕ) (n : ℕ) → n ≡ totalData (shapes r) → ds ≡ encoded n (commandsOf script payload) → rowLength r ≤ length s
+pub stream-encoded : (script payload r ds s s′ : List ℕ) (n : ℕ) → n ≡ totalData (shapes r) → ds ≡ scriptData n (commandsOf script payload) → rowLength r ≤ length s
     → length s′ ≡ length s → s′ ≡ streamOf (shapes r) ds ++ drop (rowLength r) s
-    → take (rowLength r) s′ ≡ streamOf (shapes r) (encoded (totalData (shapes r)) (commandsOf script payload))
+    → take (rowLength r) s′ ≡ streamOf (shapes r) (scriptData (totalData (shapes r)) (commandsOf script payload))
 stream-encoded script payload r ds s s′ n en ed h k e =
     front (rowLength r) (streamOf (shapes r) ds) s s′ h k e
-    ∙ ap (streamOf (shapes r)) (ed ∙ ap (λ (x : ℕ). encoded x (commandsOf script payload)) en)
+    ∙ ap (streamOf (shapes r)) (ed ∙ ap (λ (x : ℕ). scriptData x (commandsOf script payload)) en)
 
 -- for the row of a version and level
 pub stream-of-row : (script payload : List ℕ) (v l : ℕ) (r s : List ℕ) → r ≡ rowOf v l → rowLength r ≡ totalOf v
-    → take (rowLength r) s ≡ streamOf (shapes r) (encoded (totalData (shapes r)) (commandsOf script payload))
-    → take (totalOf v) s ≡ streamOf (shapesOf v l) (encoded (roomOf v l) (commandsOf script payload))
+    → take (rowLength r) s ≡ streamOf (shapes r) (scriptData (totalData (shapes r)) (commandsOf script payload))
+    → take (totalOf v) s ≡ streamOf (shapesOf v l) (scriptData (roomOf v l) (commandsOf script payload))
 unfolding shapesOf
 stream-of-row script payload v l r s er en e =
-    ap (λ (n : ℕ). take n s) (sym en) ∙ e ∙ ap (λ (x : List ℕ). streamOf (shapes x) (encoded (totalData (shapes x)) (commandsOf script payload))) er
+    ap (λ (n : ℕ). take n s) (sym en) ∙ e ∙ ap (λ (x : List ℕ). streamOf (shapes x) (scriptData (totalData (shapes x)) (commandsOf script payload))) er
 
 -- ---- the square
 
 -- a stream placed in a square, by way of its codewords in front of a buffer
 module _ (m : Mark) (ks : List ℕ) (R : Ready m ks) (stream found found′ sq sq′ : List ℕ) (total side : ℕ) (et : total ≡ totalOf (m .version)) (es : side ≡ sideOf (m .version)) where
-  pub stream-placed : total ≤ length found → length found′ ≡ length found → found′ ≡ interleaved (take total stream) ++ drop total found
+  pub stream-placed : total ≤ length found → length found′ ≡ length found → found′ ≡ fromStream (take total stream) ++ drop total found
       → length sq ≡ sideOf (m .version) * sideOf (m .version) → sq′ ≡ placed (maskBit side (m .mask)) 0 (take (length sq) ks) (bitsOf (take total found′))
       → sq′ ≡ squareOf (maskBit (sideOf (m .version)) (m .mask)) (layoutOf (m .version)) (take (totalOf (m .version)) stream)
   unfolding squareOf
   stream-placed h k e n f =
       let a : take (length sq) ks ≡ layoutOf (m .version) = ap (λ (x : ℕ). take x ks) n ∙ R .kinds in
-      let b : take total found′ ≡ interleaved (take (totalOf (m .version)) stream) =
-      front total (interleaved (take total stream)) found found′ h k e ∙ ap (λ (x : ℕ). interleaved (take x stream)) et in
+      let b : take total found′ ≡ fromStream (take (totalOf (m .version)) stream) =
+      front total (fromStream (take total stream)) found found′ h k e ∙ ap (λ (x : ℕ). fromStream (take x stream)) et in
       f ∙ ap₂ (λ (x y : List ℕ). placed (maskBit side (m .mask)) 0 x (bitsOf y)) a b
-      ∙ ap (λ (x : ℕ). placed (maskBit x (m .mask)) 0 (layoutOf (m .version)) (bitsOf (interleaved (take (totalOf (m .version)) stream)))) es
+      ∙ ap (λ (x : ℕ). placed (maskBit x (m .mask)) 0 (layoutOf (m .version)) (bitsOf (fromStream (take (totalOf (m .version)) stream)))) es
 
 -- the mark: its stream placed, then its word written
 pub mark-made : (m : Mark) (s p stream sq sq′ : List ℕ) (side : ℕ) → Ranged m → side ≡ sideOf (m .version)
-    → stream ≡ streamOf (shapesOf (m .version) (m .level)) (encoded (roomOf (m .version) (m .level)) (commandsOf s p))
+    → stream ≡ streamOf (shapesOf (m .version) (m .level)) (scriptData (roomOf (m .version) (m .level)) (commandsOf s p))
     → sq ≡ squareOf (maskBit (sideOf (m .version)) (m .mask)) (layoutOf (m .version)) stream → sq′ ≡ infoWritten side (m .word) sq
     → sq′ ≡ markOf (m .version) (m .level) (m .mask) s p
 unfolding markOf

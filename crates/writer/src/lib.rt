@@ -10,7 +10,7 @@ ghost use Rattle.symbol.specs.Layout.{layoutOf};
 ghost use Rattle.blocks.specs.Blocks.{totalOf, shapes, rowLength, rowHolds, totalData};
 ghost use Rattle.codewords.specs.Codewords.{maskBit, squareOf};
 ghost use Rattle.blockwise.specs.Blockwise.{streamOf};
-ghost use Rattle.script.specs.Check.{commandsOf, encoded};
+ghost use Rattle.script.specs.Check.{commandsOf, scriptData};
 ghost use Rattle.script.specs.Inner.{Fits};
 ghost use Rattle.squares.specs.Read.{unless};
 ghost use Rattle.squares.specs.Write.{roomOf, writeRefusal, markOf, writingOf, writeOf};
@@ -69,7 +69,7 @@ fn script_refusal(m: Mark, row: &[u8], script: &[u8], payload: &[u8]) -> usize
 fn encode_stream(stream: &mut [u8], data: &mut [u8], row: &[u8], script: &[u8], payload: &[u8])
     requires { ⌜ (length (now row) ≡ 9) × T (rowHolds (now row) (rowLength (now row))) × (rowLength (now row) ≤ length (now stream)) × (length (now «data») ≡ totalData (shapes (now row))) ⌝ }
     requires { ⌜ Fits (now script) (now payload) (length (now «data»)) × (length (now «data») ≤ 3886) ⌝ }
-    ensures { λ _. ⌜ take (rowLength (now (row .entry))) (now (stream .exit)) ≡ streamOf (shapes (now (row .entry))) (encoded (totalData (shapes (now (row .entry)))) (commandsOf (now (script .entry)) (now (payload .entry)))) ⌝ }
+    ensures { λ _. ⌜ take (rowLength (now (row .entry))) (now (stream .exit)) ≡ streamOf (shapes (now (row .entry))) (scriptData (totalData (shapes (now (row .entry)))) (commandsOf (now (script .entry)) (now (payload .entry)))) ⌝ }
 {
     encoding::encode(script, payload, data);
     block_writer::write_blocks(stream, data, row);

@@ -1,7 +1,7 @@
 -- `hx_correct` meets its contract: one case of the answer after the other. Assumes nothing.
 use mathlib.Core.Path.{ap, sym, _∙_}
 use Rattle.corrector.specs.declared.Correction.{Correction}
-use Rattle.corrector.specs.Correct.{outcome, refused}
+use Rattle.corrector.specs.Correct.{outcome, refusedBlock}
 use borrow.Author.Needs.{needs}
 use Rattle.compare_blocks.proofs.hx_correct.Statement.{statement}
 use Rattle.compare_blocks.proofs.hx_correct.Tie as tie
@@ -13,13 +13,13 @@ returns c =
     sym (ap (λ (x : Correction). outcome x (correct .last .0)) (c .before .n .given .1)) ∙ correct .ensures
 
 returns-2 : tie.Need-returns-2
-unfolding outcome refused
+unfolding outcome refusedBlock
 returns-2 c =
     let correct = c .before .before .before .before .correct in
     sym (ap (λ (x : Correction). outcome x (correct .last .0)) (c .enum-told .given .1)) ∙ correct .ensures
 
 returns-3 : tie.Need-returns-3
-unfolding outcome refused
+unfolding outcome refusedBlock
 returns-3 c =
     let correct = c .before .before .before .before .correct in
     sym (ap (λ (x : Correction). outcome x (correct .last .0)) (c .enum-told2 .given .1)) ∙ correct .ensures

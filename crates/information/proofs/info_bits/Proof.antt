@@ -1,5 +1,5 @@
 -- `info_bits` meets its contract. Assumes nothing.
-use Rattle.information.specs.Information.{InfoAnswer, wordOf, dataOf, infoBits, isInfo, infoOf}
+use Rattle.information.specs.Information.{InfoAnswer, wordOf, infoData, infoBits, isInfo, infoOf}
 use Rattle.symbol.specs.Version.{isVersion}
 use mathlib.Core.Path.{ap, _∙_}
 use Prim.Native.Nat.{ℕ}
@@ -31,7 +31,7 @@ returns-4 c =
     )
 
 returns-5 : tie.Need-returns-5
-unfolding infoOf isInfo isVersion infoBits dataOf
+unfolding infoOf isInfo isVersion infoBits infoData
 returns-5 c =
     simp (
       le-leb _ _ (c .before .before .before .before .before .if1 .left),

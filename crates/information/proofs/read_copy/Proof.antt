@@ -1,10 +1,10 @@
 use borrow.Author.Needs.{needs}
-use Rattle.information.specs.Information.{numberOf, copyOf}
+use Rattle.information.specs.Information.{numberFrom, copyOf}
 use Rattle.information.proofs.read_copy.Statement.{statement}
 use Rattle.information.proofs.read_copy.Tie as tie
 
 read-arm-requires : tie.Need-read-arm-requires
-unfolding numberOf
+unfolding numberFrom
 read-arm-requires c κs = search needs
 
 returns : tie.Need-returns

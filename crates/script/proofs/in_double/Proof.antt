@@ -1,6 +1,6 @@
 use mathlib.Core.Path.{_∙_, ap}
 use borrow.Author.Tests.{lt-ltb, le-ltb, eq-eqb, ne-eqb}
-use Rattle.segments.specs.Segments.{firstOf}
+use Rattle.segments.specs.Segments.{firstByte}
 use Rattle.script.specs.Writer.{doubleCode, inDouble}
 use borrow.Author.Needs.{needs}
 use Rattle.script.proofs.in_double.Statement.{statement}
@@ -15,7 +15,7 @@ returns c =
     let e = p .double-code .ensures in
     let h = rw (d .first-byte .ensures .1, e) at (c .before .if2 .taken) in
     let l = rw e at (d .before .if1 .taken) in
-    rw (c .second-byte .ensures .1, e, lt-ltb (doubleCode (a .a) (a .b)) 23940 l, eq-eqb (firstOf (doubleCode (a .a) (a .b))) (a .a) h)
+    rw (c .second-byte .ensures .1, e, lt-ltb (doubleCode (a .a) (a .b)) 23940 l, eq-eqb (firstByte (doubleCode (a .a) (a .b))) (a .a) h)
 
 returns-2 : tie.Need-returns-2
 unfolding inDouble
@@ -25,7 +25,7 @@ returns-2 c =
     let a = p .before .args in
     let e = p .double-code .ensures in
     let l = rw e at (d .before .if1 .taken) in
-    rw (lt-ltb (doubleCode (a .a) (a .b)) 23940 l, ne-eqb (firstOf (doubleCode (a .a) (a .b))) (a .a) (λ q. c .if2 .left (d .first-byte .ensures .1 ∙ ap firstOf e ∙ q)))
+    rw (lt-ltb (doubleCode (a .a) (a .b)) 23940 l, ne-eqb (firstByte (doubleCode (a .a) (a .b))) (a .a) (λ q. c .if2 .left (d .first-byte .ensures .1 ∙ ap firstByte e ∙ q)))
 
 returns-3 : tie.Need-returns-3
 unfolding inDouble

@@ -6,7 +6,7 @@ use Prim.Native.Nat.{ℕ, _≤_, _*_, _-_, _+_}
 use lib.ListN.{length}
 use lib.Seq.{sets}
 use Rattle.bits.proofs.Words.{WordAt, word-read, word-cut}
-use Rattle.segments.specs.Segments.{firstOf, secondOf}
+use Rattle.segments.specs.Segments.{firstByte, secondByte}
 use Rattle.segments.specs.Passes.{doubleByteAt}
 use Rattle.segments.proofs.Turns.{double-cut, double-end, double-lacks, double-pair}
 use Rattle.segments.proofs.double_byte.Statement.{statement}
@@ -70,7 +70,7 @@ loop-again c =
     let r = word k in
     let m = r .room in
     let p = c .before .before .put-pair in
-    let e : p .last .0 ≡ sets (l .out) (l .n) (firstOf w ∷ secondOf w ∷ []) =
+    let e : p .last .0 ≡ sets (l .out) (l .n) (firstByte w ∷ secondByte w ∷ []) =
     p .ensures ∙ ap₂ (λ (x y : ℕ). sets (l .out) (l .n) (x ∷ y ∷ [])) (first-byte .ensures .1) (c .before .before .before .second-byte .ensures .1) in (
       p .kept .0 ∙ l .inv .0,
       omega arith,

@@ -1,12 +1,12 @@
 use native.Mathlib.Omega.{arith}
 use mathlib.Core.Path.{refl}
-use Rattle.segments.specs.Segments.{firstOf}
+use Rattle.segments.specs.Segments.{firstByte}
 use borrow.Author.Needs.{needs}
 use Rattle.segments.proofs.first_byte.Statement.{statement}
 use Rattle.segments.proofs.first_byte.Tie as tie
 
 returns : tie.Need-returns
-unfolding firstOf
+unfolding firstByte
 returns c = (omega arith, refl)
 
 pub first-byte-spec : {M : Type 1} → statement M

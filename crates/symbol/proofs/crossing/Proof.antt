@@ -1,7 +1,7 @@
 -- `crossing` meets its contract.
 use mathlib.Core.Path.{ap}
 use native.Mathlib.Omega.{arith}
-use Rattle.symbol.specs.Layout.{lineLeft, lineDown, rowOf, columnOf}
+use Rattle.symbol.specs.Layout.{lineLeft, lineDown, rowLine, columnLine}
 use Rattle.symbol.proofs.Coordinates.{ok, inside-call}
 use Rattle.symbol.proofs.Plots.{none, next, exactly, heard, crossing-odd, crossing-first, crossing-on}
 use borrow.Author.Needs.{needs}
@@ -44,10 +44,10 @@ returns-3 c =
     let step = c .before .before .before .before .before .before .before .before .step in
     let step2 = c .before .before .before .step2 in
     exactly (crossing-on v (start .args .n) (start .args .j) (if1 .left) (if2 .left))
-    (next (exactly (ap (lineLeft (columnOf v (start .args .j)) (rowOf v (start .args .n))) (step .ensures .0))
+    (next (exactly (ap (lineLeft (columnLine v (start .args .j)) (rowLine v (start .args .n))) (step .ensures .0))
     (heard (λ a b. lineLeft a b (step .result)) (ok (x .result) (x .ok)) (ok (y .result) (y .ok)) (x .ensures .0) (y .ensures .0)
     (c .before .before .before .before .before .before .before .line-left .ensures)))
-    (exactly (ap (lineDown (columnOf v (start .args .j)) (rowOf v (start .args .n))) (step2 .ensures .0))
+    (exactly (ap (lineDown (columnLine v (start .args .j)) (rowLine v (start .args .n))) (step2 .ensures .0))
     (heard (λ a b. lineDown a b (step2 .result)) (ok (x .result) (x .ok)) (ok (y .result) (y .ok)) (x .ensures .0) (y .ensures .0)
     (c .before .before .line-down .ensures))))
 

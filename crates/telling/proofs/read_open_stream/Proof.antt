@@ -4,7 +4,7 @@ use mathlib.Core.List.{List, _++_}
 use Prim.Native.Nat.{ℕ}
 use native.Mathlib.Omega.{arith}
 use lib.ListN.{drop}
-use Rattle.codewords.specs.Codewords.{streamOf}
+use Rattle.codewords.specs.Codewords.{toStream}
 use Rattle.blocks.proofs.Rows.{total-open}
 use Rattle.small_marks.proofs.Open.{open-enough}
 use Rattle.squares.proofs.Modules.{codewords-taken}
@@ -32,7 +32,7 @@ returns c =
     let a = c .before .before .before .before .before .before .before .before .before .before .before in
     let total = c .before .before .before .before .before .before .before .before .total-codewords in
     stream-is (a .args .m) _ _ (a .pre .0) (open-drawn _) _ _ _ _ refl (total .ensures .0)
-    (c .before .before .to-stream .ensures ∙ ap (λ (x : List ℕ). streamOf x ++ drop (total .result) (a .args .stream .now)) (codewords-taken _ _ _ _ (c .before .before .before .before .before .before .read-open .ensures)))
+    (c .before .before .to-stream .ensures ∙ ap (λ (x : List ℕ). toStream x ++ drop (total .result) (a .args .stream .now)) (codewords-taken _ _ _ _ (c .before .before .before .before .before .before .read-open .ensures)))
 
 pub read-open-stream-spec : {M : Type 1} → statement M
 read-open-stream-spec =

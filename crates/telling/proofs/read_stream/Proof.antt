@@ -4,7 +4,7 @@ use mathlib.Core.List.{List, _++_}
 use Prim.Native.Nat.{ℕ, _*_}
 use native.Mathlib.Omega.{arith}
 use lib.ListN.{drop}
-use Rattle.codewords.specs.Codewords.{streamOf}
+use Rattle.codewords.specs.Codewords.{toStream}
 use Rattle.squares.proofs.Modules.{codewords-taken}
 use Rattle.telling.proofs.Body.{legible, enough-bits, stream-is}
 use borrow.Author.Needs.{needs}
@@ -26,7 +26,7 @@ returns c =
     let a = c .before .before .before .before .before .before .before .before .before .before .before .before .before in
     let total = c .before .before .before .before .before .before .before .before .total-codewords in
     stream-is (a .args .m) _ _ (a .pre .0) (a .pre .1) _ _ _ _ (c .before .before .before .before .before .before .before .before .before .side .ensures) (total .ensures .0)
-    (c .before .before .to-stream .ensures ∙ ap (λ (x : List ℕ). streamOf x ++ drop (total .result) (a .args .stream .now)) (codewords-taken _ _ _ _ (c .before .before .before .before .before .before .read-codewords .ensures)))
+    (c .before .before .to-stream .ensures ∙ ap (λ (x : List ℕ). toStream x ++ drop (total .result) (a .args .stream .now)) (codewords-taken _ _ _ _ (c .before .before .before .before .before .before .read-codewords .ensures)))
 
 pub read-stream-spec : {M : Type 1} → statement M
 read-stream-spec =
