@@ -41,15 +41,8 @@ alignment-requires c κs =
     let corners = c .before .before .before .before .before .corners in
     let spacing = c .spacing-of .ensures in
     let e : side .result ≡ c .spacing-of .result .side = side .ensures ∙ sym (spacing .0 .side-is ∙ ap sideOf (spacing .1)) in
-    record {
-      spaced = spacing .0;
-      room = omega (
-        arith,
-        corners .kept .0,
-        subst (λ (k : ℕ). k * k ≤ length
-            (start .args .out .now)) e (if3 .left),
-      );
-    }
+    let room = subst (λ (k : ℕ). k * k ≤ length (start .args .out .now)) e (if3 .left) in
+    record { spaced = spacing .0; room = omega (arith, corners .kept .0, room) }
 
 returns-5 : tie.Need-returns-5
 returns-5 c =
