@@ -7,7 +7,7 @@ use Rattle.script.specs.declared.Check.{Check}
 use Rattle.script.specs.declared.Check.the-variants.{Bits, Malformed, Lacking, Empty}
 
 abbrev pub Is : DataOutcome → ℕ → ℕ → ℕ → List ℕ → List ℕ → Type 0
-Is o refusal n m p c = (refusal ≡ o .refusal) × (n ≡ o .payloadLength) × (m ≡ o .scriptLength) × (p ≡ o .payload) × (c ≡ o .script)
+Is o refusal n m p c = (refusal ≡ o .number) × (n ≡ o .payloadLength) × (m ≡ o .scriptLength) × (p ≡ o .payload) × (c ≡ o .script)
 
 -- the refusal number, and the number of bits beside it
 abbrev pub Says : Check → ℕ → ℕ → Type 0

@@ -20,8 +20,8 @@ use Rattle.segments.specs.FromData.{DataOutcome, isBroken, fromData, dataOutcom
 use Rattle.segments.proofs.Steps.{not-done}
 
 same : {n n′ m m′ : ℕ} {u u′ v v′ : List ℕ} → n ≡ n′ → m ≡ m′ → u ≡ u′ → v ≡ v′
-    → _≡_ {A = DataOutcome} (record { refusal = 0; payloadLength = n; scriptLength = m; payload = u; script = v }) (record { refusal = 0; payloadLength = n′; scriptLength = m′; payload = u′; script = v′ })
-same p q r t = λ i. record { refusal = 0; payloadLength = p i; scriptLength = q i; payload = r i; script = t i }
+    → _≡_ {A = DataOutcome} (record { number = 0; payloadLength = n; scriptLength = m; payload = u; script = v }) (record { number = 0; payloadLength = n′; scriptLength = m′; payload = u′; script = v′ })
+same p q r t = λ i. record { number = 0; payloadLength = p i; scriptLength = q i; payload = r i; script = t i }
 
 -- the front of a buffer in which bytes were stored, before the rest of another
 front : (bs l x p : List ℕ) (n : ℕ) → n ≡ length bs → x ≡ sets l 0 bs → length bs ≤ length l → take n x ++ drop n p ≡ bs ++ drop (length bs) p

@@ -21,7 +21,7 @@ pub answers-read : (a : Answer) (p s n : ℕ) (t : Told) → a ≡ Read p s → 
 answers-read a p s n t e f g h k =
     subst (λ (b : Answer). Answers b n t) (sym e)
     (record {
-      is = λ x y i. record { refusal = sym f i; payloadLength = sym h i; scriptLength = sym k i; payload = x; script = y };
+      is = λ x y i. record { number = sym f i; payloadLength = sym h i; scriptLength = sym k i; payload = x; script = y };
       count = inr g;
       zero = λ z. g;
     })
@@ -31,14 +31,14 @@ answers-refused k b a n t e f d R =
     subst (λ (b : Answer). Answers b n t) (sym e)
     (record {
       is = λ x y. f x y
-          ∙ (λ i. record { refusal = sym (R .number) i; payloadLength = sym (R .payload) i; scriptLength = sym (R .script) i; payload = x; script = y });
+          ∙ (λ i. record { number = sym (R .number) i; payloadLength = sym (R .payload) i; scriptLength = sym (R .script) i; payload = x; script = y });
       count = inl (R .count);
       zero = λ z. absurd (d (sym (R .number) ∙ z));
     })
 
 -- the numbers of an outcome are small
 pub record Little (o : DataOutcome) : Type 0 where
-  pub number : o .refusal < 256
+  pub number : o .number < 256
   pub payload : o .payloadLength < 65536
   pub script : o .scriptLength < 65536
 

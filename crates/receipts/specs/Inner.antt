@@ -31,12 +31,12 @@ pub record Refuses (n : ℕ) (t : Told) : Type 0 where
 
 -- what is told of an answer of Segments from data
 pub record Answers (a : Answer) (n : ℕ) (t : Told) : Type 0 where
-  pub is : (p s : List ℕ) → dataOutcome a p s ≡ record { refusal = t .number; payloadLength = t .payload; scriptLength = t .script; payload = p; script = s }
+  pub is : (p s : List ℕ) → dataOutcome a p s ≡ record { number = t .number; payloadLength = t .payload; scriptLength = t .script; payload = p; script = s }
   pub count : (t .count ≡ 0) ⊎ (t .count ≡ n)
   pub zero : t .number ≡ 0 → t .count ≡ n
 
 -- what is told of an outcome of Segments from data, p and s being the buffers afterwards
 pub record Tells (n : ℕ) (o : DataOutcome) (t : Told) (p s : List ℕ) : Type 0 where
-  pub outcome : o ≡ record { refusal = t .number; payloadLength = t .payload; scriptLength = t .script; payload = p; script = s }
+  pub outcome : o ≡ record { number = t .number; payloadLength = t .payload; scriptLength = t .script; payload = p; script = s }
   pub count : t .number ≡ 0 → t .count ≡ n
   pub small : Small t

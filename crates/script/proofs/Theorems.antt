@@ -45,7 +45,7 @@ read-back n gs l h k = rw (data-length n gs k, data-bits n gs k) (round (8 * n +
 pub round-trip : (s p : List ℕ) (n : ℕ) (buffer other : List ℕ) → ((i : ℕ) → getD s i 0 < 256) → Fits s p n → n ≤ 3886
     → length p ≤ length buffer → length s ≤ length other
     → fromData (scriptData n (commandsOf s p)) buffer other
-    ≡ record { refusal = 0; payloadLength = length p; scriptLength = length s; payload = p ++ drop (length p) buffer; script = s ++ drop (length s) other }
+    ≡ record { number = 0; payloadLength = length p; scriptLength = length s; payload = p ++ drop (length p) buffer; script = s ++ drop (length s) other }
 round-trip s p n buffer other b f m lp ls =
     let gs = f .segments in
     let g = again s p n b f in

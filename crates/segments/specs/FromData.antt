@@ -12,7 +12,7 @@ use Rattle.segments.specs.Segments.{Ending, endMark, fewBits, broken, se
 
 -- what the operation answers and what the two lent buffers hold afterwards
 pub record DataOutcome : Type 0 where
-  pub refusal : ℕ
+  pub number : ℕ
   pub payloadLength : ℕ
   pub scriptLength : ℕ
   pub payload : List ℕ
@@ -20,7 +20,7 @@ pub record DataOutcome : Type 0 where
 
 -- a refusal leaves the payload buffer p and the script buffer c as they were
 abbrev pub refusedData : ℕ → List ℕ → List ℕ → DataOutcome
-refusedData k p c = record { refusal = k; payloadLength = 0; scriptLength = 0; payload = p; script = c }
+refusedData k p c = record { number = k; payloadLength = 0; scriptLength = 0; payload = p; script = c }
 
 -- segments given in the buffers p and c
 abbrev pub given : List Segment → List ℕ → List ℕ → DataOutcome
@@ -29,7 +29,7 @@ given gs p c =
     (cond (ltb (length p) (length (payloadOf gs))) (refusedData 9 p c)
     (cond (ltb (length c) (length (scriptOf gs))) (refusedData 10 p c)
     (record {
-      refusal = 0;
+      number = 0;
       payloadLength = length (payloadOf gs);
       scriptLength = length (scriptOf gs);
       payload = payloadOf gs ++ drop (length (payloadOf gs)) p;
@@ -50,7 +50,7 @@ fromData s p c =
 
 -- what an answer says, with what the buffers hold afterwards
 abbrev pub dataOutcome : Answer → List ℕ → List ℕ → DataOutcome
-dataOutcome (Read n m) p c = record { refusal = 0; payloadLength = n; scriptLength = m; payload = p; script = c }
+dataOutcome (Read n m) p c = record { number = 0; payloadLength = n; scriptLength = m; payload = p; script = c }
 dataOutcome TooLong p c = refusedData 2 p c
 dataOutcome Broken p c = refusedData 7 p c
 dataOutcome Empty p c = refusedData 8 p c

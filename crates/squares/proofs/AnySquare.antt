@@ -38,7 +38,7 @@ use Rattle.squares.proofs.Starts.{in-body, no-receipt, in-refusal, side
 
 -- ---- Segments from data never answers 6
 
-not-six : (b : Bool) (x y : Given) → x .refusal ≢ 6 → y .refusal ≢ 6 → cond b x y .refusal ≢ 6
+not-six : (b : Bool) (x y : Given) → x .number ≢ 6 → y .number ≢ 6 → cond b x y .number ≢ 6
 not-six true x y p q = p
 not-six false x y p q = q
 
@@ -46,13 +46,13 @@ other : (n : ℕ) → n ≡ 6 → n < 6 ⊎ 6 < n → ⊥
 other n e (inl h) = omega arith
 other n e (inr h) = omega arith
 
-given-not-six : (gs : List Segment) (p s : List ℕ) → given gs p s .refusal ≢ 6
+given-not-six : (gs : List Segment) (p s : List ℕ) → given gs p s .number ≢ 6
 given-not-six gs p s =
     not-six (eqb (length (payloadOf gs)) 0) (refusedData 8 p s) _ (λ e. omega arith)
     (not-six (ltb (length p) (length (payloadOf gs))) (refusedData 9 p s) _ (λ e. omega arith)
     (not-six (ltb (length s) (length (scriptOf gs))) (refusedData 10 p s) _ (λ e. omega arith) (λ e. omega arith)))
 
-data-not-six : (ds p s : List ℕ) → fromData ds p s .refusal ≢ 6
+data-not-six : (ds p s : List ℕ) → fromData ds p s .number ≢ 6
 data-not-six ds p s =
     not-six (ltb 3886 (length ds)) (refusedData 2 p s) _ (λ e. omega arith)
     (not-six (isBroken (segmentsOf ds .end)) (refusedData 7 p s) _ (λ e. omega arith) (given-not-six (segmentsOf ds .segments) p s))

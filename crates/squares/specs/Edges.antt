@@ -20,7 +20,7 @@ one given expected = record { given = given ∷ []; expected = expected ∷ [] }
 
 -- what Segments from data gives: the refusal number and the payload
 unfoldable pub payloadIn : DataOutcome → List ℕ
-payloadIn o = o .refusal ∷ take (o .payloadLength) (o .payload)
+payloadIn o = o .number ∷ take (o .payloadLength) (o .payload)
 
 abbrev pub reads : List ℕ → List ℕ → Edge
 reads ds expected = record { given = payloadIn (fromData ds (replicate 8 0) (replicate 8 0)); expected = expected }

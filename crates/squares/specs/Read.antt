@@ -80,8 +80,8 @@ knownRefusal v level mask sq =
 -- what the segments of the corrected blocks give, with the count of their corrections
 unfoldable pub told : ℕ → ℕ → ℕ → ℕ → ℕ → DataOutcome → Reading
 told v level mask distance count o =
-    readingOf (o .refusal)
-    (cond (eqb (o .refusal) 0) (receiptOf v level mask count distance (o .payloadLength) (o .scriptLength)) (refusalReceipt (o .refusal)))
+    readingOf (o .number)
+    (cond (eqb (o .number) 0) (receiptOf v level mask count distance (o .payloadLength) (o .scriptLength)) (refusalReceipt (o .number)))
     (o .payload) (o .script)
 
 -- 6 if a block has no codeword in reach; then 7 to 10, and payload and script, as Segments from data

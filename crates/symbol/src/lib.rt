@@ -1,15 +1,14 @@
 // SPECIFICATION 2.1 and 4: versions; finders, separators, information and alignment patterns of a version
 // (han_xin.rs: `size`, `version`, `layout`, `alignment`).
-ghost use mathlib.Core.Bool.{true, false};
 ghost use mathlib.Core.Path.{_≡_};
 ghost use mathlib.Core.List.{[], _∷_};
 ghost use Prim.Native.Nat.{ℕ, _+_, _-_, _*_, _/_, _%_, _^_, _≤_, _<_};
 ghost use lib.ListN.{length, getD};
-ghost use lib.IntN.{pos, _+ℤ_, _-ℤ_};
+ghost use lib.IntN.{pos};
 ghost use lib.Signed.{mag};
 ghost use Rattle.symbol.specs.Version.{sideOf, sideRefusal, sideVersion, versionOf};
 ghost use Rattle.symbol.specs.Version as version;
-ghost use Rattle.symbol.specs.Layout.{finders, edge, half, within, finderRow, cornerKind, plot, each, when, stepOf, mOf, lineOf, rowLine, columnLine, odd, threeAt, assistant, rowEnds, columnEnds, lineModule, lineLeft, lineDown, crossing, crossings, alignment, layoutRefusal, layoutWritten, layoutNumber};
+ghost use Rattle.symbol.specs.Layout.{finders, edge, finderRow, cornerKind, plot, each, when, stepOf, mOf, lineOf, rowLine, columnLine, odd, threeAt, assistant, rowEnds, columnEnds, lineModule, lineLeft, lineDown, crossing, crossings, alignment, layoutRefusal, layoutWritten, layoutNumber};
 ghost use Rattle.symbol.specs.Inner.{Stored, RowRoom, Ends, UpTo, Beyond, Plotted, Spaced, Roomy, Inside, drawn, fourModules};
 
 pub struct Version {
@@ -480,7 +479,7 @@ fn edge_down(grid: &mut [u8], side: usize, x: i64, y: i64, height: usize)
     }
 }
 
-// The same where all of it lies in the square: no module is tested for that, which makes it fast.
+// The same where all of it lies in the square: each dark module and the light one at its lower left, with no test of where they lie.
 fn run_down(grid: &mut [u8], side: usize, column: usize, row: usize, height: usize)
     requires { ⌜ (side ≤ 189) × (side * side ≤ length (now grid)) × (1 ≤ column) × (column < side) × (1 ≤ height) × (row + height < side) ⌝ }
     ensures { λ _. ⌜ Plotted side (lineDown (pos column) (pos row) height) (now (grid .entry)) (now (grid .exit)) ⌝ }

@@ -21,5 +21,5 @@ returns c =
 
 pub write-batch-spec : {M : Type 1} → statement M
 write-batch-spec =
-    tie.close (tie.spec (λ c κs. search needs) write-one-requires (λ c. search needs) returns (λ c κs. search needs)
-    (λ c. search needs) (λ c. search needs))
+    tie.close (tie.spec (λ c κs. search needs) write-one-requires (λ c. search needs) returns (λ c κs. search needs) (λ c. search needs)
+    (λ c. search needs))

@@ -54,7 +54,7 @@ returns c =
 pub write-blocks-spec : {M : Type 1} → statement M
 write-blocks-spec =
     tie.close (tie.spec Inv-loop μ-loop loop-holds (λ c κs. search needs) write-batch-requires
-    (λ c. omega (arith, c .before .before .before .before .before .batch-of .ensures)) (λ c. omega (arith, next (c .before) .room .into))
-    (λ c. omega (arith, next (c .before) .room .into)) (λ c. omega (arith, next (c .before .before) .room .out))
-    (λ c. omega (arith, next (c .before .before) .room .out)) (λ c. search needs) (λ c. search needs) (λ c. next (c .before .before))
-    (λ c. c .before .loop .inv .size) returns)
+    (λ c. omega (arith, c .before .before .before .before .before .batch-of .ensures))
+    (λ c. omega (arith, next (c .before) .room .into)) (λ c. omega (arith, next (c .before) .room .into))
+    (λ c. omega (arith, next (c .before .before) .room .out)) (λ c. omega (arith, next (c .before .before) .room .out))
+    (λ c. search needs) (λ c. search needs) (λ c. next (c .before .before)) (λ c. c .before .loop .inv .size) returns)

@@ -66,7 +66,9 @@ write-many-spec =
     (λ c. pouring-start (c .before .before .before .before .before .before .before .pre .1)) (λ c. omega (arith, place (c .before)))
     (λ c. omega (arith, place (c .before))) (λ c κs. let p = place (c .before .before) in (omega (arith, p .0), p .1))
     (λ c. sym (c .before .before .before .before .before .before .before .before .before .prepare .ensures .size)) (λ c. search needs)
-    (λ c. search needs) (λ c. omega (arith, place (c .before .before .before .before .before .before), c .before .before .before .copy .kept .0))
-    write-with-requires (λ c. omega (arith, place (c .before .before .before .before .before .before .before .before .before .before .before)))
-    (λ c. search needs) (λ c. search needs) loop-again
-    (λ c. c .before .loop .inv .size) (λ c. pouring-end (c .before .loop .inv) (batch-none _ _ _ (c .loop-test .left))))
+    (λ c. search needs)
+    (λ c. omega (arith, place (c .before .before .before .before .before .before), c .before .before .before .copy .kept .0))
+    write-with-requires
+    (λ c. omega (arith, place (c .before .before .before .before .before .before .before .before .before .before .before)))
+    (λ c. search needs) (λ c. search needs) loop-again (λ c. c .before .loop .inv .size)
+    (λ c. pouring-end (c .before .loop .inv) (batch-none _ _ _ (c .loop-test .left))))

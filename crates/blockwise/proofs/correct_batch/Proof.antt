@@ -12,7 +12,7 @@ correct-one-requires : tie.Need-correct-one-requires
 correct-one-requires c κs =
     let start = c .before .before .before .before in
     let one = only-is (start .args .b) (c .before .before .is-one-short .ensures (c .before .if1 .taken)) in
-    omega (arith, start .pre .2, ap totalSize one, total-batch 1 (start .args .b .info) (start .args .b .parity))
+    omega (arith, ap totalSize one, total-batch 1 (start .args .b .info) (start .args .b .parity))
 
 returns : tie.Need-returns
 returns c =
@@ -21,5 +21,5 @@ returns c =
 
 pub correct-batch-spec : {M : Type 1} → statement M
 correct-batch-spec =
-    tie.close (tie.spec (λ c κs. search needs) correct-one-requires (λ c. search needs) returns (λ c κs. search needs) (λ c. search needs)
-    (λ c. search needs))
+    tie.close (tie.spec (λ c κs. search needs) correct-one-requires (λ c. search needs) returns (λ c κs. search needs)
+    (λ c. search needs) (λ c. search needs))

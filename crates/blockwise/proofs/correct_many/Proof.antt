@@ -19,7 +19,7 @@ abbrev μ-loop : tie.MeasureT-loop
 μ-loop stream₀ from b rows n₀ at₀ left₀ stream n at left = left
 
 returns : tie.Need-returns Inv-loop μ-loop
-returns c = passing-end (passing-start _ _ _ (c .before .before .before .pre)) (batch-none _ _ _ (omega (arith, c .if1 .taken)))
+returns c = passing-end (passing-start _ _ _ (c .before .before .before .pre)) (batch-none _ _ _ (omega arith))
 
 prepare-requires : tie.Need-prepare-requires Inv-loop μ-loop
 prepare-requires c κs = (refl, zeros 512)
@@ -29,7 +29,7 @@ correct-block-requires c κs =
     let b = c .before .before .before .before .before .before .before .before .before .before .args .b in
     let loop = c .before .before .before .loop in
     let room = passing-room (loop .inv) (batch 1 (b .info) (b .parity)) _ (batch-next _ _ _ (c .before .before .loop-test .taken)) in
-    (c .before .before .before .before .before .prepare .ensures, omega (arith, room, loop .inv .size, total-batch 1 (b .info) (b .parity)))
+    (c .before .before .before .before .before .prepare .ensures, omega (arith, room, total-batch 1 (b .info) (b .parity)))
 
 -- the block of a turn is corrected
 next : (c : tie.After-known-told Inv-loop μ-loop) →
@@ -54,7 +54,9 @@ returns-2 c =
 pub correct-many-spec : {M : Type 1} → statement M
 correct-many-spec =
     tie.close (tie.spec Inv-loop μ-loop returns (λ c. search needs) prepare-requires
-    (λ c. passing-start _ _ _ (c .before .before .before .before .before .before .pre)) (λ c. sym (c .before .before .before .before .prepare .ensures .size))
-    correct-block-requires (λ c. search needs) (λ c. search needs) (λ c. search needs) returns-2 (λ c. omega (arith, next c .few, next c .room))
-    (λ c. omega (arith, next (c .before) .room)) (λ c. omega (arith, next (c .before) .room)) (λ c. search needs) (λ c. search needs) (λ c. next (c .before))
-    (λ c. c .before .loop .inv .size) (λ c. passing-end (c .before .loop .inv) (batch-none _ _ _ (c .loop-test .left))))
+    (λ c. passing-start _ _ _ (c .before .before .before .before .before .before .pre))
+    (λ c. sym (c .before .before .before .before .prepare .ensures .size)) correct-block-requires (λ c. search needs)
+    (λ c. search needs) (λ c. search needs) returns-2 (λ c. omega (arith, next c .few, next c .room))
+    (λ c. omega (arith, next (c .before) .room)) (λ c. omega (arith, next (c .before) .room)) (λ c. search needs) (λ c. search needs)
+    (λ c. next (c .before)) (λ c. c .before .loop .inv .size)
+    (λ c. passing-end (c .before .loop .inv) (batch-none _ _ _ (c .loop-test .left))))

@@ -17,8 +17,7 @@ abbrev μ-loop : tie.MeasureT-loop
 μ-loop out₀ to stream from b into₀ at₀ left₀ out into at left = left
 
 copy-requires : tie.Need-copy-requires Inv-loop μ-loop
-copy-requires c κs =
-    let room = one-room _ _ _ (c .before .before .loop .inv) (c .before .loop-test .taken) in (room .0, omega (arith, room .1))
+copy-requires c κs = let room = one-room _ _ _ (c .before .before .loop .inv) (c .before .loop-test .taken) in (room .0, omega arith)
 
 -- the data part of a turn's block is copied
 next : (c : tie.After-struct-known Inv-loop μ-loop) →
@@ -36,6 +35,6 @@ next c =
 pub gather-batch-spec : {M : Type 1} → statement M
 gather-batch-spec =
     tie.close (tie.spec Inv-loop μ-loop (λ c. pouring-start (c .before .before .pre)) copy-requires
-    (λ c. omega (arith, next c .room .into)) (λ c. omega (arith, next (c .before) .room .out)) (λ c. omega (arith, next (c .before) .room .out))
-    (λ c. search needs) (λ c. search needs) (λ c. next (c .before)) (λ c. c .before .loop .inv .size)
-    (λ c. pouring-end (c .before .loop .inv) (batch-none _ _ _ (c .loop-test .left))))
+    (λ c. omega (arith, next c .room .into)) (λ c. omega (arith, next (c .before) .room .out))
+    (λ c. omega (arith, next (c .before) .room .out)) (λ c. search needs) (λ c. search needs) (λ c. next (c .before))
+    (λ c. c .before .loop .inv .size) (λ c. pouring-end (c .before .loop .inv) (batch-none _ _ _ (c .loop-test .left))))

@@ -39,7 +39,7 @@ add-end c =
     let d = l .inv .4 in
     let u = run-bounds (a .script .now) (l .i) (λ q. omega (arith, y .shared-slice-known .given q)) h (g .command-at .result) (g .command-at .ensures) (v .0 .0) (v .0 .1 .0) (v .1) in
     let t = run-front (a .script .now) (a .payload .now) (length (a .codewords .now)) (l .codewords) (l .i) (l .j) (l .at) h (g .command-at .result) (g .command-at .ensures) d (v .0 .0) (v .0 .1 .0) (v .1) in
-    let x = t .0 in omega arith
+    omega arith
 
 sub-write-run : tie.Need-sub-write-run Inv-loop μ-loop
 sub-write-run c =
@@ -53,7 +53,7 @@ sub-write-run c =
     let d = l .inv .4 in
     let u = run-bounds (a .script .now) (l .i) (λ q. omega (arith, y .shared-slice-known .given q)) h (g .command-at .result) (g .command-at .ensures) (v .0 .0) (v .0 .1 .0) (v .1) in
     let t = run-front (a .script .now) (a .payload .now) (length (a .codewords .now)) (l .codewords) (l .i) (l .j) (l .at) h (g .command-at .result) (g .command-at .ensures) d (v .0 .0) (v .0 .1 .0) (v .1) in
-    let x = t .0 in omega arith
+    omega arith
 
 part-write-run-start : tie.Need-part-write-run-start Inv-loop μ-loop
 part-write-run-start c =
@@ -67,7 +67,7 @@ part-write-run-start c =
     let d = l .inv .4 in
     let u = run-bounds (a .script .now) (l .i) (λ q. omega (arith, y .shared-slice-known .given q)) h (g .command-at .result) (g .command-at .ensures) (v .0 .0) (v .0 .1 .0) (v .1) in
     let t = run-front (a .script .now) (a .payload .now) (length (a .codewords .now)) (l .codewords) (l .i) (l .j) (l .at) h (g .command-at .result) (g .command-at .ensures) d (v .0 .0) (v .0 .1 .0) (v .1) in
-    let x = t .0 in omega arith
+    omega arith
 
 part-write-run-end : tie.Need-part-write-run-end Inv-loop μ-loop
 part-write-run-end c =
@@ -81,7 +81,7 @@ part-write-run-end c =
     let d = l .inv .4 in
     let u = run-bounds (a .script .now) (l .i) (λ q. omega (arith, y .shared-slice-known .given q)) h (g .command-at .result) (g .command-at .ensures) (v .0 .0) (v .0 .1 .0) (v .1) in
     let t = run-front (a .script .now) (a .payload .now) (length (a .codewords .now)) (l .codewords) (l .i) (l .j) (l .at) h (g .command-at .result) (g .command-at .ensures) d (v .0 .0) (v .0 .1 .0) (v .1) in
-    let x = t .0 in omega arith
+    omega arith
 
 write-run-requires : tie.Need-write-run-requires Inv-loop μ-loop
 write-run-requires c κs =
@@ -131,8 +131,6 @@ loop-again c =
     let q = c .before .before .before .write-run in
     let z : l .j + v .0 .1 .0 - l .j ≡ v .0 .1 .0 = omega arith in
     let e = c .command-size .ensures .0 in
-    let o = c .command-size .ensures .1 in
-    let x = t .0 in
     let f : Written (l .codewords) (l .at) (encodingOf (run (v .0 .0) (take (v .0 .1 .0) (drop (l .j) (a .payload .now))))) (q .result) (q .last .0) = rw z at (q .ensures) in (
       q .kept .0 ∙ l .inv .0,
       omega arith,

@@ -4,9 +4,6 @@ use Rattle.encoding.proofs.Zeros.{padded}
 use Rattle.encoding.proofs.pad.Statement.{statement}
 use Rattle.encoding.proofs.pad.Tie as tie
 
-clear-requires : tie.Need-clear-requires
-clear-requires c κs = let k = c .before .before .before .write-bits .kept .0 in omega arith
-
 returns : tie.Need-returns
 returns c =
     let p = c .before .before in
@@ -16,5 +13,5 @@ returns c =
 
 pub pad-spec : {M : Type 1} → statement M
 pad-spec =
-    tie.close (tie.spec (λ c. search needs) (λ c κs. (omega arith, omega arith, omega arith)) (λ c. omega arith) clear-requires
+    tie.close (tie.spec (λ c. search needs) (λ c κs. (omega arith, omega arith, omega arith)) (λ c. omega arith) (λ c κs. omega arith)
     (λ c. search needs) returns)

@@ -4,9 +4,7 @@ use Rattle.encoding.proofs.put.Statement.{statement}
 use Rattle.encoding.proofs.put.Tie as tie
 
 returns : tie.Need-returns
-returns c =
-    let a = c .before .before .before .before .before .args in
-    record { behind = rw length-low; bits = c .before .before .write-bits .ensures }
+returns c = record { behind = rw length-low; bits = c .before .before .write-bits .ensures }
 
 pub put-spec : {M : Type 1} → statement M
 put-spec = tie.close (tie.spec (λ c κs. search needs) (λ c. search needs) (λ c. search needs) returns)

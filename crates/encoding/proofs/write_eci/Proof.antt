@@ -35,8 +35,6 @@ put-requires-3 c κs =
     let a = s .args in
     let r = rw (eci-7 (a .v) (i .if1 .taken)) at (rest-room (eciBits (a .v)) (8 * length (a .buf .now)) (p .put .ensures) (s .pre .1)) in
     let t = rest-room (lowBits 7 (a .v)) (8 * length (a .buf .now)) (q .put2 .ensures) r in
-    let k = p .put .kept .0 in
-    let m = q .put2 .kept .0 in
     let l = length-low 7 (a .v) in
     (omega arith, omega arith, omega arith)
 
@@ -67,8 +65,6 @@ put-requires-5 c κs =
     let a = s .args in
     let r = rw (eci-14 (a .v) (i .before .if1 .left) (i .if2 .taken)) at (rest-room (eciBits (a .v)) (8 * length (a .buf .now)) (p .put .ensures) (s .pre .1)) in
     let t = rest-room (lowBits 14 (a .v)) (8 * length (a .buf .now)) (q .put4 .ensures) r in
-    let k = p .put .kept .0 in
-    let m = q .put4 .kept .0 in
     let l = length-low 14 (a .v) in
     (omega arith, omega arith, omega arith)
 
@@ -100,8 +96,6 @@ put-requires-7 c κs =
     let a = s .args in
     let r = rw (eci-21 (a .v) (i .before .if1 .left) (i .if2 .left)) at (rest-room (eciBits (a .v)) (8 * length (a .buf .now)) (p .put .ensures) (s .pre .1)) in
     let t = rest-room (lowBits 21 (a .v)) (8 * length (a .buf .now)) (q .put6 .ensures) r in
-    let k = p .put .kept .0 in
-    let m = q .put6 .kept .0 in
     let l = length-low 21 (a .v) in
     (omega arith, omega arith, omega arith)
 

@@ -67,7 +67,6 @@ put-requires-3 c κs =
     let a = i .before .before .before .before .before .args in
     let p = c .before .before .before .put2 in
     let r = word-room (8 * length (a .buf .now)) (word-done (one i) (rw (d .digit .ensures .0) at (p .ensures))) (omega arith) in
-    let k = p .kept .0 in
     (omega arith, omega arith, omega arith)
 
 same-length : tie.Need-same-length Inv-loop μ-loop
@@ -97,7 +96,6 @@ put-requires-5 c κs =
     let a = i .before .before .before .before .before .before .args in
     let p = c .before .before .before .put4 in
     let r = word-room (8 * length (a .buf .now)) (word-done (two i) (rw (d .before .digit2 .ensures .0, d .digit3 .ensures .0) at (p .ensures))) (omega arith) in
-    let k = p .kept .0 in
     (omega arith, omega arith, omega arith)
 
 same-length-2 : tie.Need-same-length-2 Inv-loop μ-loop

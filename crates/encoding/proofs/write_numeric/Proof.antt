@@ -6,9 +6,6 @@ use Rattle.encoding.proofs.write_numeric.Tie as tie
 
 write-groups-requires : tie.Need-write-groups-requires
 write-groups-requires c κs =
-    let w = c .before .before .before .before .write-sixes in
-    let d = w .ensures .place in
-    let k = w .kept .0 in
     (omega arith, rw (all-left (c .before .before .before .before .before .before .before .before .args .run .now) _) (omega arith))
 
 returns : tie.Need-returns

@@ -74,7 +74,6 @@ put-requires-3 c κs =
     let a = s .args in
     let e = four-bits (a .mode) (a .chars .now) (c .before .before .if3 .taken) in
     let r = rw e at (rest-room (modeBits (a .mode) (a .chars .now)) (8 * length (a .buf .now)) (p .put .ensures) (s .pre .4)) in
-    let k = p .put .kept .0 in
     let l = length-low 21 (fourCode (a .chars .now)) in
     (omega arith, omega arith, omega arith)
 

@@ -52,8 +52,6 @@ returns-2 c =
 segment-requires : tie.Need-segment-requires Inv-loop μ-loop
 segment-requires c κs =
     let w = word (c .before .before .before) in
-    let m = w .room in
-    let v = w .small in
     (omega arith, omega arith, omega arith, omega arith, omega arith)
 
 -- where the segment ended
@@ -86,7 +84,6 @@ loop-again c =
     let e = g .before .before .before in
     let k = e .before in
     let w = word k in
-    let m = w .room in
     let l = k .before .before .before .before .loop in
     let a = k .before .before .before .before .before .before .before .before .args in
     let q = g .segment in (

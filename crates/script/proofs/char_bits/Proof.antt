@@ -30,7 +30,7 @@ loop-again c =
     let s = g .before .before .before .step in
     let a = g .before .before .before .before .before .args in
     let t = run-same (a .run .now) (a .mode) (l .first) (l .j) (c .enum-told .given .0 .0) (s .result) (g .glyph-at .result) (g .glyph-at .ensures) (s .ensures .0) (s .ensures .1) (c .enum-told .given .1) in
-    (t .0, omega arith, l .inv .2 ∙ t .1, omega (arith, t .2, l .inv .3))
+    (t .0, omega arith, l .inv .2 ∙ t .1, omega arith)
 
 loop-less-2 : tie.Need-loop-less-2 Inv-loop μ-loop
 loop-less-2 c =
@@ -48,7 +48,7 @@ loop-again-2 c =
     let s = g .before .before .before .step in
     let a = g .before .before .before .before .before .args in
     let t = run-other (a .run .now) (a .mode) (l .first) (l .j) (c .enum-told2 .given .0 .0) (s .result) (g .glyph-at .result) (g .glyph-at .ensures) (s .ensures .0) (s .ensures .1) (c .enum-told2 .given .1) in
-    (t .0, omega arith, l .inv .2 ∙ t .1, omega (arith, t .2, l .inv .3))
+    (t .0, omega arith, l .inv .2 ∙ t .1, omega arith)
 
 returns : tie.Need-returns Inv-loop μ-loop
 returns c =
@@ -61,13 +61,11 @@ returns c =
 mul-t12 : tie.Need-mul-t12 Inv-loop μ-loop
 mul-t12 c =
     let l = c .before .before .loop in
-    let w = c .width .ensures .2 in
     omega (arith, small (c .width .result) (l .words + 1) (omega arith) (omega arith))
 
 add-t13 : tie.Need-add-t13 Inv-loop μ-loop
 add-t13 c =
     let l = c .before .before .loop in
-    let w = c .width .ensures .2 in
     omega (arith, small (c .width .result) (l .words + 1) (omega arith) (omega arith))
 
 returns-2 : tie.Need-returns-2 Inv-loop μ-loop
@@ -76,7 +74,6 @@ returns-2 c =
     let start = c .before .before .before .before .before in
     let l = c .before .before .loop in
     let a = start .args in
-    let w = c .width .ensures .2 in
     (rw (c .width .ensures .0) (run-done (a .run .now) (a .mode) (l .first) _ (l .j) (l .words) (omega arith) (l .inv .2) (l .inv .3) refl), omega (arith, small (c .width .result) (l .words + 1) (omega arith) (omega arith)))
 
 pub char-bits-spec : {M : Type 1} → statement M

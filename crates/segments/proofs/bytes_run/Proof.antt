@@ -48,7 +48,6 @@ loop-again c =
     let l = k .before .before .before .before .before .loop in
     let a = k .before .before .before .before .before .before .before .before .args in
     let r = word k in
-    let m = r .room in
     let p = c .before .before .put in
     let e : a .k - l .i - 1 ≡ a .k - (l .i + 1) = omega arith in (
       p .kept .0 ∙ l .inv .0,

@@ -41,7 +41,6 @@ returns-2 c =
     let l = k .before .before .before .before .loop in
     let a = k .before .before .before .before .before .before .before .args in
     let r = word k in
-    let m = r .room in
     (rw (l .inv .5 ∙ double-end (a .s .now) (l .at) (l .n) (l .out) (k .before .got .given .0 .0) r (c .if1 .taken)) (refl, refl), (omega arith, omega arith, omega arith, omega arith))
 
 returns-3 : tie.Need-returns-3 Inv-loop μ-loop
@@ -68,7 +67,6 @@ loop-again c =
     let l = k .before .before .before .before .loop in
     let a = k .before .before .before .before .before .before .before .args in
     let r = word k in
-    let m = r .room in
     let p = c .before .before .put-pair in
     let e : p .last .0 ≡ sets (l .out) (l .n) (firstByte w ∷ secondByte w ∷ []) =
     p .ensures ∙ ap₂ (λ (x y : ℕ). sets (l .out) (l .n) (x ∷ y ∷ [])) (first-byte .ensures .1) (c .before .before .before .second-byte .ensures .1) in (

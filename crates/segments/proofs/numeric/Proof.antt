@@ -65,7 +65,6 @@ returns-4 c =
     let a = k .before .before .before .before .before .before .before .before .before .before .before .before .args in
     let w = k .before .got .given .0 .0 in
     let r = word2 k in
-    let m = r .room in
     (rw (l .inv .6 ∙ groups-lack (a .s .now) (l .at) (l .n) (l .out) w r (l .p) (c .before .if2 .taken) (c .if3 .taken)) refl, tt)
 
 power-of-ten-requires : tie.Need-power-of-ten-requires Inv-loop μ-loop
@@ -78,8 +77,7 @@ returns-5 c =
     let a = k .before .before .before .before .before .before .before .before .before .before .before .before .args in
     let w = k .before .got .given .0 .0 in
     let r = word2 k in
-    let m = r .room in
-    (rw (l .inv .6 ∙ groups-large (a .s .now) (l .at) (l .n) (l .out) w r (l .p) (c .before .before .before .if2 .taken) (c .before .before .if3 .left) (omega (arith, c .before .power-of-ten .ensures .0))) refl, tt)
+    (rw (l .inv .6 ∙ groups-large (a .s .now) (l .at) (l .n) (l .out) w r (l .p) (c .before .before .before .if2 .taken) (c .before .before .if3 .left) (omega arith)) refl, tt)
 
 push-digits-requires : tie.Need-push-digits-requires Inv-loop μ-loop
 push-digits-requires c κs = let r = word2 (c .before .before .before .before .before) .small in (omega arith, omega arith)
@@ -97,16 +95,13 @@ returns-6 c =
     let before = c .before .before .before .before .before .before .before .before in
     let if2 = c .before .before .before .before .before .before .before .if2 in
     let if3 = c .before .before .before .before .before .before .if3 in
-    let power-of-ten = c .before .before .before .before .before .power-of-ten in
     let k = before in
     let l = k .before .before .before .before .loop in
     let a = k .before .before .before .before .before .before .before .before .before .before .before .before .args in
     let w = k .before .got .given .0 .0 in
     let r = word2 k in
-    let m = r .room in
     let q = c .before .before .push-digits in
-    let e = groups-end (a .s .now) (l .at) (l .n) (l .out) w r (l .p) (if2 .taken) (if3 .left) (omega (arith, power-of-ten .ensures .0)) in
-    let sm = r .small in
+    let e = groups-end (a .s .now) (l .at) (l .n) (l .out) w r (l .p) (if2 .taken) (if3 .left) (omega arith) in
     (rw (l .inv .6 ∙ e) (refl, q .ensures), (omega arith, omega arith, omega arith, omega arith))
 
 loop-less : tie.Need-loop-less Inv-loop μ-loop
@@ -121,7 +116,6 @@ loop-again c =
     let a = k .before .before .before .before .before .before .before .before .before .before .before .before .args in
     let w = k .before .got .given .0 .0 in
     let r = word2 k in
-    let m = r .room in
     let q = c .before .before .push-digits2 in (
       q .kept .0 ∙ l .inv .0,
       omega arith,

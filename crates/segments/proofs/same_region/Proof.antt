@@ -41,7 +41,6 @@ returns-2 c =
     let l = k .before .before .before .before .loop in
     let a = k .before .before .before .before .before .before .before .args in
     let r = word k in
-    let m = r .room in
     (l .inv .5 ∙ region-end (a .s .now) (l .at) (l .n) (l .out) (k .before .got .given .0 .0) (a .one) r (c .if1 .taken), omega arith, omega arith, omega arith, omega arith)
 
 returns-3 : tie.Need-returns-3 Inv-loop μ-loop
@@ -61,7 +60,7 @@ returns-4 c =
     let k = c .before .before .before .before in
     let l = k .before .before .before .before .loop in
     let a = k .before .before .before .before .before .before .before .args in
-    l .inv .5 ∙ region-lacks (a .s .now) (l .at) (l .n) (l .out) (k .before .got .given .0 .0) (a .one) (word k) (c .before .before .before .if1 .left) (c .before .before .if2 .left) (omega (arith, c .before .region-size .ensures))
+    l .inv .5 ∙ region-lacks (a .s .now) (l .at) (l .n) (l .out) (k .before .got .given .0 .0) (a .one) (word k) (c .before .before .before .if1 .left) (c .before .before .if2 .left) (omega arith)
 
 put-pair-requires : tie.Need-put-pair-requires Inv-loop μ-loop
 put-pair-requires c κs = (omega arith, c .before .high .ensures .0, c .low .ensures .0)
@@ -79,7 +78,6 @@ loop-again c =
     let l = k .before .before .before .before .loop in
     let a = k .before .before .before .before .before .before .before .args in
     let r = word k in
-    let m = r .room in
     let p = c .before .before .put-pair in
     let x : p .last .0 ≡ sets (l .out) (l .n) (highOf (a .one) w ∷ lowOf (a .one) w ∷ []) =
     p .ensures ∙ ap₂ (λ (x y : ℕ). sets (l .out) (l .n) (x ∷ y ∷ [])) (high .ensures .1) (c .before .before .before .low .ensures .1) in (
@@ -88,7 +86,7 @@ loop-again c =
       omega arith,
       omega arith,
       omega arith,
-      l .inv .5 ∙ region-pair (a .s .now) (l .at) (l .n) (l .out) w (a .one) r (e .before .before .before .if1 .left) (e .before .before .if2 .left) (omega (arith, e .if3 .left, e .before .region-size .ensures))
+      l .inv .5 ∙ region-pair (a .s .now) (l .at) (l .n) (l .out) w (a .one) r (e .before .before .before .if1 .left) (e .before .before .if2 .left) (omega arith)
           ∙ ap (λ (x : List ℕ). regionAt (a .s .now) (l .at + 12) (l .n + 2) x (a .one)) (sym x),
     )
 

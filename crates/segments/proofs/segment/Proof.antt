@@ -57,7 +57,7 @@ add-t27 c =
     let start = c .before .before .before .before .before .before .before .before .before .before .before .before .before .before .before in
     let read = c .before .before .before .before .before .read in
     let a = start .args in
-    omega (arith, command-length (a .mode) (read .given .0 .1 .0 - a .place .payload), c .before .before .put-command .ensures .0)
+    omega (arith, command-length (a .mode) (read .given .0 .1 .0 - a .place .payload))
 
 returns-4 : tie.Need-returns-4
 returns-4 c =

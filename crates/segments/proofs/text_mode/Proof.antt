@@ -52,7 +52,6 @@ loop-again c =
     let l = loop in
     let a = start .args in
     let r = word (c .before .before) in
-    let m = r .room in
     (l .inv .0, omega arith, omega arith, l .inv .3 ∙ text-switch (a .s .now) (l .at) (l .n) (l .out) (c .before .before .before .got .given .0 .0) (l .first) r (c .before .if1 .left) (c .if2 .taken), omega arith, omega arith)
 
 text-char-requires : tie.Need-text-char-requires Inv-loop μ-loop
@@ -69,7 +68,6 @@ loop-again-2 c =
     let l = k .before .before .before .before .before .loop in
     let a = k .before .before .before .before .before .before .before .before .args in
     let r = word (k .before) in
-    let m = r .room in
     let p = c .before .before .put in
     let e : p .last .0 ≡ set (l .out) (l .n) (charOf (l .first) (k .before .before .got .given .0 .0)) = p .ensures ∙ ap (λ (x : ℕ). set (l .out) (l .n) x) (c .before .before .before .text-char .ensures .1) in (
       p .kept .0 ∙ l .inv .0,

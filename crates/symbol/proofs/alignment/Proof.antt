@@ -13,5 +13,4 @@ returns c =
     next (rows-ends .ensures) (next (columns-ends .ensures) (c .before .before .crossings .ensures))
 
 pub alignment-spec : {M : Type 1} → statement M
-alignment-spec =
-    tie.close (tie.spec (λ c κs. search needs) (λ c κs. search needs) (λ c κs. search needs) (λ c. search needs) returns)
+alignment-spec = tie.close (tie.spec (λ c κs. search needs) (λ c κs. search needs) (λ c κs. search needs) (λ c. search needs) returns)

@@ -20,7 +20,7 @@ returns c =
 
 pub assistant-spec : {M : Type 1} → statement M
 assistant-spec =
-    tie.close (tie.spec (λ c. let o = c .before .before in back-fits 1 (o .fits .y) (o .pre .3) (omega arith))
-    (λ c κs. search needs) (λ c κs. search needs)
+    tie.close (tie.spec (λ c. let o = c .before .before in back-fits 1 (o .fits .y) (o .pre .3) (omega arith)) (λ c κs. search needs)
+    (λ c κs. search needs)
     (λ c. let o = c .before .before .before .before .before .before .before .before .before .before in forth-fits 1 (o .fits .y) (o .pre .3) (omega arith))
     (λ c κs. search needs) (λ c. search needs) returns)

@@ -21,8 +21,7 @@ assistant-requires c κs =
 returns-2 : tie.Need-returns-2
 returns-2 c =
     let start = c .before .before .before .before .before .before in
-    let if1 = c .before .before .before .before .if1 in
-    odd-one (start .args .n) (start .args .x) (start .args .y) (omega (arith, if1 .left))
+    odd-one (start .args .n) (start .args .x) (start .args .y) (omega arith)
     (heard assistant (start .fits .x) (start .fits .y) refl refl (c .before .before .assistant .ensures))
 
 pub assistant-if-odd-spec : {M : Type 1} → statement M

@@ -15,37 +15,33 @@ finder-lines-requires c κs =
     let s = start .args .side in
     let run = c .before .before .before .run in
     let blank = all-blank (cornerKind s) (s * s) (0 * s) (zero-mul s) (run .ensures) in
-    let long : s * s ≤ length (run .last .0) = omega (arith, start .pre .2, run .kept .0) in
-    (start .pre .0, start .pre .1, long, omega arith, omega (arith, start .pre .0), (λ r h k. omega (arith, edge-top s r)), blank)
+    let long : s * s ≤ length (run .last .0) = omega arith in
+    (start .pre .0, start .pre .1, long, omega arith, omega arith, (λ r h k. omega (arith, edge-top s r)), blank)
 
 information-line-requires : tie.Need-information-line-requires
 information-line-requires c κs =
     let start = c .before .before .before .before .before .before .before .before .before .before in
-    let run = c .before .before .before .before .before .before .before .run in
     let upper = c .before .before .before .finder-lines in
-    let long : start .args .side * start .args .side ≤ length (upper .last .0) = omega (arith, start .pre .2, run .kept .0, upper .kept .0) in
+    let long : start .args .side * start .args .side ≤ length (upper .last .0) = omega arith in
     (row-room (start .pre .0) (start .pre .1) long (omega arith), upper-arm (start .args .side) (start .pre .0))
 
 information-line-requires-2 : tie.Need-information-line-requires-2
 information-line-requires-2 c κs =
     let start = c .before .before .before .before .before .before .before .before .before .before .before .before .before .before in
-    let run = c .before .before .before .before .before .before .before .before .before .before .before .run in
-    let upper = c .before .before .before .before .before .before .before .finder-lines in
     let arm = c .before .before .before .information-line in
     let s = start .args .side in
-    let long : s * s ≤ length (arm .last .0) = omega (arith, start .pre .2, run .kept .0, upper .kept .0, arm .kept .0) in
+    let long : s * s ≤ length (arm .last .0) = omega arith in
     (row-room (start .pre .0) (start .pre .1) long (omega arith), lower-arm (start .args .side) (start .pre .0))
 
 finder-lines-requires-2 : tie.Need-finder-lines-requires-2
 finder-lines-requires-2 c κs =
     let start = c .before .before .before .before .before .before .before .before .before .before .before .before .before .before .before .before .before .before in
     let s = start .args .side in
-    let run = c .before .before .before .before .before .before .before .before .before .before .before .before .before .before .before .run in
     let upper = c .before .before .before .before .before .before .before .before .before .before .before .finder-lines in
     let arm = c .before .before .before .before .before .before .before .information-line in
     let arm2 = c .before .before .before .information-line2 in
     let middle = middle-rows s (start .pre .0) (upper .ensures) (arm .ensures) (arm2 .ensures) in
-    let size : s * s ≤ length (arm2 .last .0) = omega (arith, start .pre .2, run .kept .0, upper .kept .0, arm .kept .0, arm2 .kept .0) in
+    let size : s * s ≤ length (arm2 .last .0) = omega arith in
     (start .pre .0, start .pre .1, size, omega arith, omega arith, (λ r h k. omega (arith, edge-bottom s r)), middle .0)
 
 returns : tie.Need-returns
@@ -61,5 +57,5 @@ returns c =
 
 pub corners-spec : {M : Type 1} → statement M
 corners-spec =
-    tie.close (tie.spec (λ c. search needs) (λ c κs. search needs) finder-lines-requires information-line-requires
-    (λ c. search needs) information-line-requires-2 (λ c. search needs) finder-lines-requires-2 (λ c. search needs) returns)
+    tie.close (tie.spec (λ c. search needs) (λ c κs. search needs) finder-lines-requires information-line-requires (λ c. search needs)
+    information-line-requires-2 (λ c. search needs) finder-lines-requires-2 (λ c. search needs) returns)

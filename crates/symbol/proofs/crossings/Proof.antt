@@ -31,5 +31,5 @@ returns c = ended (omega arith) (c .before .loop .inv)
 
 pub crossings-spec : {M : Type 1} → statement M
 crossings-spec =
-    tie.close (tie.spec Inv-loop μ-loop (λ c. search needs) (λ c. begun) row-crossings-requires (λ c. omega arith)
-    (λ c. omega arith) loop-again (λ c. c .before .loop .inv .kept) returns)
+    tie.close (tie.spec Inv-loop μ-loop (λ c. search needs) (λ c. begun) row-crossings-requires (λ c. omega arith) (λ c. omega arith)
+    loop-again (λ c. c .before .loop .inv .kept) returns)

@@ -22,7 +22,7 @@ loop-again : tie.Need-loop-again Inv-loop μ-loop
 loop-again c =
     let loop = c .before .before .before .loop in
     let kind = c .before .before .before .before .before .args .kind in
-    (stored-more (loop .inv .1) (omega (arith, loop .inv .0 .size)) (c .drawn .ensures ∙ ap (λ (a : ℕ). drawn a kind) (loop .inv .0 .after (loop .i) (omega arith))) (loop .inv .0), omega arith, omega arith)
+    (stored-more (loop .inv .1) (omega arith) (c .drawn .ensures ∙ ap (λ (a : ℕ). drawn a kind) (loop .inv .0 .after (loop .i) (omega arith))) (loop .inv .0), omega arith, omega arith)
 
 returns : tie.Need-returns Inv-loop μ-loop
 returns c =
@@ -33,6 +33,6 @@ returns c =
 
 pub draw-spec : {M : Type 1} → statement M
 draw-spec =
-    tie.close (tie.spec Inv-loop μ-loop loop-holds (λ c. omega (arith, c .before .before .loop .inv .0 .size))
-    (λ c κs. search needs) (λ c. omega (arith, c .before .before .before .loop .inv .0 .size)) (λ c. omega arith)
-    (λ c. omega arith) loop-again (λ c. c .before .loop .inv .0 .size) returns)
+    tie.close (tie.spec Inv-loop μ-loop loop-holds (λ c. omega (arith, c .before .before .loop .inv .0 .size)) (λ c κs. search needs)
+    (λ c. omega (arith, c .before .before .before .loop .inv .0 .size)) (λ c. omega arith) (λ c. omega arith) loop-again
+    (λ c. c .before .loop .inv .0 .size) returns)

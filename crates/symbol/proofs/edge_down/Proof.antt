@@ -30,7 +30,7 @@ line-module-requires c κs =
     let f = forth-fits n (o .fits .y) (omega arith) (omega arith) in
     let e = forth-is n (o .fits .y) (omega arith) (omega arith) in
     let y-near : mag (toZ w64 (ofZ w64 (o .args .y)) +ℤ toZ w64 n) < 1000 = rw e (omega (arith, mag-forth (o .args .y) n)) in
-    (o .pre .0, omega (arith, o .pre .1, c .before .before .loop .inv .kept), near 1000 (o .fits .x) (omega arith), near 1000 f y-near)
+    (o .pre .0, omega arith, near 1000 (o .fits .x) (omega arith), near 1000 f y-near)
 
 loop-again : tie.Need-loop-again Inv-loop μ-loop
 loop-again c =
@@ -50,5 +50,4 @@ returns c =
 pub edge-down-spec : {M : Type 1} → statement M
 edge-down-spec =
     tie.close (tie.spec Inv-loop μ-loop (λ c. begun) (λ c. omega arith) (λ c. omega arith) (λ c. small _ (omega arith))
-    add-line-module-2 line-module-requires (λ c. omega arith) (λ c. omega arith) loop-again (λ c. c .before .loop .inv .kept)
-    returns)
+    add-line-module-2 line-module-requires (λ c. omega arith) (λ c. omega arith) loop-again (λ c. c .before .loop .inv .kept) returns)

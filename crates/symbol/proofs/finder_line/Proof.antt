@@ -19,8 +19,8 @@ returns c =
 
 pub finder-line-spec : {M : Type 1} → statement M
 finder-line-spec =
-    tie.close (tie.spec (λ c. search needs) (λ c κs. search needs) (λ c κs. search needs) (λ c. search needs)
-    (λ c κs. search needs) (λ c. search needs) (λ c. search needs) (λ c. search needs) (λ c. search needs)
-    (λ c. simp length-set (omega arith)) (λ c. search needs) (λ c. search needs) (λ c κs. simp length-set (omega arith))
+    tie.close (tie.spec (λ c. search needs) (λ c κs. search needs) (λ c κs. search needs) (λ c. search needs) (λ c κs. search needs)
+    (λ c. search needs) (λ c. search needs) (λ c. search needs) (λ c. search needs) (λ c. simp length-set (omega arith))
+    (λ c. search needs) (λ c. search needs) (λ c κs. simp length-set (omega arith))
     (λ c. c .before .before .modules2 .kept .0 ∙ simp length-set (c .before .before .before .before .before .before .modules .kept .0))
     returns)

@@ -24,36 +24,28 @@ finder-line-requires c κs =
     let start = c .before .before .before .before in
     let loop = c .before .before .loop in
     let test = c .before .loop-test .taken in
-    let long : start .args .side * start .args .side ≤ length (loop .out) = omega (arith, start .pre .2, loop .inv .1 .size) in
-    let l : loop .row < start .args .side = omega (arith, test, start .pre .4) in
+    let long : start .args .side * start .args .side ≤ length (loop .out) = omega arith in
+    let l : loop .row < start .args .side = omega (arith, test) in
     (row-room (start .pre .0) (start .pre .1) long l, start .pre .5 (loop .row) (loop .inv .2) test)
-
-add-row : tie.Need-add-row Inv-loop μ-loop
-add-row c =
-    let start = c .before .before .before .before .before .before .before in
-    let loop-test = c .before .before .before .before .loop-test in
-    omega (arith, loop-test .taken, start .pre .4, start .pre .1)
 
 loop-again : tie.Need-loop-again Inv-loop μ-loop
 loop-again c =
     let start = c .before .before .before .before .before .before .before in
     let loop = c .before .before .before .before .before .loop in
-    let loop-test = c .before .before .before .before .loop-test in
     let line = c .before .before .finder-line in
-    let l : loop .row < start .args .side = omega (arith, loop-test .taken, start .pre .4) in
+    let l : loop .row < start .args .side = omega arith in
     let p = row-more (start .args .side) (loop .row) (start .pre .0) l (loop .inv .0, loop .inv .1) (line .ensures) in
-    (p .0, p .1, omega (arith, loop .inv .2), omega (arith, loop-test .taken))
+    (p .0, p .1, omega arith, omega arith)
 
 returns : tie.Need-returns Inv-loop μ-loop
 returns c =
     let start = c .before .before .before in
     let loop = c .before .loop in
     let s = start .args .side in
-    let e : loop .row ≡ start .args .to = omega (arith, c .loop-test .left, loop .inv .3) in
+    let e : loop .row ≡ start .args .to = omega arith in
     (subst (λ (n : ℕ). UpTo (cornerKind s) (s * s) (n * s) (loop .out)) e (loop .inv .0), loop .inv .1)
 
 pub finder-lines-spec : {M : Type 1} → statement M
 finder-lines-spec =
-    tie.close (tie.spec Inv-loop μ-loop loop-holds finder-line-requires add-row
-    (λ c. omega (arith, c .before .before .before .before .loop-test .taken)) loop-again (λ c. c .before .loop .inv .1 .size)
-    returns)
+    tie.close (tie.spec Inv-loop μ-loop loop-holds finder-line-requires (λ c. omega arith)
+    (λ c. omega (arith, c .before .before .before .before .loop-test .taken)) loop-again (λ c. c .before .loop .inv .1 .size) returns)

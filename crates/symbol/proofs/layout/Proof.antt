@@ -17,7 +17,7 @@ returns-2 : tie.Need-returns-2
 returns-2 c = too-high (c .before .before .before .args .version) (c .before .before .before .args .out .now) (c .before .if1 .left) (c .if2 .taken)
 
 mul-if3 : tie.Need-mul-if3
-mul-if3 c = omega (arith, square-le (c .side .result) (omega (arith, c .side .ensures, c .before .if2 .left)))
+mul-if3 c = omega (arith, square-le (c .side .result) (omega arith))
 
 returns-3 : tie.Need-returns-3
 returns-3 c =
@@ -38,14 +38,12 @@ alignment-requires c κs =
     let start = c .before .before .before .before .before .before .before .before .before .before .before .before in
     let side = c .before .before .before .before .before .before .before .before .side in
     let if3 = c .before .before .before .before .before .before .before .if3 in
-    let corners = c .before .before .before .before .before .corners in
     let spacing = c .spacing-of .ensures in
     let e : side .result ≡ c .spacing-of .result .side = side .ensures ∙ sym (spacing .0 .side-is ∙ ap sideOf (spacing .1)) in
     record {
       spaced = spacing .0;
       room = omega (
         arith,
-        corners .kept .0,
         subst (λ (k : ℕ). k * k ≤ length
             (start .args .out .now)) e (if3 .left),
       );
@@ -67,5 +65,5 @@ returns-5 c =
 
 pub layout-spec : {M : Type 1} → statement M
 layout-spec =
-    tie.close (tie.spec returns returns-2 (λ c κs. search needs) mul-if3 returns-3 (λ c κs. search needs) (λ c. search needs)
-    returns-4 (λ c κs. search needs) alignment-requires (λ c. search needs) returns-5)
+    tie.close (tie.spec returns returns-2 (λ c κs. search needs) mul-if3 returns-3 (λ c κs. search needs) (λ c. search needs) returns-4
+    (λ c κs. search needs) alignment-requires (λ c. search needs) returns-5)

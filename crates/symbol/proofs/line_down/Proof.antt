@@ -28,7 +28,7 @@ returns c =
     heard (λ x y. lineDown x y (start .args .height)) (start .fits .x) (start .fits .y) refl refl (c .before .before .edge-down .ensures)
 
 add-if2 : tie.Need-add-if2
-add-if2 c = let start = c .before .before in omega (arith, read natAbs (start .fits .y), start .pre .3 .within)
+add-if2 c = let start = c .before .before in omega (arith, read natAbs (start .fits .y))
 
 returns-2 : tie.Need-returns-2
 returns-2 c =

@@ -41,8 +41,8 @@ returns c =
 draw-requires-2 : tie.Need-draw-requires-2
 draw-requires-2 c κs =
     let b = at (c .before .before .before .before .before .before .before .before .before) .below
-    (omega (arith, c .before .before .if1 .left)) in
-    (omega arith, omega (arith, b .0, c .before .before .before .before .before .draw .ensures .size))
+    (omega arith) in
+    (omega arith, omega arith)
 
 returns-2 : tie.Need-returns-2
 returns-2 c =
@@ -54,7 +54,7 @@ returns-2 c =
     numbered (λ x y. lineLeft x y (start .args .width)) (start .fits .x) (start .fits .y) (start .pre .2 .whole) (start .pre .3 .whole)
     (two-runs (start .args .side) _ _ (column start) (row start) (start .args .width) _ _ _
     (start .pre .1) (least .0) (least .1) (least .2) (omega (arith, room-below (start .args .side) _ _ (column start) (row start) l))
-    (λ p a b. (omega (arith, least2 .0), omega (arith, least2 .1), omega arith, l))
+    (λ p a b. (omega arith, omega arith, omega arith, l))
     (λ p j a b d e. (omega (arith, least2 .2 (j + 1) (omega arith) b), omega arith))
     (c .before .before .before .before .before .before .before .before .draw .ensures) (c .before .before .draw2 .ensures))
 

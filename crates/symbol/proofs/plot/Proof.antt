@@ -49,5 +49,4 @@ returns-5 c =
 
 pub plot-spec : {M : Type 1} → statement M
 plot-spec =
-    tie.close (tie.spec returns returns-2 cast-column cast-row returns-3 returns-4 (λ c κs. search needs) (λ c. search needs)
-    returns-5)
+    tie.close (tie.spec returns returns-2 cast-column cast-row returns-3 returns-4 (λ c κs. search needs) (λ c. search needs) returns-5)

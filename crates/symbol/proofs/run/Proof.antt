@@ -17,7 +17,7 @@ loop-holds : tie.Need-loop-holds Inv-loop μ-loop
 loop-holds c = (stored-none _ _ _, omega arith, omega arith)
 
 loop-again : tie.Need-loop-again Inv-loop μ-loop
-loop-again c = (stored-more (c .before .loop .inv .1) (omega (arith, c .before .loop .inv .0 .size)) refl (c .before .loop .inv .0), omega arith, omega arith)
+loop-again c = (stored-more (c .before .loop .inv .1) (omega arith) refl (c .before .loop .inv .0), omega arith, omega arith)
 
 returns : tie.Need-returns Inv-loop μ-loop
 returns c =

@@ -20,13 +20,12 @@ abbrev μ-loop : tie.MeasureT-loop
 plot-at-requires : tie.Need-plot-at-requires Inv-loop μ-loop
 plot-at-requires c κs =
     let o = c .before .before .before .before in
-    (o .pre .0, omega (arith, c .before .before .loop .inv .kept, o .pre .1), o .pre .3, omega arith)
+    (o .pre .0, omega arith, o .pre .3, omega arith)
 
 plot-at-requires-2 : tie.Need-plot-at-requires-2 Inv-loop μ-loop
 plot-at-requires-2 c κs =
     let o = c .before .before .before .before .before .before .before .before in
-    let loop = c .before .before .before .before .before .before .loop in
-    (o .pre .0, omega (arith, c .before .before .before .plot-at .kept .0, loop .inv .kept, o .pre .1), omega arith, omega arith)
+    (o .pre .0, omega arith, omega arith, omega arith)
 
 loop-again : tie.Need-loop-again Inv-loop μ-loop
 unfolding lineModule
@@ -45,5 +44,5 @@ returns c = ended (omega arith) (c .before .loop .inv)
 pub run-down-spec : {M : Type 1} → statement M
 run-down-spec =
     tie.close (tie.spec Inv-loop μ-loop (λ c. begun) (λ c. omega arith) (λ c. omega arith) (λ c. omega arith) plot-at-requires
-    (λ c. omega arith) (λ c. omega arith) (λ c. omega arith) (λ c. omega arith) plot-at-requires-2 (λ c. omega arith)
-    (λ c. omega arith) loop-again (λ c. c .before .loop .inv .kept) returns)
+    (λ c. omega arith) (λ c. omega arith) (λ c. omega arith) (λ c. omega arith) plot-at-requires-2 (λ c. omega arith) (λ c. omega arith)
+    loop-again (λ c. c .before .loop .inv .kept) returns)

@@ -20,11 +20,11 @@ cast-m c = omega (arith, table c .m-le)
 
 mul-t7 : tie.Need-mul-t7
 unfolding kOf mOf ks ms
-mul-t7 c = omega (arith, table c .last, c .before .pre .1)
+mul-t7 c = omega (arith, table c .last)
 
 sub-t14 : tie.Need-sub-t14
 unfolding kOf mOf ks ms
-sub-t14 c = omega (arith, table c .last, c .side .ensures)
+sub-t14 c = omega (arith, table c .last)
 
 returns : tie.Need-returns
 unfolding kOf mOf ks ms
@@ -32,5 +32,5 @@ returns c = (spaced _ (c .before .pre .0) (c .before .pre .1) (c .side .ensures)
 
 pub spacing-of-spec : {M : Type 1} → statement M
 spacing-of-spec =
-    tie.close (tie.spec (λ c κs. search needs) (λ c. search needs) (λ c. search needs) cast-k (λ c. search needs)
-    (λ c. search needs) cast-m mul-t7 sub-t14 returns)
+    tie.close (tie.spec (λ c κs. search needs) (λ c. search needs) (λ c. search needs) cast-k (λ c. search needs) (λ c. search needs)
+    cast-m mul-t7 sub-t14 returns)

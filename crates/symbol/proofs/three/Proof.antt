@@ -22,7 +22,7 @@ returns c =
 
 pub three-spec : {M : Type 1} → statement M
 three-spec =
-    tie.close (tie.spec (λ c. let o = c .before .before in back-fits 1 (o .fits .x) (o .pre .2) (omega arith))
-    (λ c κs. search needs) (λ c κs. search needs)
+    tie.close (tie.spec (λ c. let o = c .before .before in back-fits 1 (o .fits .x) (o .pre .2) (omega arith)) (λ c κs. search needs)
+    (λ c κs. search needs)
     (λ c. let o = c .before .before .before .before .before .before .before .before .before .before in forth-fits 1 (o .fits .x) (o .pre .2) (omega arith))
     (λ c κs. search needs) (λ c. search needs) returns)
