@@ -1,1 +1,2 @@
+-- The files of laws, those that others rest on first.
 pub mod Fields

@@ -1,3 +1,4 @@
+-- `bit` meets its contract. Assumes nothing.
 use Rattle.bits.proofs.Reading.{bit-at}
 use mathlib.Core.Path.{_∙_}
 use lib.Bits.{and-mask}

@@ -1,3 +1,4 @@
+-- `read_bits` meets its contract. Assumes nothing.
 use native.Mathlib.Omega.{arith}
 use lib.Pow.{pow-pos}
 use Prim.Native.Nat.{_/_, _+_, _*_}

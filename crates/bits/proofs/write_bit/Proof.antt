@@ -1,3 +1,4 @@
+-- `write_bit` meets its contract. Assumes nothing.
 use native.Mathlib.Omega.{arith}
 use Rattle.bits.proofs.Writing.{bit-flipped, bit-there}
 use mathlib.Core.Path.{_∙_, sym}

@@ -1,3 +1,4 @@
+-- `write_bits` meets its contract. Assumes nothing.
 use mathlib.Core.Path.{_≡_}
 use Prim.Native.Nat.{_-_, _%_}
 use native.Mathlib.Nat.{mod-le}

@@ -1,3 +1,4 @@
+-- `block_row` meets its contract. Assumes nothing.
 use Rattle.blocks.proofs.Rows.{row-copied}
 use Rattle.blocks.specs.Table.{blocks}
 use lib.Seq.{getD-take}

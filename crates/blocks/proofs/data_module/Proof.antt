@@ -1,3 +1,4 @@
+-- `data_module` meets its contract. Assumes nothing.
 use Rattle.blocks.proofs.Rows.{module-one, module-none}
 use native.Mathlib.Omega.{arith}
 use Rattle.blocks.proofs.data_module.Statement.{statement}

@@ -1,3 +1,4 @@
+-- `data_modules` meets its contract. Assumes nothing.
 use Rattle.blocks.specs.Blocks.{dataModules}
 use Rattle.blocks.proofs.Rows.{modules-few}
 use lib.ListN.{take}

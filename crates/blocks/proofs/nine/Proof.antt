@@ -1,3 +1,4 @@
+-- `nine` meets its contract. Assumes nothing.
 use Rattle.blocks.proofs.Rows.{copied-more}
 use lib.ListN.{length, getD, length-set}
 use Prim.Native.Nat.{ℕ, _+_, _-_, _<_, _≤_}

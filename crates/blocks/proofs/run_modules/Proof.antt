@@ -1,3 +1,4 @@
+-- `run_modules` meets its contract. Assumes nothing.
 use Rattle.blocks.proofs.Rows.{modules-more}
 use Rattle.blocks.specs.Blocks.{dataModules}
 use lib.ListN.{take}

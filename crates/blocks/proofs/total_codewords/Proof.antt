@@ -1,3 +1,4 @@
+-- `total_codewords` meets its contract. Assumes nothing.
 use native.Mathlib.Omega.{arith}
 use Rattle.blocks.proofs.Rows.{total-small}
 use Rattle.blocks.specs.Blocks.{totalOf}

@@ -1,3 +1,4 @@
+-- `collect_start` meets its contract. Assumes nothing.
 use Rattle.codewords.proofs.Interleave.{CollectStart, collect-enter, collect-place, collect-turn, collect-leave}
 use Prim.Native.Nat.{_-_}
 use native.Mathlib.Omega.{arith}

@@ -1,3 +1,4 @@
+-- `from_stream` meets its contract. Assumes nothing.
 use Rattle.codewords.proofs.Interleave.{collect-first, collect-last}
 use Rattle.codewords.specs.Inner.{FromStream}
 use lib.ListN.{length, drop}

@@ -1,3 +1,4 @@
+-- `masked` meets its contract. Assumes nothing.
 use native.Mathlib.Nat.{mod-lt}
 use Rattle.codewords.proofs.Masks.{mask-zero, mask-one, mask-two, mask-three}
 use Prim.Native.Nat.{_-_}

@@ -1,3 +1,4 @@
+-- `store_start` meets its contract. Assumes nothing.
 use Rattle.codewords.proofs.Interleave.{StoreStart, store-enter, store-place, store-turn, store-leave}
 use Prim.Native.Nat.{_-_}
 use native.Mathlib.Omega.{arith}

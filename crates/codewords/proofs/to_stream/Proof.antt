@@ -1,3 +1,4 @@
+-- `to_stream` meets its contract. Assumes nothing.
 use Rattle.codewords.proofs.Interleave.{store-first, store-last}
 use Rattle.codewords.specs.Inner.{ToStream}
 use lib.ListN.{length, drop}

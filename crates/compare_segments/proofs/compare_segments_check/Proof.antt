@@ -1,3 +1,4 @@
+-- `compare_segments_check` meets its contract. Assumes nothing.
 use mathlib.Core.Path.{refl, sym, _∙_}
 use borrow.Author.Needs.{needs}
 use Rattle.compare_segments.proofs.compare_segments_check.Statement.{statement}

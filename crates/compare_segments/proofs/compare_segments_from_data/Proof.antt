@@ -1,3 +1,4 @@
+-- `compare_segments_from_data` meets its contract. Assumes nothing.
 use Rattle.segments.specs.declared.Answer.the-variants.{Read, TooLong, Broken, Empty, PayloadFull, ScriptFull}
 use Rattle.segments.specs.FromData.{fromData}
 use Rattle.compare_segments.proofs.Fields.{fields}

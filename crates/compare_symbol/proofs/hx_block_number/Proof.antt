@@ -1,3 +1,4 @@
+-- `hx_block_number` meets its contract. Assumes nothing.
 use Rattle.compare_symbol.specs.Answers.{rowAnswer}
 use mathlib.Core.List.{List}
 use Prim.Native.Nat.{ℕ}

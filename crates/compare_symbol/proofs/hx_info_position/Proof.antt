@@ -1,3 +1,4 @@
+-- `hx_info_position` meets its contract. Assumes nothing.
 use Rattle.compare_symbol.specs.Answers.{positionAnswer}
 use borrow.Author.Tests.{le-leb, lt-leb, lt-ltb, le-ltb}
 use borrow.Author.Needs.{needs}

@@ -1,3 +1,4 @@
+-- `hx_masked` meets its contract. Assumes nothing.
 use Rattle.compare_symbol.specs.Answers.{maskAnswer}
 use borrow.Author.Tests.{lt-ltb, le-ltb}
 use borrow.Author.Needs.{needs}

@@ -1,3 +1,4 @@
+-- `hx_total` meets its contract. Assumes nothing.
 use Rattle.compare_symbol.specs.Answers.{totalAnswer}
 use borrow.Author.Tests.{le-leb, lt-leb}
 use Rattle.symbol.specs.Version.{isVersion}

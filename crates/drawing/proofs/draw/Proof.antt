@@ -1,3 +1,4 @@
+-- `draw` meets its contract. Assumes nothing.
 use Rattle.blocks.proofs.Rows.{copied-more}
 use Rattle.drawing.specs.Puts.{patternOf}
 use lib.ListN.{length, getD, length-set}

@@ -1,3 +1,4 @@
+-- `pattern` meets its contract. Assumes nothing.
 use Rattle.drawing.proofs.Puts.{pattern-light, pattern-dark}
 use native.Mathlib.Omega.{arith}
 use Rattle.drawing.proofs.pattern.Statement.{statement}

@@ -1,3 +1,4 @@
+-- `place_codewords` meets its contract. Assumes nothing.
 use Rattle.bits.specs.Bits.{bitsOf}
 use Rattle.codewords.specs.Codewords.{maskBit, placed}
 use lib.ListN.{take}

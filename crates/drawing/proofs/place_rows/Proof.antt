@@ -1,3 +1,4 @@
+-- `place_rows` meets its contract. Assumes nothing.
 use Rattle.placement.proofs.Rows.{row-inside, row-mask}
 use Rattle.drawing.proofs.Puts.{placing-begun}
 use Rattle.drawing.proofs.Squares.{row-drawn, row-blank, placing-row, placing-done}

@@ -1,3 +1,4 @@
+-- `put` meets its contract. Assumes nothing.
 use Rattle.drawing.proofs.Puts.{put-is, put-room}
 use borrow.Author.Needs.{needs}
 use Rattle.drawing.proofs.put.Statement.{statement}

@@ -1,3 +1,4 @@
+-- `put_bit` meets its contract. Assumes nothing.
 use Rattle.bits.proofs.Reading.{bit-lt}
 use lib.Bits.{bitXor}
 use lib.ListN.{set}

@@ -1,3 +1,4 @@
+-- `put_eight` meets its contract. Assumes nothing.
 use Rattle.drawing.proofs.Puts.{masked-bytes}
 use Rattle.bits.proofs.Reading.{value-lt}
 use lib.Seq.{sets}

@@ -1,3 +1,4 @@
+-- `put_last` meets its contract. Assumes nothing.
 use Rattle.drawing.proofs.Puts.{blank-kept, puts-none, puts-on, puts-all}
 use Rattle.drawing.specs.Puts.{Blank, Puts}
 use lib.ListN.{length}

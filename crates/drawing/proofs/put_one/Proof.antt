@@ -1,3 +1,4 @@
+-- `put_one` meets its contract. Assumes nothing.
 use Rattle.drawing.proofs.Puts.{puts-one, puts-skip}
 use Rattle.placement.proofs.Runs.{passed-one}
 use mathlib.Core.Path.{refl}

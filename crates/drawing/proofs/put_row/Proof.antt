@@ -1,3 +1,4 @@
+-- `put_row` meets its contract. Assumes nothing.
 use Rattle.drawing.proofs.Puts.{blank-kept, puts-none, puts-on, puts-end, placing-begun}
 use Rattle.drawing.specs.Puts.{getD₀, Blank, Puts}
 use Rattle.bits.specs.Bits.{bitsOf}

@@ -1,3 +1,4 @@
+-- `put_step` meets its contract. Assumes nothing.
 use Rattle.drawing.proofs.Puts.{puts-eight, puts-skip}
 use Rattle.placement.proofs.Runs.{passed}
 use mathlib.Core.Path.{refl}

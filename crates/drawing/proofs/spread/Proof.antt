@@ -1,3 +1,4 @@
+-- `spread` meets its contract. Assumes nothing.
 use Rattle.drawing.proofs.Puts.{spread-is, spread-lt}
 use Prim.Native.Nat.{_*_, _/_, _%_}
 use native.Mathlib.Omega.{arith}

@@ -1,3 +1,4 @@
+-- `window` meets its contract. Assumes nothing.
 use Rattle.drawing.proofs.Puts.{window-two}
 use borrow.Author.Needs.{needs}
 use Rattle.drawing.proofs.window.Statement.{statement}

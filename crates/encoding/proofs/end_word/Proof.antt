@@ -1,3 +1,4 @@
+-- `end_word` meets its contract. Assumes nothing.
 use borrow.Author.Tests.{eq-eqb, ne-eqb}
 use Rattle.script.specs.Glyphs.{endOf}
 use Rattle.encoding.proofs.end_word.Statement.{statement}

@@ -1,3 +1,4 @@
+-- `pad` meets its contract. Assumes nothing.
 use native.Mathlib.Omega.{arith}
 use borrow.Author.Needs.{needs}
 use Rattle.encoding.proofs.Zeros.{padded}

@@ -1,3 +1,4 @@
+-- `put` meets its contract. Assumes nothing.
 use Rattle.bits.proofs.Words.{length-low}
 use borrow.Author.Needs.{needs}
 use Rattle.encoding.proofs.put.Statement.{statement}

@@ -1,3 +1,4 @@
+-- `switch_word` meets its contract. Assumes nothing.
 use borrow.Author.Tests.{eq-eqb, ne-eqb}
 use Rattle.script.specs.Glyphs.{switchOf}
 use Rattle.encoding.proofs.switch_word.Statement.{statement}

@@ -1,3 +1,4 @@
+-- `write_bytes` meets its contract. Assumes nothing.
 use mathlib.Core.Path.{_≡_, refl, _∙_}
 use mathlib.Core.List.{_∷_}
 use borrow.Author.Needs.{needs}

@@ -1,3 +1,4 @@
+-- `write_numeric` meets its contract. Assumes nothing.
 use native.Mathlib.Omega.{arith}
 use borrow.Author.Needs.{needs}
 use Rattle.encoding.proofs.Doing.{all-left, doing-rest}

@@ -1,3 +1,4 @@
+-- `write_run` meets its contract. Assumes nothing.
 use Rattle.bits.proofs.Words.{length-low}
 use mathlib.Core.Path.{sym, _∙_}
 use Prim.Native.Nat.{_*_}

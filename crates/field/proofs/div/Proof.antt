@@ -1,3 +1,4 @@
+-- `div` meets its contract. Assumes nothing.
 use mathlib.Core.Path.{_∙_, ap, ap₂}
 use Prim.Native.Nat.{ℕ, _+_, _-_}
 use lib.ListN.{getD}

@@ -1,3 +1,4 @@
+-- `log_entry` meets its contract. Assumes nothing.
 use native.Mathlib.Omega.{arith}
 use Rattle.field.proofs.Entries.{log-le, log-pos}
 use borrow.Author.Needs.{needs}

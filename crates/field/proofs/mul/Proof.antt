@@ -1,3 +1,4 @@
+-- `mul` meets its contract. Assumes nothing.
 use mathlib.Core.Path.{_∙_, ap₂}
 use Prim.Native.Nat.{ℕ, _+_}
 use lib.ListN.{getD}

@@ -1,3 +1,4 @@
+-- `power` meets its contract. Assumes nothing.
 use mathlib.Core.Path.{_∙_}
 use Rattle.field.proofs.Entries.{power-at}
 use borrow.Author.Needs.{needs}

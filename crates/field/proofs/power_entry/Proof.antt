@@ -1,3 +1,4 @@
+-- `power_entry` meets its contract. Assumes nothing.
 use native.Mathlib.Omega.{arith}
 use Rattle.field.proofs.Entries.{entry-lt}
 use borrow.Author.Needs.{needs}

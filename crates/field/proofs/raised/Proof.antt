@@ -1,3 +1,4 @@
+-- `raised` meets its contract. Assumes nothing.
 use mathlib.Core.Path.{_∙_, ap}
 use Prim.Native.Nat.{ℕ, _+_}
 use lib.ListN.{getD}

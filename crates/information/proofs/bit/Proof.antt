@@ -1,3 +1,4 @@
+-- `bit` meets its contract. Assumes nothing.
 use Rattle.information.specs.Information.{bitOf}
 use Prim.Native.Nat.{_-_}
 use mathlib.Core.Path.{refl}

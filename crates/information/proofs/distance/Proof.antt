@@ -1,3 +1,4 @@
+-- `distance` meets its contract. Assumes nothing.
 use lib.Bits.{bitXor, xor-lt}
 use lib.Count.{ones-le}
 use Prim.Native.Nat.{_-_}

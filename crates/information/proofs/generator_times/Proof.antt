@@ -1,3 +1,4 @@
+-- `generator_times` meets its contract. Assumes nothing.
 use Rattle.information.specs.Information.{generatorTimes}
 use borrow.Author.Needs.{needs}
 use Rattle.information.proofs.generator_times.Statement.{statement}

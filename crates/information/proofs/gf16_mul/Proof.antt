@@ -1,3 +1,4 @@
+-- `gf16_mul` meets its contract. Assumes nothing.
 use Rattle.information.proofs.Products.{one-more}
 use Rattle.information.specs.Information.{productFrom, gf16Mul}
 use Prim.Native.Nat.{_-_, _<_, _≤_}

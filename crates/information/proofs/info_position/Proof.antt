@@ -1,3 +1,4 @@
+-- `info_position` meets its contract. Assumes nothing.
 use mathlib.Core.Bool.{true, false}
 use Rattle.symbol.proofs.Coordinates.{square-le}
 use Rattle.information.proofs.Copies.{row-fits, first-is, second-is, first-lt, by-copy}

@@ -1,3 +1,4 @@
+-- `nearer` meets its contract. Assumes nothing.
 use Prim.Native.Nat.{_-_}
 use borrow.Author.Tests.{lt-ltb, le-ltb}
 use Rattle.information.proofs.nearer.Statement.{statement}

@@ -1,3 +1,4 @@
+-- `nearest_word` meets its contract. Assumes nothing.
 use lib.Bits.{bitXor}
 use lib.Count.{ones}
 use Rattle.information.proofs.Products.{least-more}

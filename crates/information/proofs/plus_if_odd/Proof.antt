@@ -1,3 +1,4 @@
+-- `plus_if_odd` meets its contract. Assumes nothing.
 use lib.Bits.{xor-lt}
 use Rattle.information.specs.Information.{plusIfOdd}
 use Prim.Native.Nat.{_-_}

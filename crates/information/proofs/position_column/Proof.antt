@@ -1,3 +1,4 @@
+-- `position_column` meets its contract. Assumes nothing.
 use Rattle.information.specs.Information.{positionColumn}
 use Prim.Native.Nat.{_-_}
 use borrow.Author.Tests.{lt-ltb, le-ltb}

@@ -1,3 +1,4 @@
+-- `position_row` meets its contract. Assumes nothing.
 use Rattle.information.specs.Information.{positionRow}
 use Prim.Native.Nat.{_-_}
 use borrow.Author.Tests.{lt-ltb, le-ltb}

@@ -1,3 +1,4 @@
+-- `read_arm` meets its contract. Assumes nothing.
 use lib.ListN.{getD}
 use Rattle.information.proofs.Copies.{number-small, number-more}
 use Rattle.information.specs.Information.{infoPosition, numberFrom}

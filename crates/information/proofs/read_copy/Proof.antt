@@ -1,3 +1,4 @@
+-- `read_copy` meets its contract. Assumes nothing.
 use borrow.Author.Needs.{needs}
 use Rattle.information.specs.Information.{numberFrom, copyOf}
 use Rattle.information.proofs.read_copy.Statement.{statement}

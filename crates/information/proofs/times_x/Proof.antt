@@ -1,3 +1,4 @@
+-- `times_x` meets its contract. Assumes nothing.
 use Rattle.information.proofs.Products.{eight}
 use Rattle.information.specs.Information.{timesX}
 use Prim.Native.Nat.{_-_}

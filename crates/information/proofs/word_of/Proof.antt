@@ -1,3 +1,4 @@
+-- `word_of` meets its contract. Assumes nothing.
 use Rattle.information.specs.Information.{wordOf}
 use borrow.Author.Needs.{needs}
 use Rattle.information.proofs.word_of.Statement.{statement}

@@ -1,3 +1,4 @@
+-- `write_arm` meets its contract. Assumes nothing.
 use lib.ListN.{length, length-set}
 use Rattle.information.proofs.Copies.{write-more}
 use Rattle.information.specs.Inner.{ArmWritten}

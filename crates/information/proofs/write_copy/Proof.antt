@@ -1,3 +1,4 @@
+-- `write_copy` meets its contract. Assumes nothing.
 use borrow.Author.Needs.{needs}
 use Rattle.information.proofs.Copies.{arm-next, arms-all}
 use Rattle.information.proofs.write_copy.Statement.{statement}

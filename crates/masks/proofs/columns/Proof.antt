@@ -1,3 +1,4 @@
+-- `columns` meets its contract. Assumes nothing.
 use Rattle.masks.proofs.Rows.{columns-start, columns-none, columns-next}
 use Rattle.masks.specs.Columns.{Columns}
 use mathlib.Core.Path.{_≡_, refl, sym, subst, _∙_}

@@ -1,3 +1,4 @@
+-- `copy_row` meets its contract. Assumes nothing.
 use Rattle.masks.proofs.Rows.{Filling, filling-start, filling-next, bit-copied}
 use mathlib.Core.Path.{sym, _∙_}
 use Prim.Native.Nat.{_-_}

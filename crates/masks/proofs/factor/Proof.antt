@@ -1,3 +1,4 @@
+-- `factor` meets its contract. Assumes nothing.
 use Rattle.masks.proofs.Three.{one-over, factor-lt, factor-eq}
 use native.Mathlib.Nat.{div-le-self}
 use native.Mathlib.Omega.{arith}

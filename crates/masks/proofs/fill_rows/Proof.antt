@@ -1,3 +1,4 @@
+-- `fill_rows` meets its contract. Assumes nothing.
 use Rattle.masks.proofs.Rows.{columns-start, rows-next}
 use Rattle.masks.specs.Columns.{Columns}
 use mathlib.Core.Path.{_≡_, sym, subst, _∙_}

@@ -1,3 +1,4 @@
+-- `inverts_low` meets its contract. Assumes nothing.
 use Rattle.masks.proofs.Rows.{low-one, low-two}
 use mathlib.Core.Path.{_≡_}
 use native.Mathlib.Omega.{arith}

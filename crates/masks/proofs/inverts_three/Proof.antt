@@ -1,3 +1,4 @@
+-- `inverts_three` meets its contract. Assumes nothing.
 use Rattle.masks.proofs.Three.{columns-three, rest-le}
 use lib.Bits.{bitXor}
 use lib.ListN.{getD}

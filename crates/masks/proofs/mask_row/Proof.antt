@@ -1,3 +1,4 @@
+-- `mask_row` meets its contract. Assumes nothing.
 use Rattle.masks.proofs.Rows.{Filling, filling-start, filling-next, row-none, mask-above}
 use mathlib.Core.Path.{sym, _∙_}
 use Prim.Native.Nat.{_-_, _<_}

@@ -1,3 +1,4 @@
+-- `multiple` meets its contract. Assumes nothing.
 use Rattle.masks.proofs.Three.{product-lt}
 use lib.Bits.{bitAnd}
 use mathlib.Core.Path.{ap₂}

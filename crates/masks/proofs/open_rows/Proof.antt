@@ -1,3 +1,4 @@
+-- `open_rows` meets its contract. Assumes nothing.
 use Rattle.masks.proofs.OpenRows.{open-rows}
 use Rattle.bits.specs.Bits.{lowBits}
 use Rattle.codewords.specs.Codewords.{maskAt}

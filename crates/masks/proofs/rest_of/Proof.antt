@@ -1,3 +1,4 @@
+-- `rest_of` meets its contract. Assumes nothing.
 use Rattle.masks.proofs.Three.{one-over, rest-eq}
 use native.Mathlib.Omega.{arith}
 use borrow.Author.Needs.{needs}

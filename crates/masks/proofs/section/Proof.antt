@@ -1,3 +1,4 @@
+-- `section` meets its contract. Assumes nothing.
 use Rattle.masks.proofs.Rows.{repeat-one, repeat-two}
 use mathlib.Core.Path.{_≡_}
 use native.Mathlib.Omega.{arith}

@@ -1,3 +1,4 @@
+-- `from_data_with` meets its contract. Assumes nothing.
 use Rattle.segments.specs.Segments.{cut, lacking}
 use Rattle.parse.proofs.Outcomes.{too-long, is-broken, is-empty, is-payload-full, is-script-full, is-read, is-copied}
 use borrow.Author.Needs.{needs}

@@ -1,3 +1,4 @@
+-- `advance` meets its contract. Assumes nothing.
 use Rattle.placement.proofs.Runs.{moves-push, moves-skip}
 use Rattle.placement.specs.Walk.{Leads}
 use lib.Pow.{shr-lt}

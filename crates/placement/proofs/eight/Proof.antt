@@ -1,3 +1,4 @@
+-- `eight` meets its contract. Assumes nothing.
 use Rattle.placement.proofs.Eights.{eight-is}
 use borrow.Author.Needs.{needs}
 use Rattle.placement.proofs.eight.Statement.{statement}

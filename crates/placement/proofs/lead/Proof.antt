@@ -1,3 +1,4 @@
+-- `lead` meets its contract. Assumes nothing.
 use Rattle.placement.proofs.Runs.{leads}
 use lib.Count.{trailing-le}
 use native.Mathlib.Omega.{arith}

@@ -1,3 +1,4 @@
+-- `modules` meets its contract. Assumes nothing.
 use Rattle.placement.proofs.Walk.{modules-are}
 use borrow.Author.Needs.{needs}
 use Rattle.placement.proofs.modules.Statement.{statement}

@@ -1,3 +1,4 @@
+-- `no_data` meets its contract. Assumes nothing.
 use Rattle.placement.proofs.Runs.{no-data-are}
 use borrow.Author.Needs.{needs}
 use Rattle.placement.proofs.no_data.Statement.{statement}

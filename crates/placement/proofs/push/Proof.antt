@@ -1,3 +1,4 @@
+-- `push` meets its contract. Assumes nothing.
 use Rattle.placement.proofs.Walk.{shifted, sum-small, few-pushed, full-pushed}
 use Rattle.placement.specs.Walk.{Stored}
 use mathlib.Core.Path.{_≡_, refl, ap, subst}

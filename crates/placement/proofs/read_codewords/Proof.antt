@@ -1,3 +1,4 @@
+-- `read_codewords` meets its contract. Assumes nothing.
 use Rattle.placement.proofs.Rows.{first-codewords}
 use Rattle.codewords.specs.Codewords.{maskBit, dataBits}
 use lib.Seq.{length-take-le}

@@ -1,3 +1,4 @@
+-- `read_rows` meets its contract. Assumes nothing.
 use Rattle.placement.proofs.Rows.{row-inside, row-mask, part-length, aligned, rows-pending, walk-again, rows-begun, rows-turn, rows-done}
 use Rattle.masks.proofs.Rows.{columns-fewer, row-new}
 use Rattle.masks.specs.Columns.{Row}

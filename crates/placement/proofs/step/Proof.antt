@@ -1,3 +1,4 @@
+-- `step` meets its contract. Assumes nothing.
 use Rattle.placement.proofs.Walk.{unmasked-is, bits-small, goes-push}
 use Rattle.placement.proofs.Eights.{eight-zero}
 use Rattle.placement.specs.Walk.{behind, unmaskedAt}

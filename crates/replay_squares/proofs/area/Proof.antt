@@ -1,3 +1,4 @@
+-- `area` meets its contract. Assumes nothing.
 use native.Mathlib.Omega.{arith}
 use native.Mathlib.Nat.{mul-le-mul}
 use Rattle.replay_squares.proofs.area.Statement.{statement}

@@ -1,3 +1,4 @@
+-- `check_script` meets its contract. Assumes nothing.
 use lib.ListN.{length-drop}
 use lib.Seq.{length-take-le}
 use mathlib.Core.Path.{_≡_, sym, ap, _∙_}

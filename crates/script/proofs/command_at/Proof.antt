@@ -1,3 +1,4 @@
+-- `command_at` meets its contract. Assumes nothing.
 use mathlib.Core.Path.{sym, _∙_}
 use Rattle.script.proofs.Checks.{command-four, command-eci, command-zero, command-large, command-run}
 use borrow.Author.Needs.{needs}

@@ -1,3 +1,4 @@
+-- `digit_value` meets its contract. Assumes nothing.
 use Rattle.script.proofs.Runs.{digit-value, not-a-digit}
 use Rattle.script.proofs.digit_value.Statement.{statement}
 use Rattle.script.proofs.digit_value.Tie as tie

@@ -1,3 +1,4 @@
+-- `double_code` meets its contract. Assumes nothing.
 use borrow.Author.Tests.{lt-ltb, le-ltb}
 use Rattle.script.specs.Writer.{doubleCode}
 use borrow.Author.Needs.{needs}

@@ -1,3 +1,4 @@
+-- `eci_at` meets its contract. Assumes nothing.
 use Rattle.script.proofs.Checks.{eci-cut, eci-large, eci-read}
 use borrow.Author.Needs.{needs}
 use Rattle.script.proofs.eci_at.Statement.{statement}

@@ -1,3 +1,4 @@
+-- `eci_bits` meets its contract. Assumes nothing.
 use native.Mathlib.Omega.{arith}
 use borrow.Author.Tests.{lt-ltb, le-ltb}
 use Rattle.script.specs.Writer.{eciLength}

@@ -1,3 +1,4 @@
+-- `four_code` meets its contract. Assumes nothing.
 use Rattle.script.proofs.Codes.{four-short, four-at}
 use borrow.Author.Needs.{needs}
 use Rattle.script.proofs.four_code.Statement.{statement}

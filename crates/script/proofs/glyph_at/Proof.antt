@@ -1,3 +1,4 @@
+-- `glyph_at` meets its contract. Assumes nothing.
 use Rattle.script.specs.declared.Glyph.the-variants.{Lacking}
 use mathlib.Core.Path.{ap, ap₂, _∙_}
 use native.Mathlib.Omega.{arith}

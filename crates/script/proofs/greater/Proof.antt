@@ -1,3 +1,4 @@
+-- `greater` meets its contract. Assumes nothing.
 use native.Mathlib.Omega.{arith}
 use Rattle.script.proofs.Runs.{right-greater, left-greater}
 use Rattle.script.proofs.greater.Statement.{statement}

@@ -1,3 +1,4 @@
+-- `in_four` meets its contract. Assumes nothing.
 use Rattle.script.proofs.Runs.{four-first, four-second, four-third, four-last}
 use borrow.Author.Tests.{lt-ltb, le-ltb}
 use Rattle.script.specs.Writer.{fourCode, inFour}

@@ -1,3 +1,4 @@
+-- `in_region` meets its contract. Assumes nothing.
 use mathlib.Core.Path.{_∙_, ap}
 use borrow.Author.Tests.{lt-ltb, le-ltb, eq-eqb, ne-eqb}
 use Rattle.segments.specs.Segments.{regionSize, highOf}

@@ -1,3 +1,4 @@
+-- `in_subset` meets its contract. Assumes nothing.
 use borrow.Author.Tests.{lt-ltb, le-ltb}
 use Rattle.script.specs.Writer.{codeOf, inSubset}
 use borrow.Author.Needs.{needs}

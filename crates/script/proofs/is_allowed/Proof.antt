@@ -1,3 +1,4 @@
+-- `is_allowed` meets its contract. Assumes nothing.
 use borrow.Author.Tests.{eq-eqb, ne-eqb, le-leb, lt-leb}
 use Rattle.script.specs.Check.{allowed}
 use Rattle.script.proofs.is_allowed.Statement.{statement}

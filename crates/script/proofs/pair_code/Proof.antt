@@ -1,3 +1,4 @@
+-- `pair_code` meets its contract. Assumes nothing.
 use borrow.Author.Tests.{lt-ltb, le-ltb, eq-eqb, ne-eqb}
 use Rattle.script.specs.Writer.{pairCode}
 use borrow.Author.Needs.{needs}

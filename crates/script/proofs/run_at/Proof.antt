@@ -1,3 +1,4 @@
+-- `run_at` meets its contract. Assumes nothing.
 use mathlib.Core.Path.{sym, _∙_}
 use Rattle.script.proofs.Checks.{run-cut, run-read, run-wrong}
 use borrow.Author.Needs.{needs}

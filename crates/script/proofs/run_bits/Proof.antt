@@ -1,3 +1,4 @@
+-- `run_bits` meets its contract. Assumes nothing.
 use mathlib.Core.Path.{sym, _∙_}
 use native.Mathlib.Omega.{arith}
 use Rattle.script.proofs.Runs.{numeric-takes, numeric-lacks, bytes-takes, four-takes, four-lacks, char-cost}

@@ -1,3 +1,4 @@
+-- `width` meets its contract. Assumes nothing.
 use native.Mathlib.Omega.{arith}
 use borrow.Author.Tests.{eq-eqb, ne-eqb}
 use Rattle.script.specs.Glyphs.{widthOf}

@@ -1,3 +1,4 @@
+-- `eci_field` meets its contract. Assumes nothing.
 use Prim.Native.Nat.{_+_}
 use native.Mathlib.Omega.{arith}
 use Rattle.bits.proofs.Words.{word-read, word-few}

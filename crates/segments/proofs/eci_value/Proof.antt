@@ -1,3 +1,4 @@
+-- `eci_value` meets its contract. Assumes nothing.
 use mathlib.Core.Path.{refl, sym, _∙_}
 use native.Mathlib.Omega.{arith}
 use Rattle.segments.proofs.Designators.{eci-cut, eci-one, eci-one-cut, eci-two, eci-two-cut, eci-three, eci-lacks}

@@ -1,3 +1,4 @@
+-- `first_byte` meets its contract. Assumes nothing.
 use native.Mathlib.Omega.{arith}
 use mathlib.Core.Path.{refl}
 use Rattle.segments.specs.Segments.{firstByte}

@@ -1,3 +1,4 @@
+-- `four_byte` meets its contract. Assumes nothing.
 use mathlib.Core.Path.{refl}
 use native.Mathlib.Omega.{arith}
 use Rattle.bits.proofs.Words.{WordAt, word-read, word-few}

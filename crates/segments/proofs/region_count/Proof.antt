@@ -1,3 +1,4 @@
+-- `region_count` meets its contract. Assumes nothing.
 use borrow.Author.Tests.{eq-eqb, ne-eqb}
 use borrow.Author.Needs.{needs}
 use Rattle.segments.proofs.region_count.Statement.{statement}

@@ -1,3 +1,4 @@
+-- `region_size` meets its contract. Assumes nothing.
 use Rattle.segments.specs.Segments.{regionSize}
 use Rattle.segments.proofs.region_size.Statement.{statement}
 use Rattle.segments.proofs.region_size.Tie as tie

@@ -1,3 +1,4 @@
+-- `run_of_mode` meets its contract. Assumes nothing.
 use mathlib.Core.Path.{refl}
 use Rattle.segments.proofs.Steps.{run-numeric, run-text, run-bytes, run-one, run-two, run-double, run-four, run-none}
 use borrow.Author.Needs.{needs}

@@ -1,3 +1,4 @@
+-- `segment` meets its contract. Assumes nothing.
 use Prim.Native.Nat.{_-_}
 use native.Mathlib.Omega.{arith}
 use Rattle.segments.proofs.Steps.{command-length, eci-on, eci-bound, eci-stop, run-on, run-stop, inside}

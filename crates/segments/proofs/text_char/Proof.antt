@@ -1,3 +1,4 @@
+-- `text_char` meets its contract. Assumes nothing.
 use native.Mathlib.Omega.{arith}
 use borrow.Author.Needs.{needs}
 use Rattle.segments.proofs.text_char.Statement.{statement}

@@ -1,3 +1,4 @@
+-- `lowest` meets its contract. Assumes nothing.
 use Rattle.small_marks.proofs.Narrow.{two-power}
 use mathlib.Core.Path.{ap}
 use Prim.Native.Nat.{ℕ, _%_}

@@ -1,3 +1,4 @@
+-- `margin` meets its contract. Assumes nothing.
 use Rattle.small_marks.specs.Open.{whole, ends}
 use mathlib.Core.Logic.{inl, inr}
 use native.Mathlib.Omega.{arith}

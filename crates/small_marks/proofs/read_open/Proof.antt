@@ -1,3 +1,4 @@
+-- `read_open` meets its contract. Assumes nothing.
 use Rattle.placement.proofs.Rows.{first-codewords}
 use Rattle.symbol.specs.Version.{sideOf}
 use Rattle.symbol.specs.Layout.{layoutOf}

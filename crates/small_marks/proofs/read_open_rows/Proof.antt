@@ -1,3 +1,4 @@
+-- `read_open_rows` meets its contract. Assumes nothing.
 use Rattle.small_marks.proofs.Open.{open-layout, margin-few, open-turn}
 use Rattle.small_marks.proofs.Narrow.{low-small}
 use Rattle.placement.proofs.Rows.{part-length, row-inside, masked, rows-pending, walk-again, rows-begun, rows-done}

@@ -1,3 +1,4 @@
+-- `read_span` meets its contract. Assumes nothing.
 use Rattle.small_marks.proofs.Narrow.{lowest-is, spans-none, spans-on, spans-push}
 use Rattle.placement.specs.Walk.{Pending}
 use Rattle.small_marks.specs.Open.{Spans}

@@ -1,3 +1,4 @@
+-- `unmasked` meets its contract. Assumes nothing.
 use Rattle.small_marks.proofs.Narrow.{narrow-is}
 use native.Mathlib.Omega.{arith}
 use borrow.Author.Needs.{needs}
