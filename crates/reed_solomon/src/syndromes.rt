@@ -26,16 +26,19 @@ pub fn reduced(n: usize) -> usize
     if n < 255 { n } else { n - 255 }
 }
 
-// The same for twice an exponent below `top`. Where top is small, none is above 254: the compiler then makes a loop over the syndromes without
-// this test.
-fn short(n: usize, top: usize) -> usize
-    requires { ⌜ (n ≤ top + top) × (n ≤ 510) ⌝ }
-    ensures { λ r. ⌜ (r ≤ 255) × Reduced n r ⌝ }
+// The next two bytes where the roots have small exponents, as in every mark: twice an exponent then needs no test, which would stand in the
+// innermost loop.
+fn advance_low(field: &[u16; 1280], first: usize, s: &mut [u8], parity: usize, a: u8, b: u8)
+    requires { ⌜ Field (now field) ⌝ }
+    requires { ⌜ (first + parity < 128) × (parity ≤ length (now s)) ⌝ }
+    ensures { λ _. ⌜ Each (advancedTwo (polyOf (now (field .entry))) first a b) parity (now (s .entry)) (now (s .exit)) ⌝ }
 {
-    if top < 128 {
-        return n;
+    let mut j = 0;
+    while j < parity {
+        let n = first + j;
+        s[j] = field::raised(field, s[j], n + n) ^ (field::raised(field, a, n) ^ b);
+        j += 1;
     }
-    reduced(n)
 }
 
 // The next two bytes. All syndromes advance together, so that their table lookups overlap, and by two bytes a time, so that each waits for
@@ -45,11 +48,14 @@ fn advance_two(field: &[u16; 1280], first: usize, s: &mut [u8], parity: usize, a
     requires { ⌜ (first + parity ≤ 256) × (parity ≤ length (now s)) ⌝ }
     ensures { λ _. ⌜ Each (advancedTwo (polyOf (now (field .entry))) first a b) parity (now (s .entry)) (now (s .exit)) ⌝ }
 {
+    if first + parity < 128 {
+        advance_low(field, first, s, parity, a, b);
+        return;
+    }
     let mut j = 0;
     while j < parity {
         let n = first + j;
-        s[j] = field::raised(field, s[j], short(n + n, first + parity))
-            ^ (field::raised(field, a, n) ^ b);
+        s[j] = field::raised(field, s[j], reduced(n + n)) ^ (field::raised(field, a, n) ^ b);
         j += 1;
     }
 }

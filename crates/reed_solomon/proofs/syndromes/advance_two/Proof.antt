@@ -21,18 +21,19 @@ loop-holds c = (each-start _ _, omega arith)
 
 loop-again : tie.Need-loop-again Inv-loop μ-loop
 loop-again c =
-    let start = c .before .before .before .before .before .before .before in
+    let start = c .before .before .before .before .before .before .before .before in
     let loop = c .before .before .before .before .before .loop in (
       each-next _ _ _ _ _ (loop .inv .0) (omega arith)
-          (two-at-once _ (the-field _ (start .pre .0)) _ _ _ _ _ _ _ _ (c .before .before .short .ensures .1) (c .before .raised .ensures) (c .raised2 .ensures)),
+          (two-at-once _ (the-field _ (start .pre .0)) _ _ _ _ _ _ _ _ (c .before .before .reduced .ensures .1) (c .before .raised .ensures) (c .raised2 .ensures)),
       omega arith,
     )
 
-returns : tie.Need-returns Inv-loop μ-loop
-returns c = each-end _ _ _ _ _ (c .before .loop .inv .0) (omega arith) (omega arith)
+returns-2 : tie.Need-returns-2 Inv-loop μ-loop
+returns-2 c = each-end _ _ _ _ _ (c .before .loop .inv .0) (omega arith) (omega arith)
 
 pub advance-two-spec : {M : Type 1} → statement M
 advance-two-spec =
-    tie.close (tie.spec Inv-loop μ-loop loop-holds (λ c. search needs) (λ c. omega (arith, c .before .before .loop .inv .0 .size))
-    (λ c. search needs) (λ c. search needs) (λ c κs. search needs) (λ c κs. search needs) (λ c κs. search needs) (λ c. omega arith)
-    (λ c. search needs) (λ c. search needs) loop-again (λ c. c .before .loop .inv .0 .size) returns)
+    tie.close (tie.spec Inv-loop μ-loop (λ c. search needs) (λ c κs. search needs) (λ c. c .before .before .advance-low .ensures .size)
+    (λ c. c .before .before .advance-low .ensures) loop-holds (λ c. search needs) (λ c. omega (arith, c .before .before .loop .inv .0 .size))
+    (λ c. search needs) (λ c κs. search needs) (λ c κs. search needs) (λ c κs. search needs) (λ c. omega arith) (λ c. search needs)
+    (λ c. search needs) loop-again (λ c. c .before .loop .inv .0 .size) returns-2)
