@@ -1,9 +1,9 @@
 //! Copies the two original Rust files, byte for byte, into OUT_DIR, each followed by accessors for what is private in it,
-//! and links the static libraries that `rt staticlib` made of the crates `compare_..` and `han_xin`.
+//! and links the static libraries that `rt staticlib` made of the crates `comparison` and `han_xin`.
 //! HAN_XIN_RUST names the folder of the originals, HAN_XIN_LIB that of the static libraries.
 use std::{env, fs, path::Path};
 
-const LIBRARIES: [&str; 4] = ["compare_blocks", "compare_symbol", "compare_segments", "han_xin"];
+const LIBRARIES: [&str; 2] = ["comparison", "han_xin"];
 
 const ACCESS: [(&str, &str); 2] = [
     (

@@ -8,31 +8,31 @@ use std::hint::black_box;
 use std::iter::once;
 
 #[repr(C)]
-struct Told {
-    refusal: usize,
+struct DataAnswer {
+    number: usize,
     payload: usize,
     script: usize,
 }
 
 #[repr(C)]
-struct Checked {
-    refusal: usize,
+struct ScriptAnswer {
+    number: usize,
     bits: usize,
 }
 
 unsafe extern "C" {
-    fn compare_segments_from_data(d: *const u8, dn: usize, p: *mut u8, pn: usize, s: *mut u8, sn: usize) -> Told;
-    fn compare_segments_check(s: *const u8, sn: usize, p: *const u8, pn: usize) -> Checked;
+    fn hx_from_data(d: *const u8, dn: usize, p: *mut u8, pn: usize, s: *mut u8, sn: usize) -> DataAnswer;
+    fn hx_check_script(s: *const u8, sn: usize, p: *const u8, pn: usize) -> ScriptAnswer;
 }
 
-fn from_data(data: &[u8], payload: &mut [u8], script: &mut [u8]) -> Told {
+fn from_data(data: &[u8], payload: &mut [u8], script: &mut [u8]) -> DataAnswer {
     // SAFETY: each slice is passed with its own length, and none overlaps another.
-    unsafe { compare_segments_from_data(data.as_ptr(), data.len(), payload.as_mut_ptr(), payload.len(), script.as_mut_ptr(), script.len()) }
+    unsafe { hx_from_data(data.as_ptr(), data.len(), payload.as_mut_ptr(), payload.len(), script.as_mut_ptr(), script.len()) }
 }
 
-fn check(script: &[u8], payload: &[u8]) -> Checked {
+fn check(script: &[u8], payload: &[u8]) -> ScriptAnswer {
     // SAFETY: each slice is passed with its own length.
-    unsafe { compare_segments_check(script.as_ptr(), script.len(), payload.as_ptr(), payload.len()) }
+    unsafe { hx_check_script(script.as_ptr(), script.len(), payload.as_ptr(), payload.len()) }
 }
 
 /// One input with buffers that are large; then exactly full, and one short. The number of answers by kind.
@@ -51,28 +51,28 @@ impl Tally {
     /// Compares one input; the lengths of payload and script, where it is accepted.
     fn one(&mut self, data: &[u8]) -> Option<(usize, usize)> {
         let theirs = parse(data).map(|r| r.1);
-        let told = from_data(data, &mut self.payload, &mut self.script);
-        let ours = format!("{} {} {}", told.refusal, told.payload, told.script);
+        let answer = from_data(data, &mut self.payload, &mut self.script);
+        let ours = format!("{} {} {}", answer.number, answer.payload, answer.script);
         match theirs {
             Some(bytes) => {
-                if told.refusal != 0 || self.payload[..told.payload] != bytes {
-                    differs("payload", &hex(data), &(ours + " " + &hex(&self.payload[..told.payload])), &hex(&bytes));
+                if answer.number != 0 || self.payload[..answer.payload] != bytes {
+                    differs("payload", &hex(data), &(ours + " " + &hex(&self.payload[..answer.payload])), &hex(&bytes));
                 }
-                self.payload[..told.payload].fill(MARK);
-                self.script[..told.script].fill(MARK);
+                self.payload[..answer.payload].fill(MARK);
+                self.script[..answer.script].fill(MARK);
                 self.accepted += 1;
             }
             None => {
-                if !matches!(told.refusal, 7 | 8) || told.payload != 0 || told.script != 0 {
+                if !matches!(answer.number, 7 | 8) || answer.payload != 0 || answer.script != 0 {
                     differs("refusal", &hex(data), &ours, "none");
                 }
                 self.refused += 1;
             }
         }
-        if told.payload < ROOM && self.payload[told.payload] != MARK || told.script < ROOM && self.script[told.script] != MARK || told.refusal != 0 && (self.payload[0] != MARK || self.script[0] != MARK) {
+        if answer.payload < ROOM && self.payload[answer.payload] != MARK || answer.script < ROOM && self.script[answer.script] != MARK || answer.number != 0 && (self.payload[0] != MARK || self.script[0] != MARK) {
             differs("bytes beyond", &hex(data), &ours, "as they were");
         }
-        (told.refusal == 0).then_some((told.payload, told.script))
+        (answer.number == 0).then_some((answer.payload, answer.script))
     }
 
     /// The same with buffers that are exactly full, and one short.
@@ -80,10 +80,10 @@ impl Tally {
         let Some((n, m)) = self.one(data) else { return };
         for (p, s, refusal) in [(n, m, 0), (n - 1, m, 9), (n, m - 1, 10), (n - 1, m - 1, 9)] {
             let (mut payload, mut script) = (vec![MARK; p], vec![MARK; s]);
-            let told = from_data(data, &mut payload, &mut script);
+            let answer = from_data(data, &mut payload, &mut script);
             let kept = payload.iter().chain(&script).all(|&b| b == MARK);
-            if told.refusal != refusal || refusal != 0 && (!kept || told.payload != 0 || told.script != 0) {
-                differs("buffers", &format!("{} payload {p} script {s}", hex(data)), &told.refusal.to_string(), &refusal.to_string());
+            if answer.number != refusal || refusal != 0 && (!kept || answer.payload != 0 || answer.script != 0) {
+                differs("buffers", &format!("{} payload {p} script {s}", hex(data)), &answer.number.to_string(), &refusal.to_string());
             }
         }
     }
@@ -190,15 +190,15 @@ fn written(tally: &mut Tally, random: &mut Random) {
         let (data, bits) = (bits.bytes(), bits.0.len());
         let got = check(&script, &payload);
         let expected = if payload.is_empty() { (8, 0) } else { (0, bits) };
-        if (got.refusal, got.bits) != expected {
-            differs("check", &format!("{} {}", hex(&script), hex(&payload)), &format!("{} {}", got.refusal, got.bits), &format!("{expected:?}"));
+        if (got.number, got.bits) != expected {
+            differs("check", &format!("{} {}", hex(&script), hex(&payload)), &format!("{} {}", got.number, got.bits), &format!("{expected:?}"));
         }
         checked += 1;
         tally.tight(&data);
         let (mut p, mut s) = (vec![MARK; ROOM], vec![MARK; ROOM]);
-        let told = from_data(&data, &mut p, &mut s);
-        if told.refusal == 0 && (p[..told.payload] != payload || s[..told.script] != script) {
-            differs("script", &hex(&data), &hex(&s[..told.script]), &hex(&script));
+        let answer = from_data(&data, &mut p, &mut s);
+        if answer.number == 0 && (p[..answer.payload] != payload || s[..answer.script] != script) {
+            differs("script", &hex(&data), &hex(&s[..answer.script]), &hex(&script));
         }
         if turn % 20 == 1 {
             for cut in 0..bits {
@@ -259,9 +259,9 @@ fn bad(tally: &mut Tally) {
         for fill in [0, 0x11, 0x4F, 0xFF] {
             let data = vec![fill; n];
             let (mut p, mut s) = (vec![MARK; ROOM], vec![MARK; ROOM]);
-            let told = from_data(&data, &mut p, &mut s);
-            if n > 3886 && (told.refusal != 2 || p.iter().chain(&s).any(|&b| b != MARK)) {
-                differs("length", &n.to_string(), &told.refusal.to_string(), "2");
+            let answer = from_data(&data, &mut p, &mut s);
+            if n > 3886 && (answer.number != 2 || p.iter().chain(&s).any(|&b| b != MARK)) {
+                differs("length", &n.to_string(), &answer.number.to_string(), "2");
             }
             if n <= 3886 {
                 tally.one(&data);
@@ -277,20 +277,20 @@ fn bad(tally: &mut Tally) {
     tally.say("long data, region switches that never end");
     for (script, payload, refusal) in SCRIPTS {
         let got = check(script, payload);
-        if got.refusal != refusal || (refusal != 0) != (got.bits == 0) {
-            differs("check", &format!("{} {}", hex(script), hex(payload)), &got.refusal.to_string(), &refusal.to_string());
+        if got.number != refusal || (refusal != 0) != (got.bits == 0) {
+            differs("check", &format!("{} {}", hex(script), hex(payload)), &got.number.to_string(), &refusal.to_string());
         }
     }
     for (n, refusal) in [(8191, 0), (8192, 11)] {
         let got = check(&[3, (n >> 8) as u8, n as u8], &vec![7; n]);
-        if got.refusal != refusal {
-            differs("check", &format!("bytes of {n}"), &got.refusal.to_string(), &refusal.to_string());
+        if got.number != refusal {
+            differs("check", &format!("bytes of {n}"), &got.number.to_string(), &refusal.to_string());
         }
     }
     let long: Vec<u8> = [2u8, 0, 1].iter().copied().cycle().take(3 << 20).collect();
     let got = check(&long, &vec![65; 1 << 20]);
-    if (got.refusal, got.bits) != (0, 31_089) {
-        differs("check", "a script of 3 x 2^20 bytes", &format!("{} {}", got.refusal, got.bits), "0 31089");
+    if (got.number, got.bits) != (0, 31_089) {
+        differs("check", "a script of 3 x 2^20 bytes", &format!("{} {}", got.number, got.bits), "0 31089");
     }
     println!("segments: {} scripts with their refusals", SCRIPTS.len() + 3);
 }

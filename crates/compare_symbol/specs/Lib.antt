@@ -1,2 +1,0 @@
--- What the exports for the comparison answer outside the ranges of what they compare.
-pub mod Answers

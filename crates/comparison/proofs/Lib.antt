@@ -1,0 +1,2 @@
+-- The files of laws.
+pub mod Fields

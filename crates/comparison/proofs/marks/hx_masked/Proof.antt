@@ -1,0 +1,21 @@
+-- `hx_masked` meets its contract. Assumes nothing.
+use Rattle.comparison.specs.Marks.{maskAnswer}
+use borrow.Author.Tests.{lt-ltb, le-ltb}
+use borrow.Author.Needs.{needs}
+use Rattle.comparison.proofs.marks.hx_masked.Statement.{statement}
+use Rattle.comparison.proofs.marks.hx_masked.Tie as tie
+
+returns : tie.Need-returns
+unfolding maskAnswer
+returns c = simp (le-ltb _ _ (c .if1 .taken))
+
+returns-2 : tie.Need-returns-2
+unfolding maskAnswer
+returns-2 c = simp (lt-ltb _ _ (c .before .if1 .left), le-ltb _ _ (c .if2 .taken))
+
+returns-3 : tie.Need-returns-3
+unfolding maskAnswer
+returns-3 c = simp (lt-ltb _ _ (c .before .before .if1 .left), lt-ltb _ _ (c .before .if2 .left)) (c .masked .ensures .0)
+
+pub hx-masked-spec : {M : Type 1} → statement M
+hx-masked-spec = tie.close (tie.spec returns returns-2 (λ c. search needs) (λ c. search needs) (λ c κs. search needs) returns-3)

@@ -1,0 +1,4 @@
+-- What the exports for the comparison answer. No part of the specification.
+pub mod Correcting
+pub mod Marks
+pub mod Scripts
