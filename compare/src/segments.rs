@@ -320,7 +320,7 @@ pub fn bench(sheet: &mut Sheet) {
         let data = bits.bytes();
         assert!(data.len() <= 3264 && parse(&data).is_some(), "{name}");
         let mut ours = || {
-            black_box(from_data(black_box(&data), &mut payload, &mut script).refusal);
+            black_box(from_data(black_box(&data), &mut payload, &mut script).number);
         };
         let mut theirs = || {
             black_box(parse(black_box(&data)));
