@@ -108,7 +108,7 @@ fn wide(x: usize) -> u64
 
 // Whether version, level and mask are in their ranges.
 pub fn is_info(version: usize, level: usize, mask: usize) -> bool
-    ensures { λ r. ⌜ r ≡ isInfo version level mask ⌝ }
+    ensures { λ r. ⌜ (r ≡ isInfo version level mask) × (r ≡ true → (version ≤ 84) × (level ≤ 3) × (mask ≤ 3)) ⌝ }
 {
     if version < Version::MIN {
         return false;
