@@ -19,21 +19,9 @@ pub record Each (F : ℕ → ℕ → ℕ) (n : ℕ) (s s′ : List ℕ) : Type 0
 
 -- ---- syndromes
 
--- a syndrome times its root, and the next byte added
-abbrev pub advanced : ℕ → ℕ → ℕ → ℕ → ℕ → ℕ
-advanced poly first byte j x = mul poly x (power poly (first + j)) ⊕ byte
-
--- the same for two bytes
-abbrev pub advancedTwo : ℕ → ℕ → ℕ → ℕ → ℕ → ℕ → ℕ
-advancedTwo poly first a b j x = advanced poly first b j (advanced poly first a j x)
-
--- the same for four
-abbrev pub advancedFour : ℕ → ℕ → ℕ → ℕ → ℕ → ℕ → ℕ → ℕ → ℕ
-advancedFour poly first a b c d j x = advancedTwo poly first c d j (advancedTwo poly first a b j x)
-
--- the same for any number of bytes
-abbrev pub advancedRest : ℕ → ℕ → List ℕ → ℕ → ℕ → ℕ
-advancedRest poly first bytes j x = evalFrom poly (power poly (first + j)) x bytes
+-- a syndrome with more bytes of the block behind those so far
+abbrev pub advanced : ℕ → ℕ → List ℕ → ℕ → ℕ → ℕ
+advanced poly first bytes j x = evalFrom poly (power poly (first + j)) x bytes
 
 -- r is n, or less by 255
 pub record Reduced (n r : ℕ) : Type 0 where
@@ -113,7 +101,7 @@ pub record Located (poly : ℕ) (f : List ℕ) (l n : ℕ) (e : List ℕ) : Type
 -- how many of the first n are zero
 unfoldable pub zerosOf : ℕ → List ℕ → ℕ
 zerosOf zero e = 0
-zerosOf (suc n) e = cond (eqb (seq e n) 0) (suc (zerosOf n e)) (zerosOf n e)
+zerosOf (suc n) e = zerosOf n e + cond (eqb (seq e n) 0) 1 0
 
 -- ---- the errors
 

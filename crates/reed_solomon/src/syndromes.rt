@@ -1,15 +1,16 @@
 // The values of a block at the roots of its code (reed_solomon.rs: `syndromes`).
 ghost use mathlib.Core.Path.{_≡_};
+ghost use mathlib.Core.List.{[], _∷_};
 ghost use Prim.Native.Nat.{ℕ, _+_, _≤_, _<_};
 ghost use lib.ListN.{length, getD, drop};
 ghost use Rattle.field.specs.Table.{Field, polyOf};
-ghost use Rattle.reed_solomon.specs.Inner.{Each, advanced, advancedTwo, advancedFour, advancedRest, Reduced, Syndromes, isClean};
+ghost use Rattle.reed_solomon.specs.Inner.{Each, advanced, Reduced, Syndromes, isClean};
 
 // The next byte.
 fn advance(field: &[u16; 1280], first: usize, s: &mut [u8], parity: usize, byte: u8)
     requires { ⌜ Field (now field) ⌝ }
     requires { ⌜ (first + parity ≤ 256) × (parity ≤ length (now s)) ⌝ }
-    ensures { λ _. ⌜ Each (advanced (polyOf (now (field .entry))) first byte) parity (now (s .entry)) (now (s .exit)) ⌝ }
+    ensures { λ _. ⌜ Each (advanced (polyOf (now (field .entry))) first (byte ∷ [])) parity (now (s .entry)) (now (s .exit)) ⌝ }
 {
     let mut j = 0;
     while j < parity {
@@ -31,7 +32,7 @@ pub fn reduced(n: usize) -> usize
 fn advance_two(field: &[u16; 1280], first: usize, s: &mut [u8], parity: usize, a: u8, b: u8)
     requires { ⌜ Field (now field) ⌝ }
     requires { ⌜ (first + parity ≤ 256) × (parity ≤ length (now s)) ⌝ }
-    ensures { λ _. ⌜ Each (advancedTwo (polyOf (now (field .entry))) first a b) parity (now (s .entry)) (now (s .exit)) ⌝ }
+    ensures { λ _. ⌜ Each (advanced (polyOf (now (field .entry))) first (a ∷ b ∷ [])) parity (now (s .entry)) (now (s .exit)) ⌝ }
 {
     let mut j = 0;
     while j < parity {
@@ -54,7 +55,7 @@ pub struct Four {
 fn advance_four(field: &[u16; 1280], first: usize, s: &mut [u8], parity: usize, next: Four)
     requires { ⌜ Field (now field) ⌝ }
     requires { ⌜ (first + parity ≤ 64) × (parity ≤ length (now s)) ⌝ }
-    ensures { λ _. ⌜ Each (advancedFour (polyOf (now (field .entry))) first (next .a) (next .b) (next .c) (next .d)) parity (now (s .entry)) (now (s .exit)) ⌝ }
+    ensures { λ _. ⌜ Each (advanced (polyOf (now (field .entry))) first (next .a ∷ next .b ∷ next .c ∷ next .d ∷ [])) parity (now (s .entry)) (now (s .exit)) ⌝ }
 {
     let mut j = 0;
     while j < parity {
@@ -77,7 +78,7 @@ fn advance_rest(
 )
     requires { ⌜ Field (now field) ⌝ }
     requires { ⌜ (first + parity ≤ 256) × (parity ≤ length (now s)) × (at ≤ length (now block)) ⌝ }
-    ensures { λ _. ⌜ Each (advancedRest (polyOf (now (field .entry))) first (drop at (now (block .entry)))) parity (now (s .entry)) (now (s .exit)) ⌝ }
+    ensures { λ _. ⌜ Each (advanced (polyOf (now (field .entry))) first (drop at (now (block .entry)))) parity (now (s .entry)) (now (s .exit)) ⌝ }
 {
     let mut i = at;
     while i < block.len() {
@@ -86,12 +87,11 @@ fn advance_rest(
     }
 }
 
-// The syndromes of a block where the roots have small exponents.
+// The bytes of a whole block where the roots have small exponents.
 fn low_syndromes(field: &[u16; 1280], first: usize, block: &[u8], parity: usize, s: &mut [u8])
     requires { ⌜ Field (now field) ⌝ }
-    requires { ⌜ first + parity ≤ 64 ⌝ }
-    requires { ⌜ (length (now s) ≡ 256) × ((i : ℕ) → getD (now s) i 0 ≡ 0) ⌝ }
-    ensures { λ _. ⌜ Syndromes (polyOf (now (field .entry))) first parity (now (block .entry)) (now (s .exit)) ⌝ }
+    requires { ⌜ (first + parity ≤ 64) × (parity ≤ length (now s)) ⌝ }
+    ensures { λ _. ⌜ Each (advanced (polyOf (now (field .entry))) first (now (block .entry))) parity (now (s .entry)) (now (s .exit)) ⌝ }
 {
     let mut i = 0;
     while i < block.len() / 4 {
@@ -123,10 +123,7 @@ pub fn syndromes(field: &[u16; 1280], first: usize, block: &[u8], parity: usize,
         advance_two(field, first, s, parity, block[i + i], block[i + i + 1]);
         i += 1;
     }
-    if block.len() % 2 == 0 {
-        return;
-    }
-    advance(field, first, s, parity, block[i + i]);
+    advance_rest(field, first, block, i + i, parity, s);
 }
 
 // Whether all syndromes are zero.
