@@ -21,7 +21,7 @@ pub enum Correction {
 }
 
 // The block set to its codeword in reach where its syndromes s are not all zero (reed_solomon.rs: `solve`). Nothing is written before it is
-// known that the errors found leave no syndrome.
+// known that the errors found leave no syndrome. A locator with too few roots has no errors, which is told sooner than they are found.
 fn repair(
     field: &[u16; 1280],
     first: usize,
@@ -42,6 +42,9 @@ fn repair(
     }
     let mut e = [0u8; 256];
     errors::roots(field, &f, l, &mut e, n);
+    if errors::zeros(&e, n) < l {
+        return Correction::OutOfReach;
+    }
     errors::magnitudes(field, first, s, &f, l, &mut e, n);
     errors::take_off_all(field, first, s, parity, &e, n);
     if syndromes::clean(s, parity) {

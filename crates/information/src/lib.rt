@@ -7,7 +7,7 @@ ghost use lib.Dec.{ltb};
 ghost use lib.Bits.{bitXor};
 ghost use lib.Count.{ones};
 ghost use lib.ListN.{length, getD};
-ghost use Rattle.information.specs.Information.{timesX, plusIfOdd, gf16Mul, generatorTimes, remainder, wordOf, wordDistance, leastOf, nearestWord, positionRow, positionColumn, infoPosition, numberFrom, copyOf, bitOf, copyWritten, infoWritten, infoOf, infoAnswer, nearestOf, nearestAnswer};
+ghost use Rattle.information.specs.Information.{timesX, plusIfOdd, gf16Mul, generatorTimes, remainder, wordOf, wordDistance, leastOf, nearestWord, positionRow, positionColumn, infoPosition, numberFrom, copyOf, bitOf, copyWritten, infoWritten, isInfo, infoOf, infoAnswer, nearestOf, nearestAnswer};
 ghost use Rattle.information.specs.Inner.{Found, ArmWritten};
 use symbol::Version;
 
@@ -106,20 +106,27 @@ fn wide(x: usize) -> u64
     x as u64
 }
 
+// Whether version, level and mask are in their ranges.
+pub fn is_info(version: usize, level: usize, mask: usize) -> bool
+    ensures { λ r. ⌜ (r ≡ isInfo version level mask) × (r ≡ true → (version ≤ 84) × (level ≤ 3) × (mask ≤ 3)) ⌝ }
+{
+    if version < Version::MIN {
+        return false;
+    }
+    if Version::MAX < version {
+        return false;
+    }
+    if 3 < level {
+        return false;
+    }
+    mask <= 3
+}
+
 // SPECIFICATION 10.3, Information word: the 34 function information bits, first bit in bit 33.
 pub fn info_bits(version: usize, level: usize, mask: usize) -> InfoBits
     ensures { λ r. ⌜ infoAnswer r ≡ infoOf version level mask ⌝ }
 {
-    if version < Version::MIN {
-        return InfoBits::OutOfRange;
-    }
-    if Version::MAX < version {
-        return InfoBits::OutOfRange;
-    }
-    if 3 < level {
-        return InfoBits::OutOfRange;
-    }
-    if 3 < mask {
+    if !is_info(version, level, mask) {
         return InfoBits::OutOfRange;
     }
     let d = wide((version + 20) * 16 + level * 4 + mask);

@@ -8,7 +8,6 @@ ghost use Rattle.symbol.specs.Version.{sideOf};
 ghost use Rattle.squares.specs.Read.{firstRefusal, unless, areModules, readingOf, readOf, readKnownOf};
 ghost use Rattle.telling.specs.Inner.{Fitting, bodyOr1};
 ghost use Rattle.reader.specs.Inner.{Greater, Greatest, Nearest, Roomy};
-use information::InfoBits;
 use information::NearestInfo;
 use receipts::Mark;
 use symbol::FromSide;
@@ -137,9 +136,9 @@ fn read_known_in(
     if receipt.len() != 12 {
         return 2;
     }
-    let InfoBits::Word(_) = information::info_bits(m.version, m.level, m.mask) else {
+    if !information::is_info(m.version, m.level, m.mask) {
         return receipts::refuse(receipt, 1);
-    };
+    }
     let early = square_refusal(square, Version { number: m.version }.side());
     if early != 0 {
         return receipts::refuse(receipt, early);

@@ -1,7 +1,7 @@
 -- A block's values are its syndromes, and two codewords differ in more places than they have parity. Assumes nothing.
 use mathlib.Core.Path.{_≡_, refl, sym, ap, ap₂, _∙_, subst}
 use mathlib.Core.Bool.{Bool, true, false, _&&_}
-use mathlib.Core.List.{List, _∷_}
+use mathlib.Core.List.{List, [], _∷_, _++_}
 use Prim.Native.Nat.{ℕ, zero, suc, _+_, _%_, _≤_, _<_}
 use native.Mathlib.Omega.{arith}
 use lib.Dec.{T, eqb, eqb→eq}
@@ -35,6 +35,12 @@ unfolding evalFrom
 eval-horner poly x w =
     sym (value-so-far poly x w (length w) (omega arith))
     ∙ ap (evalFrom poly x (horner poly (seq w) x (length w))) (drop-of-length-le w {i = length w} (omega arith))
+
+-- the value behind that of the first bytes
+pub eval-append : (poly x acc : ℕ) (xs ys : List ℕ) → evalFrom poly x acc (xs ++ ys) ≡ evalFrom poly x (evalFrom poly x acc xs) ys
+unfolding evalFrom
+eval-append poly x acc [] ys = refl
+eval-append poly x acc (b ∷ xs) ys = eval-append poly x (mul poly acc x ⊕ b) xs ys
 
 -- ---- what is a codeword
 

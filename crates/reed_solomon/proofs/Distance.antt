@@ -3,16 +3,21 @@ use mathlib.Core.Path.{_≡_, refl, sym, ap, _∙_, subst}
 use mathlib.Core.Logic.{_≢_}
 use mathlib.Core.Bool.{Bool, true, false}
 use mathlib.Core.List.{List, [], _∷_}
-use Prim.Native.Nat.{ℕ, zero, suc, _+_, _≤_, _<_, zero-le}
+use Prim.Native.Nat.{ℕ, zero, suc, _+_, _-_, _≤_, _<_, zero-le}
 use native.Mathlib.Omega.{arith}
+use native.Mathlib.Numerals.{add-one}
+use native.Mathlib.Nat.{add-zero}
+use native.Mathlib.Decide.{ℕ-discrete}
+use borrow.Author.Tests.{eq-eqb, ne-eqb}
 use lib.Dec.{T, eqb, eqb→eq, eqb-refl}
 use lib.ListN.{length, getD}
 use Rattle.field.proofs.Field.{Passes}
-use Rattle.reed_solomon.specs.Sum.{horner, locator}
+use Rattle.reed_solomon.specs.Sum.{seq, horner, degree, locator}
 use Rattle.reed_solomon.proofs.Sum.{Null}
 use Rattle.reed_solomon.proofs.Peel.{Out}
 use Rattle.reed_solomon.proofs.Horner.{Roots}
 use Rattle.reed_solomon.specs.Block.{orOneMore, distance}
+use Rattle.reed_solomon.specs.Inner.{zerosOf}
 
 abbrev orAlso : Bool → ℕ → List ℕ → List ℕ
 orAlso true i l = l
@@ -84,7 +89,32 @@ triangle (w ∷ ws) (u ∷ us) (v ∷ vs) e f =
     tick-triangle (eqb w u) (eqb w v) (eqb u v) (distance us vs) (distance ws us) (distance ws vs)
     (λ p q. subst (λ (x : ℕ). T (eqb u x)) (sym (eqb→eq w u p) ∙ eqb→eq w v q) (eqb-refl u)) (triangle ws us vs (omega arith) (omega arith))
 
--- a polynomial that is zero wherever the two differ has these places as roots
+-- ---- how many of the first n are zero
+
+pub zeros-more : (e : List ℕ) (n : ℕ) → seq e n ≡ 0 → zerosOf (n + 1) e ≡ zerosOf n e + 1
+unfolding zerosOf
+zeros-more e n z = simp (add-one, eq-eqb (seq e n) 0 z)
+
+pub zeros-same : (e : List ℕ) (n : ℕ) → seq e n ≢ 0 → zerosOf (n + 1) e ≡ zerosOf n e
+unfolding zerosOf
+zeros-same e n d = simp (add-one, ne-eqb (seq e n) 0 d, add-zero)
+
+-- no fewer than two blocks differ in, if e is zero at the degree of each place in which they do
+pub differ-zeros : (e xs ys : List ℕ) → ((k : ℕ) → k < length xs → seq xs k ≢ seq ys k → seq e (degree (length xs) k) ≡ 0)
+    → distance xs ys ≤ zerosOf (length xs) e
+unfolding distance zerosOf degree
+differ-zeros e [] ys z = zero-le
+differ-zeros e (x ∷ xs) [] z = zero-le
+differ-zeros e (x ∷ xs) (y ∷ ys) z =
+    let head : length xs ≡ suc (length xs) - 1 = omega arith in
+    let tail : (k : ℕ) → length xs - suc k ≡ suc (length xs) - suc (suc k) = λ k. omega arith in
+    let t = differ-zeros e xs ys (λ k h d. ap (seq e) (tail k) ∙ z (suc k) (omega arith) d) in
+    elim (ℕ-discrete x y) [
+      | yes q ↦ simp (eq-eqb x y q) (omega (arith, t))
+      | no d ↦ simp (ne-eqb x y d, eq-eqb (seq e (length xs)) 0 (ap (seq e) head ∙ z 0 (omega arith) d)) (omega (arith, t))
+    ]
+
+-- ---- a polynomial that is zero wherever the two differ has these places as roots
 module _ (poly : ℕ) (P : Passes poly) (first n : ℕ) (small : n ≤ 255) (f : ℕ → ℕ) (m : ℕ) where
   abbrev Zero : ℕ → Type 0
   Zero k = Null (horner poly f (locator poly n k) m)

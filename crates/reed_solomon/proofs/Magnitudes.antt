@@ -58,14 +58,6 @@ dividing-two poly s f l d j m num den m′ num′ den′ D S =
       value = S .value ∙ D₂ .value ∙ ap (horner poly (dividedAt poly f d) (power poly d)) e;
     }
 
--- two steps of Horner's rule by two products that do not wait for each other
-pub two-steps : (poly : ℕ) → Passes poly → (d r a b x u v : ℕ) → Reduced (d + d) r → u ≡ mul poly x (power poly r) → v ≡ mul poly a (power poly d)
-    → u ⊕ (v ⊕ b) ≡ stepped poly d b (stepped poly d a x)
-two-steps poly P d r a b x u v R eu ev =
-    let e : d + 0 ≡ d = omega arith in
-    subst (λ (n : ℕ). Reduced (n + n) r → v ≡ mul poly a (power poly n) → u ⊕ (v ⊕ b) ≡ stepped poly n b (stepped poly n a x)) e
-    (λ R ev. two-at-once poly P d 0 r a b x u v R eu ev) R ev
-
 pub dividing-end : (poly : ℕ) (s f : List ℕ) (l d j m num den : ℕ) → Dividing poly s f l d j m num den → j ≤ l → l ≤ j
     → (num ≡ numerator poly s f l d) × (den ≡ denominator poly f l d)
 unfolding numerator denominator
@@ -93,11 +85,11 @@ pub two-are : (poly : ℕ) → Passes poly → (d n a b s t m num den u v w y z 
     → SteppedTwo poly d a b s t m num den (v ⊕ (w ⊕ b)) ((num ⊕ p) ⊕ q) (y ⊕ (z ⊕ (v ⊕ (w ⊕ b))))
 two-are poly P d n a b s t m num den u v w y z p q R eu ev ew ey ez ep eq =
     let ex = ap (λ (x : ℕ). x ⊕ a) eu in
-    let em = two-steps poly P d n a b m v w R ev ew in
+    let em = two-at-once poly P d n a b m v w R ev ew in
     record {
       next = em;
       over = ap₂ (λ (x y : ℕ). (num ⊕ x) ⊕ y) (ep ∙ ap (λ (x : ℕ). mul poly x s) ex) (eq ∙ ap (λ (x : ℕ). mul poly x t) em);
-      value = two-steps poly P d n (u ⊕ a) (v ⊕ (w ⊕ b)) den y z R ey ez ∙ ap₂ (λ (x y : ℕ). stepped poly d y (stepped poly d x den)) ex em;
+      value = two-at-once poly P d n (u ⊕ a) (v ⊕ (w ⊕ b)) den y z R ey ez ∙ ap₂ (λ (x y : ℕ). stepped poly d y (stepped poly d x den)) ex em;
     }
 
 -- ---- the error of the fraction

@@ -15,7 +15,7 @@ use Rattle.reed_solomon.specs.Sum.{_⊕_, seq}
 use Rattle.reed_solomon.specs.Register.{discrepancy, Makes, Tail, moved, stepped, State}
 use Rattle.reed_solomon.proofs.Register.{moved-low, moved-high, stepped-low, stepped-tail, massey, kept, stayed, grown}
 use Rattle.reed_solomon.specs.Inner.{Each, added, copied, Register, Shortest}
-use Rattle.reed_solomon.proofs.Each.{each-same, each-next}
+use Rattle.reed_solomon.proofs.Each.{each-same, each-next, Above, above-next, above-end}
 
 -- f plus q times g moved up by m places: below m nothing is added
 module _ (poly q m : ℕ) (g : List ℕ) where
@@ -29,9 +29,33 @@ module _ (poly q m : ℕ) (g : List ℕ) where
       each-next (added poly q m g) i (seq f i ⊕ p) f₀ f E h
       (ap (λ (y : ℕ). seq f i ⊕ y) e ∙ sym (ap (λ (y : ℕ). seq f i ⊕ mul poly q y) (moved-high m (seq g) i k)))
 
--- copied twice
-pub copied-twice : (n : ℕ) (a b b′ c c′ : List ℕ) → Each (copied a) n b b′ → Each (copied b′) n c c′ → Each (copied a) n c c′
-copied-twice n a b b′ c c′ E G = record { size = G .size; done = λ i h. G .done i h ∙ E .done i h; rest = G .rest }
+-- the same from the top down, and g becomes what f was
+module _ (poly q m top : ℕ) (f₀ g₀ : List ℕ) where
+  pub record Growing (i : ℕ) (f g : List ℕ) : Type 0 where
+    pub more : Above (added poly q m g₀) i top f₀ f
+    pub old : Above (copied f₀) i top g₀ g
+
+  pub growing-next : (i p : ℕ) (f g : List ℕ) → Growing i f g → m < i → i ≤ top → top ≤ length f₀ → top ≤ length g₀ → p ≡ mul poly q (seq g (i - 1 - m))
+      → Growing (i - 1) (set f (i - 1) (seq f (i - 1) ⊕ p)) (set g (i - 1) (seq f (i - 1)))
+  growing-next i p f g G a b hf hg e = record {
+    more = above-next (added poly q m g₀) top f₀ i (seq f (i - 1) ⊕ p) f (G .more) (omega arith) b hf
+        (ap (λ (y : ℕ). seq f (i - 1) ⊕ y) (e ∙ ap (mul poly q) (G .old .below (i - 1 - m) (omega arith) ∙ sym (moved-high m (seq g₀) (i - 1) (omega arith)))));
+    old = above-next (copied f₀) top g₀ i (seq f (i - 1)) g (G .old) (omega arith) b hg (G .more .below (i - 1) (omega arith));
+  }
+
+  pub growing-end : (i : ℕ) (f g g′ : List ℕ) → Growing i f g → i ≡ m → m ≤ top → Each (copied f) m g g′
+      → Each (added poly q m g₀) top f₀ f × Each (copied f₀) top g₀ g′
+  growing-end i f g g′ G e h C = (
+    above-end (added poly q m g₀) top f₀ i f (G .more) (λ k l. adding-start poly q m g₀ f₀ .done k (omega arith)),
+    record {
+      size = C .size ∙ G .old .size;
+      done = λ k l. elim (decLt k m) [
+        | yes a ↦ C .done k a ∙ G .more .below k (omega arith)
+        | no a ↦ C .rest k (omega arith) ∙ G .old .done k (omega arith) l
+      ];
+      rest = λ k l. C .rest k (omega arith) ∙ G .old .rest k l;
+    },
+  )
 
 -- ---- what the algorithm keeps
 
@@ -97,14 +121,14 @@ module _ (poly : ℕ) (P : Passes poly) (s : List ℕ) (r : ℕ) (f g : List ℕ
     }
 
     -- g′ is f, as far as the two are not zero
-    copied-whole : (g′ : List ℕ) → Each (copied f) (r + 1) g g′ → seq g′ ≡ seq f
+    copied-whole : (g′ : List ℕ) → Each (copied f) top g g′ → seq g′ ≡ seq f
     unfolding Tail
-    copied-whole g′ C = fun-ext (λ i. elim (decLt i (r + 1)) [
+    copied-whole g′ C = fun-ext (λ i. elim (decLt i top) [
       | yes h ↦ C .done i h
-      | no h ↦ C .rest i (omega arith) ∙ G .state .g-tail i (omega (arith, G .state .before)) ∙ sym (G .state .f-tail i (omega (arith, G .within)))
+      | no h ↦ C .rest i (omega arith) ∙ G .state .g-tail i (omega arith) ∙ sym (G .state .f-tail i (omega arith))
     ])
 
-    pub register-grown : (g′ : List ℕ) → Each (copied f) (r + 1) g g′ → l + l ≤ r → Register poly s (r + 1) f′ g′ (r + 1 - l) (r + 1) d
+    pub register-grown : (g′ : List ℕ) → Each (copied f) top g g′ → l + l ≤ r → Register poly s (r + 1) f′ g′ (r + 1 - l) (r + 1) d
     register-grown g′ C u = record {
       state =
           let x : suc r - l ≡ r + 1 - l = omega arith in

@@ -1,46 +1,25 @@
 -- The syndromes of a block, byte by byte. Assumes nothing.
-use mathlib.Core.Path.{_≡_, sym, ap, ap₂, _∙_}
-use mathlib.Core.List.{List}
+use mathlib.Core.Path.{_≡_, refl, sym, ap, _∙_}
+use mathlib.Core.List.{List, [], _∷_, _++_}
 use mathlib.Core.Logic.{inl, inr}
 use Prim.Native.Nat.{ℕ, suc, _+_, _*_, _≤_, _<_}
 use native.Mathlib.Omega.{arith}
-use native.Mathlib.Numerals.{add-one}
 use native.Mathlib.Decide.{decLt}
-use lib.ListN.{length}
+use lib.ListN.{length, drop, drop-of-length-le}
+use lib.Seq.{drop-cons}
 use Rattle.field.specs.Field.{power, mul}
-use Rattle.field.proofs.Field.{Passes, mul-lt, mul-assoc, mul-power, power-period, sum-lt}
+use Rattle.field.proofs.Field.{Passes, mul-assoc, mul-power, power-period}
 use Rattle.field.proofs.Field.{mul-sum as sum-mul}
 use Rattle.field.proofs.Xor.{xor-assoc}
-use Rattle.reed_solomon.specs.Sum.{_⊕_, seq, horner}
-use Rattle.reed_solomon.specs.Inner.{Each, advanced, advancedTwo, Reduced, Syndromes}
+use Rattle.reed_solomon.specs.Sum.{_⊕_, seq}
+use Rattle.reed_solomon.specs.Block.{evalFrom}
+use Rattle.reed_solomon.specs.Inner.{Each, advanced, stepped, Reduced, Syndromes}
+use Rattle.reed_solomon.proofs.Each.{each-same}
 use Rattle.reed_solomon.proofs.Search.{Bytes}
-use Rattle.reed_solomon.proofs.Codeword.{eval-horner}
+use Rattle.reed_solomon.proofs.Horner.{horner-lt}
+use Rattle.reed_solomon.proofs.Codeword.{eval-append, eval-horner}
 
--- after i bytes
-pub record Running (poly first parity : ℕ) (block : List ℕ) (i : ℕ) (s : List ℕ) : Type 0 where
-  pub size : length s ≡ 256
-  pub bytes : Bytes s
-  pub are : (j : ℕ) → j < parity → seq s j ≡ horner poly (seq block) (power poly (first + j)) i
-
-pub running-start : (poly first parity : ℕ) (block s : List ℕ) → length s ≡ 256 → ((i : ℕ) → seq s i ≡ 0) → Running poly first parity block 0 s
-unfolding horner
-running-start poly first parity block s e z = record { size = e; bytes = λ j. omega (arith, z j); are = λ j h. z j }
-
-pub running-next : (poly : ℕ) → Passes poly → (first parity : ℕ) (block : List ℕ) (i byte : ℕ) (s s′ : List ℕ) → Running poly first parity block i s
-    → Each (advanced poly first byte) parity s s′ → byte ≡ seq block i → byte < 256 → Running poly first parity block (i + 1) s′
-unfolding horner
-running-next poly P first parity block i byte s s′ R E b h = record {
-  size = E .size ∙ R .size;
-  bytes = λ j. elim (decLt j parity) [
-    | yes l ↦ omega (arith, E .done j l, sum-lt (mul poly (seq s j) (power poly (first + j))) byte (mul-lt poly P (seq s j) (power poly (first + j))) h)
-    | no l ↦ omega (arith, E .rest j (omega arith), R .bytes j)
-  ];
-  are = λ j l.
-      E .done j l ∙ ap₂ (λ (x y : ℕ). mul poly x (power poly (first + j)) ⊕ y) (R .are j l) b
-      ∙ ap (horner poly (seq block) (power poly (first + j))) (sym (add-one i));
-}
-
--- ---- two bytes a time
+-- ---- several bytes a time: products that do not wait for each other
 
 pub reduced-power : (poly : ℕ) → Passes poly → (n r : ℕ) → Reduced n r → power poly r ≡ power poly n
 reduced-power poly P n r R = elim (R .is) [
@@ -48,48 +27,83 @@ reduced-power poly P n r R = elim (R .is) [
   | inr e ↦ sym (power-period poly P 1 r) ∙ (let q : 255 * 1 + r ≡ n = omega arith in ap (power poly) q)
 ]
 
--- two products at once
-pub two-at-once : (poly : ℕ) → Passes poly → (first j r a b x u v : ℕ) → Reduced (first + j + (first + j)) r → u ≡ mul poly x (power poly r)
-    → v ≡ mul poly a (power poly (first + j)) → u ⊕ (v ⊕ b) ≡ advancedTwo poly first a b j x
-two-at-once poly P first j r a b x u v R eu ev =
-    let y = power poly (first + j) in
-    ap₂ (λ (p q : ℕ). p ⊕ (q ⊕ b))
-    (eu ∙ ap (mul poly x) (reduced-power poly P (first + j + (first + j)) r R ∙ sym (mul-power poly P (first + j) (first + j))) ∙ sym (mul-assoc poly P x y y)) ev
-    ∙ sym (xor-assoc (mul poly (mul poly x y) y) (mul poly a y) b)
-    ∙ ap (λ (p : ℕ). p ⊕ b) (sym (sum-mul poly P (mul poly x y) a y))
+module _ (poly : ℕ) (P : Passes poly) (n : ℕ) where
+  pub two-at-once : (r a b x u v : ℕ) → Reduced (n + n) r → u ≡ mul poly x (power poly r) → v ≡ mul poly a (power poly n)
+      → u ⊕ (v ⊕ b) ≡ stepped poly n b (stepped poly n a x)
+  two-at-once r a b x u v R eu ev = simp (eu, ev, reduced-power poly P (n + n) r R, sum-mul poly P, mul-assoc poly P, mul-power poly P, xor-assoc)
 
--- so the two steps one after the other
-pub running-two : (poly : ℕ) → Passes poly → (first parity : ℕ) (block : List ℕ) (i a b : ℕ) (s s′ : List ℕ) → Running poly first parity block (i + i) s
-    → Each (advancedTwo poly first a b) parity s s′ → a ≡ seq block (i + i) → b ≡ seq block (i + i + 1) → a < 256 → b < 256
-    → Running poly first parity block (i + 1 + (i + 1)) s′
-unfolding horner
-running-two poly P first parity block i a b s s′ R E ea eb ha hb =
-    let t : i + 1 + (i + 1) ≡ suc (suc (i + i)) = omega arith in
-    let f : i + i + 1 ≡ suc (i + i) = omega arith in
-    record {
-      size = E .size ∙ R .size;
-      bytes = λ j. elim (decLt j parity) [
-        | yes l ↦ omega (
-          arith,
-          E .done j l,
-          sum-lt (mul poly (advanced poly first a j (seq s j)) (power poly (first + j))) b (mul-lt poly P (advanced poly first a j (seq s j)) (power poly (first + j))) hb,
-        )
-        | no l ↦ omega (arith, E .rest j (omega arith), R .bytes j)
-      ];
-      are = λ j l.
-          let y = power poly (first + j) in
-          E .done j l
-          ∙ ap₂ (λ (x v : ℕ). mul poly (mul poly x y ⊕ v) y ⊕ b) (R .are j l) ea
-          ∙ ap (λ (v : ℕ). mul poly (mul poly (horner poly (seq block) y (i + i)) y ⊕ seq block (i + i)) y ⊕ v) (eb ∙ ap (seq block) f)
-          ∙ ap (horner poly (seq block) y) (sym t);
-    }
+  pub four-at-once : (a b c d x t u v w : ℕ) → t ≡ mul poly x (power poly (4 * n)) → u ≡ mul poly a (power poly (3 * n)) → v ≡ mul poly b (power poly (2 * n))
+      → w ≡ mul poly c (power poly n) → ((t ⊕ u) ⊕ v) ⊕ (w ⊕ d) ≡ stepped poly n d (stepped poly n c (stepped poly n b (stepped poly n a x)))
+  four-at-once a b c d x t u v w et eu ev ew =
+      let e₄ : 4 * n ≡ n + n + n + n = omega arith in
+      let e₃ : 3 * n ≡ n + n + n = omega arith in
+      let e₂ : 2 * n ≡ n + n = omega arith in
+      simp (et, eu, ev, ew, e₄, e₃, e₂, sum-mul poly P, mul-assoc poly P, mul-power poly P, xor-assoc)
 
-pub running-end : (poly first parity : ℕ) (block : List ℕ) (i : ℕ) (s : List ℕ) → Running poly first parity block i s → i ≤ length block → length block ≤ i
-    → Syndromes poly first parity block s
-running-end poly first parity block i s R h k =
-    let e : i ≡ length block = omega arith in
-    record {
-      size = R .size;
-      bytes = R .bytes;
-      are = λ j l. R .are j l ∙ ap (horner poly (seq block) (power poly (first + j))) e ∙ sym (eval-horner poly (power poly (first + j)) block);
-    }
+-- ---- the bytes of a block from the place `at` on: those before i are behind s₀ already, and those left make of s what all make of s₀
+
+pub record Running (poly first parity : ℕ) (block : List ℕ) (at : ℕ) (s₀ : List ℕ) (i : ℕ) (s : List ℕ) : Type 0 where
+  pub size : length s ≡ length s₀
+  pub are : (j : ℕ) → j < parity → advanced poly first (drop i block) j (seq s j) ≡ advanced poly first (drop at block) j (seq s₀ j)
+  pub rest : (j : ℕ) → parity ≤ j → seq s j ≡ seq s₀ j
+
+module _ (poly first parity : ℕ) (block : List ℕ) (at : ℕ) (s₀ : List ℕ) where
+  pub running-start : Running poly first parity block at s₀ at s₀
+  running-start = record { size = refl; are = λ j h. refl; rest = λ j h. refl }
+
+  pub running-next : (bytes : List ℕ) (i k : ℕ) (s s′ : List ℕ) → Running poly first parity block at s₀ i s → Each (advanced poly first bytes) parity s s′
+      → drop i block ≡ bytes ++ drop k block → Running poly first parity block at s₀ k s′
+  running-next bytes i k s s′ R E e = record {
+    size = E .size ∙ R .size;
+    are = λ j h.
+        let x = power poly (first + j) in
+        ap (λ (v : ℕ). evalFrom poly x v (drop k block)) (E .done j h) ∙ sym (eval-append poly x (seq s j) bytes (drop k block))
+        ∙ ap (evalFrom poly x (seq s j)) (sym e) ∙ R .are j h;
+    rest = λ j h. E .rest j h ∙ R .rest j h;
+  }
+
+  -- the rest at once, and nothing left
+  pub running-rest : (i : ℕ) (s s′ : List ℕ) → Running poly first parity block at s₀ i s → Each (advanced poly first (drop i block)) parity s s′
+      → Each (advanced poly first (drop at block)) parity s₀ s′
+  running-rest i s s′ R E = record { size = E .size ∙ R .size; done = λ j h. E .done j h ∙ R .are j h; rest = λ j h. E .rest j h ∙ R .rest j h }
+
+  pub running-end : (i : ℕ) (s : List ℕ) → Running poly first parity block at s₀ i s → length block ≤ i → Each (advanced poly first (drop at block)) parity s₀ s
+  unfolding evalFrom
+  running-end i s R h =
+      running-rest i s s R
+      (each-same (advanced poly first (drop i block)) parity s
+      (λ j l. ap (evalFrom poly (power poly (first + j)) (seq s j)) (sym (drop-of-length-le block h))))
+
+-- from zeros on, the whole block gives its syndromes
+pub all-advanced : (poly : ℕ) → Passes poly → (first parity : ℕ) (block s₀ s : List ℕ) → length s₀ ≡ 256 → ((i : ℕ) → seq s₀ i ≡ 0) → Bytes block
+    → Each (advanced poly first block) parity s₀ s → Syndromes poly first parity block s
+all-advanced poly P first parity block s₀ s e z b E = record { size = E .size ∙ e; bytes = byte; are = value }
+  where
+    value : (j : ℕ) → j < parity → seq s j ≡ advanced poly first block j 0
+    value j h = E .done j h ∙ ap (advanced poly first block j) (z j)
+
+    byte : Bytes s
+    byte j = elim (decLt j parity) [
+      | yes h ↦
+          let x = power poly (first + j) in
+          omega (arith, value j h, eval-horner poly x block, horner-lt poly P (seq block) x (length block) b)
+      | no h ↦ omega (arith, E .rest j (omega arith), z j)
+    ]
+
+-- ---- the next bytes of a block
+
+module _ (block : List ℕ) where
+  cut : (i k : ℕ) → i < length block → suc i ≡ k → drop i block ≡ seq block i ∷ drop k block
+  cut i k h e = drop-cons block i 0 h ∙ ap (λ (n : ℕ). seq block i ∷ drop n block) e
+
+  pub cut-one : (i : ℕ) → i < length block → drop i block ≡ (seq block i ∷ []) ++ drop (i + 1) block
+  cut-one i h = cut i (i + 1) h (omega arith)
+
+  pub cut-two : (i k : ℕ) → k ≤ length block → i + 2 ≡ k → drop i block ≡ (seq block i ∷ seq block (i + 1) ∷ []) ++ drop k block
+  cut-two i k h e = cut i (i + 1) (omega arith) (omega arith) ∙ ap (λ (l : List ℕ). seq block i ∷ l) (cut (i + 1) k (omega arith) (omega arith))
+
+  pub cut-four : (i k : ℕ) → k ≤ length block → i + 4 ≡ k
+      → drop i block ≡ (seq block i ∷ seq block (i + 1) ∷ seq block (i + 2) ∷ seq block (i + 3) ∷ []) ++ drop k block
+  cut-four i k h e =
+      cut-two i (i + 2) (omega arith) refl ∙ ap (λ (l : List ℕ). seq block i ∷ seq block (i + 1) ∷ l)
+      (cut (i + 2) (i + 3) (omega arith) (omega arith) ∙ ap (λ (l : List ℕ). seq block (i + 2) ∷ l) (cut (i + 3) k (omega arith) (omega arith)))

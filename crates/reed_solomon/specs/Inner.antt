@@ -1,15 +1,15 @@
 -- What inner functions say of each other. Nobody has to believe it: the contracts of the operations do not cite it.
 use mathlib.Core.Path.{_≡_}
 use mathlib.Core.Logic.{_⊎_}
-use mathlib.Core.Bool.{Bool}
+use mathlib.Core.Bool.{Bool, cond}
 use mathlib.Core.List.{List}
-use Prim.Native.Nat.{ℕ, suc, _+_, _-_, _*_, _%_, _≤_, _<_}
+use Prim.Native.Nat.{ℕ, zero, suc, _+_, _-_, _*_, _%_, _≤_, _<_}
 use lib.Dec.{eqb}
 use lib.ListN.{length}
 use Rattle.field.specs.Field.{power, mul, below}
 use Rattle.reed_solomon.specs.Sum.{_⊕_, seq, sum, horner, degree}
 use Rattle.reed_solomon.specs.Register.{Makes, moved, State}
-use Rattle.reed_solomon.specs.Block.{eval}
+use Rattle.reed_solomon.specs.Block.{evalFrom, eval}
 
 -- the first n of s, each replaced by F of its place and itself; the rest as it was
 pub record Each (F : ℕ → ℕ → ℕ) (n : ℕ) (s s′ : List ℕ) : Type 0 where
@@ -19,13 +19,9 @@ pub record Each (F : ℕ → ℕ → ℕ) (n : ℕ) (s s′ : List ℕ) : Type 0
 
 -- ---- syndromes
 
--- a syndrome times its root, and the next byte added
-abbrev pub advanced : ℕ → ℕ → ℕ → ℕ → ℕ → ℕ
-advanced poly first byte j x = mul poly x (power poly (first + j)) ⊕ byte
-
--- the same for two bytes
-abbrev pub advancedTwo : ℕ → ℕ → ℕ → ℕ → ℕ → ℕ → ℕ
-advancedTwo poly first a b j x = advanced poly first b j (advanced poly first a j x)
+-- a syndrome with more bytes of the block behind those so far
+abbrev pub advanced : ℕ → ℕ → List ℕ → ℕ → ℕ → ℕ
+advanced poly first bytes j x = evalFrom poly (power poly (first + j)) x bytes
 
 -- r is n, or less by 255
 pub record Reduced (n r : ℕ) : Type 0 where
@@ -101,6 +97,11 @@ locatorAt poly f l d = horner poly (seq f) (power poly d) (suc l)
 pub record Located (poly : ℕ) (f : List ℕ) (l n : ℕ) (e : List ℕ) : Type 0 where
   pub size : length e ≡ 256
   pub are : (d : ℕ) → d < n → seq e d ≡ locatorAt poly f l d
+
+-- how many of the first n are zero
+unfoldable pub zerosOf : ℕ → List ℕ → ℕ
+zerosOf zero e = 0
+zerosOf (suc n) e = zerosOf n e + cond (eqb (seq e n) 0) 1 0
 
 -- ---- the errors
 

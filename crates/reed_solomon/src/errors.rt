@@ -6,16 +6,9 @@ ghost use lib.ListN.{length, set};
 ghost use Rattle.field.specs.Field.{mul};
 ghost use Rattle.field.specs.Table.{Field, polyOf};
 ghost use Rattle.reed_solomon.specs.Sum.{_⊕_, seq};
-ghost use Rattle.reed_solomon.specs.Inner.{Each, Reduced, shifted, carried, Sums, Located, stepped, SteppedTwo, numerator, denominator, Magnitude, ErrorAt, Errors, without, withoutAll, repaired};
+ghost use Rattle.reed_solomon.specs.Inner.{Each, Reduced, shifted, carried, Sums, Located, zerosOf, stepped, SteppedTwo, numerator, denominator, Magnitude, ErrorAt, Errors, without, withoutAll, repaired};
+use crate::syndromes::Four;
 use crate::syndromes::reduced;
-
-// The values of a locator at four places, one after the other.
-pub struct Four {
-    pub a: u8,
-    pub b: u8,
-    pub c: u8,
-    pub d: u8,
-}
 
 // Up to four times an exponent of a locator of length l, reduced to what the table has. Of a short locator none is above 254: the compiler
 // then makes a loop over its terms without this test.
@@ -92,6 +85,22 @@ pub fn roots(field: &[u16; 1280], f: &[u8; 256], l: usize, e: &mut [u8], n: usiz
         put(e, d, v);
         d += 4;
     }
+}
+
+// How many of the first n are zero.
+pub fn zeros(e: &[u8], n: usize) -> usize
+    requires { ⌜ n ≤ length (now e) ⌝ }
+    ensures { λ r. ⌜ r ≡ zerosOf n (now (e .entry)) ⌝ }
+{
+    let mut count = 0;
+    let mut d = 0;
+    while d < n {
+        if e[d] == 0 {
+            count += 1;
+        }
+        d += 1;
+    }
+    count
 }
 
 pub struct Fraction {

@@ -47,16 +47,21 @@ fn copy(dst: &mut [u8], src: &[u8], n: usize)
     }
 }
 
-// The same, and the first n of g become what those of f were.
-fn grow(field: &[u16; 1280], f: &mut [u8], g: &mut [u8], q: u8, m: usize, top: usize, n: usize)
+// The same, and the first places of g, up to the one before top, become what those of f were. From the top down, what is still to be moved up
+// is not yet overwritten.
+fn grow(field: &[u16; 1280], f: &mut [u8], g: &mut [u8], q: u8, m: usize, top: usize)
     requires { ⌜ Field (now field) ⌝ }
-    requires { ⌜ (length (now f) ≡ 256) × (length (now g) ≡ 256) × (top ≤ 256) × (m ≤ top) × (n ≤ 256) ⌝ }
-    ensures { λ _. ⌜ Each (added (polyOf (now (field .entry))) q m (now (g .entry))) top (now (f .entry)) (now (f .exit)) × Each (copied (now (f .entry))) n (now (g .entry)) (now (g .exit)) ⌝ }
+    requires { ⌜ (length (now f) ≡ 256) × (length (now g) ≡ 256) × (top ≤ 256) × (m ≤ top) ⌝ }
+    ensures { λ _. ⌜ Each (added (polyOf (now (field .entry))) q m (now (g .entry))) top (now (f .entry)) (now (f .exit)) × Each (copied (now (f .entry))) top (now (g .entry)) (now (g .exit)) ⌝ }
 {
-    let mut old = [0u8; 256];
-    copy(&mut old, f, n);
-    add_moved(field, f, g, q, m, top);
-    copy(g, &old, n);
+    let mut i = top;
+    while m < i {
+        i -= 1;
+        let old = f[i];
+        f[i] = old ^ field::mul(field, q, g[i - m]);
+        g[i] = old;
+    }
+    copy(g, f, m);
 }
 
 // The length of the register, when the one before it was left, and by how much that one missed.
@@ -85,7 +90,7 @@ fn extend(field: &[u16; 1280], s: &[u8], r: usize, f: &mut [u8], g: &mut [u8], a
         add_moved(field, f, g, q, m, l + 1);
         return at;
     }
-    grow(field, f, g, q, m, r + 2 - l, r + 1);
+    grow(field, f, g, q, m, r + 2 - l);
     Search {
         l: r + 1 - l,
         rg: r + 1,

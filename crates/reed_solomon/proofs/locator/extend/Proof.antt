@@ -26,7 +26,7 @@ grow-requires : tie.Need-grow-requires
 grow-requires c κs =
     let start = c .before .before .before .before .before .before .before .before .before .before .before in (
       start .pre .0,
-      (start .pre .1 .1 .1 .size-f, start .pre .1 .1 .1 .size-g, omega arith, omega arith, omega arith),
+      (start .pre .1 .1 .1 .size-f, start .pre .1 .1 .1 .size-g, omega arith, omega arith),
     )
 
 returns-3 : tie.Need-returns-3
@@ -45,5 +45,5 @@ pub extend-spec : {M : Type 1} → statement M
 extend-spec =
     tie.close (tie.spec (λ c κs. search needs) (λ c. search needs) returns (λ c κs. search needs) (λ c. search needs)
     (λ c. search needs) (λ c. search needs) (λ c. search needs) (λ c κs. search needs) (λ c. search needs) (λ c. search needs) returns-2
-    (λ c. search needs) (λ c. search needs) (λ c. search needs) grow-requires (λ c. search needs) (λ c. search needs)
+    (λ c. search needs) (λ c. search needs) grow-requires (λ c. search needs) (λ c. search needs)
     (λ c. search needs) (λ c. search needs) (λ c. search needs) returns-3)

@@ -1,8 +1,10 @@
 -- `syndromes::advance` meets its contract: one syndrome after the other is advanced. Assumes nothing.
 use mathlib.Core.Path.{ap}
+use mathlib.Core.List.{[], _∷_}
 use Prim.Native.Nat.{ℕ, _≤_, _-_}
 use lib.Bits.{bitXor}
 use Rattle.field.specs.Table.{polyOf}
+use Rattle.reed_solomon.specs.Block.{evalFrom}
 use Rattle.reed_solomon.specs.Inner.{Each, advanced}
 use Rattle.reed_solomon.proofs.Each.{each-start, each-next, each-end}
 use native.Mathlib.Omega.{arith}
@@ -11,7 +13,7 @@ use Rattle.reed_solomon.proofs.syndromes.advance.Statement.{statement}
 use Rattle.reed_solomon.proofs.syndromes.advance.Tie as tie
 
 abbrev Inv-loop : tie.InvT-loop
-Inv-loop field first s₀ parity byte j₀ s j = Each (advanced (polyOf field) first byte) j s₀ s × (j ≤ parity)
+Inv-loop field first s₀ parity byte j₀ s j = Each (advanced (polyOf field) first (byte ∷ [])) j s₀ s × (j ≤ parity)
 
 abbrev μ-loop : tie.MeasureT-loop
 μ-loop field first s₀ parity byte j₀ s j = parity - j
@@ -20,6 +22,7 @@ loop-holds : tie.Need-loop-holds Inv-loop μ-loop
 loop-holds c = (each-start _ _, omega arith)
 
 loop-again : tie.Need-loop-again Inv-loop μ-loop
+unfolding evalFrom
 loop-again c =
     let start = c .before .before .before .before .before in
     (each-next _ _ _ _ _ (c .before .before .before .loop .inv .0) (omega arith) (ap (λ (x : ℕ). bitXor x (start .args .byte)) (c .raised .ensures)), omega arith)

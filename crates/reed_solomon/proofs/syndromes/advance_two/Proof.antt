@@ -1,8 +1,10 @@
 -- `syndromes::advance_two` meets its contract: one syndrome after the other is advanced. Assumes nothing.
+use mathlib.Core.List.{[], _∷_}
 use Prim.Native.Nat.{_≤_, _-_}
 use Rattle.field.specs.Table.{polyOf}
 use Rattle.field.proofs.Entries.{the-field}
-use Rattle.reed_solomon.specs.Inner.{Each, advancedTwo}
+use Rattle.reed_solomon.specs.Block.{evalFrom}
+use Rattle.reed_solomon.specs.Inner.{Each, advanced}
 use Rattle.reed_solomon.proofs.Each.{each-start, each-next, each-end}
 use Rattle.reed_solomon.proofs.Values.{two-at-once}
 use borrow.Author.Needs.{needs}
@@ -11,7 +13,7 @@ use Rattle.reed_solomon.proofs.syndromes.advance_two.Statement.{stateme
 use Rattle.reed_solomon.proofs.syndromes.advance_two.Tie as tie
 
 abbrev Inv-loop : tie.InvT-loop
-Inv-loop field first s₀ parity a b j₀ s j = Each (advancedTwo (polyOf field) first a b) j s₀ s × (j ≤ parity)
+Inv-loop field first s₀ parity a b j₀ s j = Each (advanced (polyOf field) first (a ∷ b ∷ [])) j s₀ s × (j ≤ parity)
 
 abbrev μ-loop : tie.MeasureT-loop
 μ-loop field first s₀ parity a b j₀ s j = parity - j
@@ -20,20 +22,20 @@ loop-holds : tie.Need-loop-holds Inv-loop μ-loop
 loop-holds c = (each-start _ _, omega arith)
 
 loop-again : tie.Need-loop-again Inv-loop μ-loop
+unfolding evalFrom
 loop-again c =
-    let start = c .before .before .before .before .before .before .before .before in
+    let start = c .before .before .before .before .before .before .before in
     let loop = c .before .before .before .before .before .loop in (
       each-next _ _ _ _ _ (loop .inv .0) (omega arith)
-          (two-at-once _ (the-field _ (start .pre .0)) _ _ _ _ _ _ _ _ (c .before .before .reduced .ensures .1) (c .before .raised .ensures) (c .raised2 .ensures)),
+          (two-at-once _ (the-field _ (start .pre .0)) _ _ _ _ _ _ _ (c .before .before .reduced .ensures .1) (c .before .raised .ensures) (c .raised2 .ensures)),
       omega arith,
     )
 
-returns-2 : tie.Need-returns-2 Inv-loop μ-loop
-returns-2 c = each-end _ _ _ _ _ (c .before .loop .inv .0) (omega arith) (omega arith)
+returns : tie.Need-returns Inv-loop μ-loop
+returns c = each-end _ _ _ _ _ (c .before .loop .inv .0) (omega arith) (omega arith)
 
 pub advance-two-spec : {M : Type 1} → statement M
 advance-two-spec =
-    tie.close (tie.spec Inv-loop μ-loop (λ c. search needs) (λ c κs. search needs) (λ c. c .before .before .advance-low .ensures .size)
-    (λ c. c .before .before .advance-low .ensures) loop-holds (λ c. search needs) (λ c. omega (arith, c .before .before .loop .inv .0 .size))
+    tie.close (tie.spec Inv-loop μ-loop loop-holds (λ c. search needs) (λ c. omega (arith, c .before .before .loop .inv .0 .size))
     (λ c. search needs) (λ c κs. search needs) (λ c κs. search needs) (λ c κs. search needs) (λ c. omega arith) (λ c. search needs)
-    (λ c. search needs) loop-again (λ c. c .before .loop .inv .0 .size) returns-2)
+    (λ c. search needs) loop-again (λ c. c .before .loop .inv .0 .size) returns)

@@ -1,0 +1,42 @@
+-- `syndromes::advance_four` meets its contract: one syndrome after the other is advanced. Assumes nothing.
+use mathlib.Core.List.{[], _∷_}
+use Prim.Native.Nat.{_≤_, _-_}
+use Rattle.field.specs.Table.{polyOf}
+use Rattle.field.proofs.Entries.{the-field}
+use Rattle.reed_solomon.specs.Block.{evalFrom}
+use Rattle.reed_solomon.specs.Inner.{Each, advanced}
+use Rattle.reed_solomon.proofs.Each.{each-start, each-next, each-end}
+use Rattle.reed_solomon.proofs.Values.{four-at-once}
+use borrow.Author.Needs.{needs}
+use native.Mathlib.Omega.{arith}
+use Rattle.reed_solomon.proofs.syndromes.advance_four.Statement.{statement}
+use Rattle.reed_solomon.proofs.syndromes.advance_four.Tie as tie
+
+abbrev Inv-loop : tie.InvT-loop
+Inv-loop field first s₀ parity next j₀ s j = Each (advanced (polyOf field) first (next .a ∷ next .b ∷ next .c ∷ next .d ∷ [])) j s₀ s × (j ≤ parity)
+
+abbrev μ-loop : tie.MeasureT-loop
+μ-loop field first s₀ parity next j₀ s j = parity - j
+
+loop-holds : tie.Need-loop-holds Inv-loop μ-loop
+loop-holds c = (each-start _ _, omega arith)
+
+loop-again : tie.Need-loop-again Inv-loop μ-loop
+unfolding evalFrom
+loop-again c =
+    let start = c .before .before .before .before .before .before .before .before .before in
+    let loop = c .before .before .before .before .before .before .before .loop in (
+      each-next _ _ _ _ _ (loop .inv .0) (omega arith)
+          (four-at-once _ (the-field _ (start .pre .0)) _ _ _ _ _ _ _ _ _ _ (c .before .before .before .before .raised .ensures)
+          (c .before .before .before .raised2 .ensures) (c .raised4 .ensures) (c .before .before .raised3 .ensures)),
+      omega arith,
+    )
+
+returns : tie.Need-returns Inv-loop μ-loop
+returns c = each-end _ _ _ _ _ (c .before .loop .inv .0) (omega arith) (omega arith)
+
+pub advance-four-spec : {M : Type 1} → statement M
+advance-four-spec =
+    tie.close (tie.spec Inv-loop μ-loop loop-holds (λ c. search needs) (λ c. omega (arith, c .before .before .loop .inv .0 .size))
+    (λ c. search needs) (λ c κs. search needs) (λ c. search needs) (λ c κs. search needs) (λ c κs. search needs) (λ c. search needs)
+    (λ c κs. search needs) (λ c. omega arith) (λ c. search needs) (λ c. search needs) loop-again (λ c. c .before .loop .inv .0 .size) returns)
