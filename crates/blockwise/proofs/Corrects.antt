@@ -12,7 +12,7 @@ use lib.ListN.{length, take, drop, length-take, length-drop, take-append-drop}
 use lib.Seq.{drop-drop, length-take-le}
 use Rattle.reed_solomon.specs.Block.{nearest, unfit}
 use Rattle.reed_solomon.proofs.Nearest.{some-near}
-use Rattle.corrector.specs.Correct.{BlockOutcome, refusedBlock, settled, orOutcome, correctOf, outcome}
+use Rattle.corrector.specs.Correct.{BlockOutcome, refusedBlock, settled, correctOf, outcome}
 use Rattle.corrector.specs.declared.Correction.{Correction}
 use Rattle.corrector.specs.declared.Correction.the-variants as Correction
 use Rattle.parity.proofs.Followed.{distance-le}
@@ -34,7 +34,7 @@ unfolding correctOf settled refusedBlock
 block-facts p w = go (unfit p w) (nearest 0x163 1 p w) refl
   where
     go : (t : Bool) (v : Option (List ℕ)) → nearest 0x163 1 p w ≡ v
-        → let o = orOutcome t (refusedBlock 5 w) (settled w v) in (length (o .block) ≡ length w) × (o .count ≤ length w) × (o .number ≢ 0 → o .block ≡ w)
+        → let o = cond t (refusedBlock 5 w) (settled w v) in (length (o .block) ≡ length w) × (o .count ≤ length w) × (o .number ≢ 0 → o .block ≡ w)
     go true v e = (refl, zero-le, λ d. refl)
     go false none e = (refl, zero-le, λ d. refl)
     go false (some v) e = (some-near 0x163 1 p w v e .size, distance-le w v, λ d. absurd (d refl))

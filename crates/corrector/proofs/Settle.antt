@@ -1,10 +1,10 @@
 -- A block is repaired exactly where it has a codeword in reach. Assumes nothing.
 use mathlib.Core.Path.{_≡_, refl, sym, ap, ap₂, _∙_}
 use mathlib.Core.Logic.{_≢_}
-use mathlib.Core.Bool.{Bool, true, false}
+use mathlib.Core.Bool.{Bool, true, false, cond}
 use mathlib.Core.Option.{none, some}
 use mathlib.Core.List.{List, [], _∷_}
-use Prim.Native.Nat.{ℕ, _+_, _≤_, _<_}
+use Prim.Native.Nat.{ℕ, suc, _+_, _≤_, _<_}
 use native.Mathlib.Omega.{arith}
 use native.Mathlib.Decide.{ℕ-discrete, decLt}
 use borrow.Author.Tests.{eq-eqb}
@@ -17,12 +17,12 @@ use Rattle.field.proofs.Field.{Passes, passes, sum-lt}
 use Rattle.field.proofs.Instances.{passes-163}
 use Rattle.reed_solomon.specs.Sum.{_⊕_, seq, degree, syndrome}
 use Rattle.reed_solomon.proofs.Peel.{syndrome-add, syndrome-ext}
-use Rattle.reed_solomon.specs.Block.{eval, orOneMore, distance, nearest, unfit}
+use Rattle.reed_solomon.specs.Block.{eval, distance, nearest, unfit}
 use Rattle.remainder.specs.declared.Register.{Register}
 use Rattle.remainder.specs.Words.{tabled, Remains, Leaves}
 use Rattle.remainder.specs.Words as Words
 use Rattle.remainder.proofs.Lowered.{none-remains}
-use Rattle.corrector.specs.Correct.{refusedBlock, settled, orOutcome, correctOf}
+use Rattle.corrector.specs.Correct.{refusedBlock, settled, correctOf}
 use Rattle.reed_solomon.specs.Inner.{Each, Syndromes, isClean, Shortest, locatorAt, Located, Errors, withoutAll, repaired}
 use Rattle.reed_solomon.proofs.Search.{Bytes}
 use Rattle.reed_solomon.proofs.Codeword.{zero-codeword, eval-syndrome, difference}
@@ -35,15 +35,15 @@ use Rattle.reed_solomon.proofs.Decode.{few, of-errors, root-at, count-is, error
 module _ (poly first parity : ℕ) (w : List ℕ) where
   pub unfit-refused : unfit parity w ≡ true → refusedBlock 5 w ≡ correctOf poly first parity w
   unfolding correctOf
-  unfit-refused e = ap (λ (b : Bool). orOutcome b (refusedBlock 5 w) (settled w (nearest poly first parity w))) (sym e)
+  unfit-refused e = ap (λ (b : Bool). cond b (refusedBlock 5 w) (settled w (nearest poly first parity w))) (sym e)
 
   pub fit-settled : unfit parity w ≡ false → settled w (nearest poly first parity w) ≡ correctOf poly first parity w
   unfolding correctOf
-  fit-settled e = ap (λ (b : Bool). orOutcome b (refusedBlock 5 w) (settled w (nearest poly first parity w))) (sym e)
+  fit-settled e = ap (λ (b : Bool). cond b (refusedBlock 5 w) (settled w (nearest poly first parity w))) (sym e)
 
 -- ---- a block with no error
 
-flag-same : (x n : ℕ) → orOneMore (eqb x x) n ≡ n
+flag-same : (x n : ℕ) → cond (eqb x x) n (suc n) ≡ n
 flag-same x n = simp (eq-eqb x x refl)
 
 pub distance-self : (w : List ℕ) → distance w w ≡ 0

@@ -1,5 +1,5 @@
 -- SPECIFICATION 3.7 and 10.5: Correct a block. What it answers, and what is then in the block.
-use mathlib.Core.Bool.{Bool, true, false}
+use mathlib.Core.Bool.{cond}
 use mathlib.Core.Option.{Option, none, some}
 use mathlib.Core.List.{List}
 use Prim.Native.Nat.{ℕ}
@@ -22,13 +22,9 @@ unfoldable pub settled : List ℕ → Option (List ℕ) → BlockOutcome
 settled block none = refusedBlock 6 block
 settled block (some w) = record { number = 0; count = distance block w; block = w }
 
-abbrev pub orOutcome : Bool → BlockOutcome → BlockOutcome → BlockOutcome
-orOutcome true a b = a
-orOutcome false a b = b
-
 -- 5: a parity or a length that no block has
 unfoldable pub correctOf : ℕ → ℕ → ℕ → List ℕ → BlockOutcome
-correctOf poly first parity block = orOutcome (unfit parity block) (refusedBlock 5 block) (settled block (nearest poly first parity block))
+correctOf poly first parity block = cond (unfit parity block) (refusedBlock 5 block) (settled block (nearest poly first parity block))
 
 -- the refusal number (SPECIFICATION 2.7) and the count for each case of the answer, with the block
 unfoldable pub outcome : Correction → List ℕ → BlockOutcome

@@ -1,7 +1,7 @@
 -- Data followed by bytes that make them a codeword: no other bytes do, the rest of the division does, and so it is the parity. Assumes
 -- nothing.
 use mathlib.Core.Path.{_≡_, refl, sym, ap, ap₂, _∙_, subst, fun-ext}
-use mathlib.Core.Bool.{Bool, true, false}
+use mathlib.Core.Bool.{Bool, true, false, cond}
 use mathlib.Core.Option.{some}
 use mathlib.Core.List.{List, [], _∷_, _++_}
 use Prim.Native.Nat.{ℕ, zero, suc, _+_, _-_, _≤_, _<_}
@@ -17,7 +17,7 @@ use Rattle.field.proofs.Field.{Passes}
 use Rattle.field.proofs.Entries.{each-length, each-at}
 use Rattle.reed_solomon.specs.Sum.{seq, horner}
 use Rattle.reed_solomon.specs.Register.{stepped}
-use Rattle.reed_solomon.specs.Block.{orOneMore, distance, isCodeword, parityOf}
+use Rattle.reed_solomon.specs.Block.{distance, isCodeword, parityOf}
 use Rattle.reed_solomon.specs.Inner.{Each}
 use Rattle.reed_solomon.proofs.Search.{Bytes, Passing, passing-some}
 use Rattle.reed_solomon.proofs.Codeword.{eval-horner, zero-codeword, near-equal}
@@ -33,10 +33,10 @@ unfolding distance
 distance-behind [] p q = refl
 distance-behind (x ∷ ds) p q = same x (distance (ds ++ p) (ds ++ q)) ∙ distance-behind ds p q
   where
-    same : (x n : ℕ) → orOneMore (eqb x x) n ≡ n
+    same : (x n : ℕ) → cond (eqb x x) n (suc n) ≡ n
     same x n = simp (eq-eqb x x refl)
 
-one-more-le : (t : Bool) (a b : ℕ) → a ≤ b → orOneMore t a ≤ suc b
+one-more-le : (t : Bool) (a b : ℕ) → a ≤ b → cond t a (suc a) ≤ suc b
 one-more-le true a b h = omega arith
 one-more-le false a b h = omega arith
 

@@ -1,7 +1,7 @@
 -- The number of places in which two blocks differ, and which places these are. Assumes nothing.
 use mathlib.Core.Path.{_≡_, refl, sym, ap, _∙_, subst}
 use mathlib.Core.Logic.{_≢_}
-use mathlib.Core.Bool.{Bool, true, false}
+use mathlib.Core.Bool.{Bool, true, false, cond}
 use mathlib.Core.List.{List, [], _∷_}
 use Prim.Native.Nat.{ℕ, zero, suc, _+_, _-_, _≤_, _<_, zero-le}
 use native.Mathlib.Omega.{arith}
@@ -16,7 +16,7 @@ use Rattle.reed_solomon.specs.Sum.{seq, horner, degree, locator}
 use Rattle.reed_solomon.proofs.Sum.{Null}
 use Rattle.reed_solomon.proofs.Peel.{Out}
 use Rattle.reed_solomon.proofs.Horner.{Roots}
-use Rattle.reed_solomon.specs.Block.{orOneMore, distance}
+use Rattle.reed_solomon.specs.Block.{distance}
 use Rattle.reed_solomon.specs.Inner.{zerosOf}
 
 abbrev orAlso : Bool → ℕ → List ℕ → List ℕ
@@ -29,7 +29,7 @@ places i [] ys = []
 places i (x ∷ xs) [] = []
 places i (x ∷ xs) (y ∷ ys) = orAlso (eqb x y) i (places (suc i) xs ys)
 
-also-length : (t : Bool) (i : ℕ) (l : List ℕ) → length (orAlso t i l) ≡ orOneMore t (length l)
+also-length : (t : Bool) (i : ℕ) (l : List ℕ) → length (orAlso t i l) ≡ cond t (length l) (suc (length l))
 also-length true i l = refl
 also-length false i l = refl
 
@@ -37,7 +37,7 @@ pub places-length : (i : ℕ) (xs ys : List ℕ) → length (places i xs ys) ≡
 unfolding places distance
 places-length i [] ys = refl
 places-length i (x ∷ xs) [] = refl
-places-length i (x ∷ xs) (y ∷ ys) = also-length (eqb x y) i (places (suc i) xs ys) ∙ ap (orOneMore (eqb x y)) (places-length (suc i) xs ys)
+places-length i (x ∷ xs) (y ∷ ys) = also-length (eqb x y) i (places (suc i) xs ys) ∙ ap (λ (n : ℕ). cond (eqb x y) n (suc n)) (places-length (suc i) xs ys)
 
 -- outside of them the two agree
 also-out : (t : Bool) (i m : ℕ) (l : List ℕ) → Out m (orAlso t i l) → Out m l
@@ -70,7 +70,7 @@ places-above i m [] ys h = tt
 places-above i m (x ∷ xs) [] h = tt
 places-above i m (x ∷ xs) (y ∷ ys) h = also-above (eqb x y) i m (places (suc i) xs ys) h (places-above (suc i) m xs ys (omega arith))
 
-tick-triangle : (p q r : Bool) (a b c : ℕ) → (T p → T q → T r) → a ≤ b + c → orOneMore r a ≤ orOneMore p b + orOneMore q c
+tick-triangle : (p q r : Bool) (a b c : ℕ) → (T p → T q → T r) → a ≤ b + c → cond r a (suc a) ≤ cond p b (suc b) + cond q c (suc c)
 tick-triangle true true true a b c f h = h
 tick-triangle true true false a b c f h = absurd (f tt tt)
 tick-triangle true false true a b c f h = omega arith

@@ -1,7 +1,7 @@
 -- What a search over all words of a length finds. Assumes nothing.
 use mathlib.Core.Path.{_≡_, refl, ap, _∙_, sym, subst}
 use mathlib.Core.Logic.{_⊎_, inl, inr}
-use mathlib.Core.Bool.{Bool, true, false}
+use mathlib.Core.Bool.{Bool, true, false, cond}
 use mathlib.Core.Option.{Option, none, some}
 use mathlib.Core.List.{List, [], _∷_, _++_, map}
 use Prim.Native.Nat.{ℕ, zero, suc, _<_}
@@ -9,7 +9,7 @@ use native.Mathlib.Omega.{arith}
 use native.Mathlib.Nat.{le-of-suc-le-suc, eq-or-lt-of-le}
 use lib.Dec.{T}
 use lib.ListN.{length, getD}
-use Rattle.reed_solomon.specs.Block.{led, allWords, orElse, firstThat}
+use Rattle.reed_solomon.specs.Block.{led, allWords, firstThat}
 
 -- a list of bytes
 abbrev pub Bytes : List ℕ → Type 0
@@ -86,7 +86,7 @@ unfolding firstThat
 first-some t [] c e = absurd (let z : _≡_ {A = ℕ} 0 1 = cc in omega arith)
 first-some t (w ∷ ws) c e = go (t w) refl e (first-some t ws c)
   where
-    go : (b : Bool) → t w ≡ b → orElse b w (firstThat t ws) ≡ some c → (firstThat t ws ≡ some c → T (t c) × In c ws) → T (t c) × In c (w ∷ ws)
+    go : (b : Bool) → t w ≡ b → cond b (some w) (firstThat t ws) ≡ some c → (firstThat t ws ≡ some c → T (t c) × In c ws) → T (t c) × In c (w ∷ ws)
     go true q g f = let z : w ≡ c = cc in (subst (λ (x : List ℕ). T (t x)) z (subst T (sym q) tt), inl (sym z))
     go false q g f = let r = f g in (r .0, inr (r .1))
 
@@ -95,7 +95,7 @@ unfolding firstThat
 first-none t [] c e h p = h
 first-none t (w ∷ ws) c e h p = go (t w) refl e h (first-none t ws c)
   where
-    go : (b : Bool) → t w ≡ b → orElse b w (firstThat t ws) ≡ none → In c (w ∷ ws) → (firstThat t ws ≡ none → In c ws → T (t c) → ⊥) → ⊥
+    go : (b : Bool) → t w ≡ b → cond b (some w) (firstThat t ws) ≡ none → In c (w ∷ ws) → (firstThat t ws ≡ none → In c ws → T (t c) → ⊥) → ⊥
     go true q g i f = let z : _≡_ {A = ℕ} 0 1 = cc in omega arith
     go false q g (inl z) f = subst T (ap t z ∙ q) p
     go false q g (inr i) f = f g i p

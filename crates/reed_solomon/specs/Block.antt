@@ -1,6 +1,6 @@
 -- SPECIFICATION 3.3 to 3.5 and 3.8: a block, what a codeword is, and the codeword in reach. The polynomial of the field and the exponent
 -- of the first root are parameters throughout.
-use mathlib.Core.Bool.{Bool, true, false, _&&_, _||_}
+use mathlib.Core.Bool.{Bool, cond, _&&_, _||_}
 use mathlib.Core.Option.{Option, none, some}
 use mathlib.Core.List.{List, [], _∷_, _++_, map}
 use Prim.Native.Nat.{ℕ, zero, suc, _+_, _/_}
@@ -21,15 +21,11 @@ eval poly x block = evalFrom poly x 0 block
 unfoldable pub isCodeword : ℕ → ℕ → ℕ → List ℕ → Bool
 isCodeword poly first parity block = below parity (λ j. eqb (eval poly (power poly (first + j)) block) 0)
 
-abbrev pub orOneMore : Bool → ℕ → ℕ
-orOneMore true n = n
-orOneMore false n = suc n
-
 -- in how many places two blocks of one length differ
 unfoldable pub distance : List ℕ → List ℕ → ℕ
 distance [] ys = 0
 distance (x ∷ xs) [] = 0
-distance (x ∷ xs) (y ∷ ys) = orOneMore (eqb x y) (distance xs ys)
+distance (x ∷ xs) (y ∷ ys) = cond (eqb x y) (distance xs ys) (suc (distance xs ys))
 
 -- each byte below b in front of each of the words ws
 unfoldable pub led : ℕ → List (List ℕ) → List (List ℕ)
@@ -41,14 +37,10 @@ unfoldable pub allWords : ℕ → List (List ℕ)
 allWords zero = [] ∷ []
 allWords (suc n) = led 256 (allWords n)
 
-abbrev pub orElse : Bool → List ℕ → Option (List ℕ) → Option (List ℕ)
-orElse true w rest = some w
-orElse false w rest = rest
-
 -- the first of ws that passes a test
 unfoldable pub firstThat : (List ℕ → Bool) → List (List ℕ) → Option (List ℕ)
 firstThat test [] = none
-firstThat test (w ∷ ws) = orElse (test w) w (firstThat test ws)
+firstThat test (w ∷ ws) = cond (test w) (some w) (firstThat test ws)
 
 -- a word of n bytes
 unfoldable pub isWord : ℕ → List ℕ → Bool
