@@ -1,7 +1,7 @@
 -- A block is repaired exactly where it has a codeword in reach. Assumes nothing.
 use mathlib.Core.Path.{_≡_, refl, sym, ap, ap₂, _∙_}
 use mathlib.Core.Logic.{_≢_}
-use mathlib.Core.Bool.{Bool, true, false, cond}
+use mathlib.Core.Bool.{Bool, true, false, cond, true≢false}
 use mathlib.Core.Option.{none, some}
 use mathlib.Core.List.{List, [], _∷_}
 use Prim.Native.Nat.{ℕ, suc, _+_, _≤_, _<_}
@@ -23,8 +23,10 @@ use Rattle.remainder.specs.Words.{tabled, Remains, Leaves}
 use Rattle.remainder.specs.Words as Words
 use Rattle.remainder.proofs.Lowered.{none-remains}
 use Rattle.corrector.specs.Correct.{refusedBlock, settled, correctOf}
-use Rattle.reed_solomon.specs.Inner.{Each, Syndromes, isClean, Shortest, locatorAt, Located, Errors, withoutAll, repaired}
+use Rattle.reed_solomon.specs.Inner.{Each, Syndromes, isClean, Shortest, locatorAt, Located, zerosOf, Errors, withoutAll, repaired}
+use Rattle.reed_solomon.proofs.Sum.{add-zero-eq}
 use Rattle.reed_solomon.proofs.Search.{Bytes}
+use Rattle.reed_solomon.proofs.Distance.{differ-zeros}
 use Rattle.reed_solomon.proofs.Codeword.{zero-codeword, eval-syndrome, difference}
 use Rattle.reed_solomon.proofs.Nearest.{Near, near-none, near-some}
 use Rattle.reed_solomon.proofs.Clean.{clean-yes, clean-zero}
@@ -76,6 +78,15 @@ module _ (poly : ℕ) (P : Passes poly) (first parity : ℕ) (w : List ℕ) (sma
   pub clean-settled : true ≡ isClean parity s → record { number = 0; count = 0; block = w } ≡ settled w (nearest poly first parity w)
   clean-settled t = zero-settled poly P first parity w small bw (λ j h. sym (Y .are j h) ∙ clean-zero parity s t j h)
 
+  -- no codeword in reach
+  refused : ((c : List ℕ) → Near poly first parity w c → ⊥) → refusedBlock 6 w ≡ settled w (nearest poly first parity w)
+  unfolding settled
+  refused h = sym (ap (settled w) (near-none poly first parity w h))
+
+  below-length : (k : ℕ) → k < length w → degree (length w) k < length w
+  unfolding degree
+  below-length k h = omega arith
+
   -- ---- with the locator f of length l
 
   module _ (f : List ℕ) (l : ℕ) (F : Shortest poly s parity f l) where
@@ -84,20 +95,23 @@ module _ (poly : ℕ) (P : Passes poly) (first parity : ℕ) (w : List ℕ) (sma
 
     -- a locator that is too long
     pub long-settled : parity < l + l → refusedBlock 6 w ≡ settled w (nearest poly first parity w)
-    unfolding settled
-    long-settled h =
-        sym (ap (settled w) (near-none poly first parity w
-        (λ c N. omega (arith, count-is poly P first parity w small bw s f l Y F c N, N .near))))
+    long-settled h = refused (λ c N. omega (arith, count-is poly P first parity w small bw s f l Y F c N, N .near))
+
+    -- a locator with values e that are zero too seldom: they are zero wherever a codeword in reach differs
+    pub few-settled : (e : List ℕ) → Located poly f l (length w) e → zerosOf (length w) e < l
+        → refusedBlock 6 w ≡ settled w (nearest poly first parity w)
+    few-settled e E h =
+        refused (λ c N.
+        let zero-at : (k : ℕ) → k < length w → seq w k ≢ seq c k → seq e (degree (length w) k) ≡ 0 =
+        λ k b d. E .are (degree (length w) k) (below-length k b)
+        ∙ root-at poly P first parity w small bw s f l Y F c N k b (λ z. d (add-zero-eq (seq w k) (seq c k) z)) in
+        omega (arith, count-is poly P first parity w small bw s f l Y F c N, differ-zeros e w c zero-at))
 
     -- with its values e₁, the errors e₂ where they are zero, and the syndromes s₃ that are left
     module _ (e₁ e₂ s₃ : List ℕ) (E₁ : Located poly f l (length w) e₁) (E₂ : Errors poly first s f l (length w) e₁ e₂)
         (E₃ : Each (withoutAll poly first (length w) e₂ (length w)) parity s s₃) where
       found : ℕ → ℕ
       found i = seq e₂ (degree (length w) i)
-
-      below-length : (k : ℕ) → k < length w → degree (length w) k < length w
-      unfolding degree
-      below-length k h = omega arith
 
       off-root : (k : ℕ) → k < length w → R k ≢ 0 → found k ≡ 0
       unfolding found
@@ -140,14 +154,7 @@ module _ (poly : ℕ) (P : Passes poly) (first parity : ℕ) (w : List ℕ) (sma
             ∙ xor-self (syndrome poly first (length w) (difference w c) j)
 
       pub left-settled : false ≡ isClean parity s₃ → refusedBlock 6 w ≡ settled w (nearest poly first parity w)
-      unfolding settled
-      left-settled t =
-          sym (ap (settled w) (near-none poly first parity w
-          (λ c N. let z : true ≡ isClean parity s₃ = clean-yes parity s₃ (nothing-left c N) in
-          let y : _≡_ {A = ℕ} 0 1 = two-bools (isClean parity s₃) z t in omega arith)))
-        where
-          two-bools : (b : Bool) → true ≡ b → false ≡ b → _≡_ {A = ℕ} 0 1
-          two-bools b p q = cc
+      left-settled t = refused (λ c N. true≢false (clean-yes parity s₃ (nothing-left c N) ∙ sym t))
 
       -- and what is repaired is a codeword in reach
       module _ (near : l + l ≤ parity) (t : true ≡ isClean parity s₃) (w′ : List ℕ) (E₄ : Each (repaired (length w) e₂) (length w) w w′) where
