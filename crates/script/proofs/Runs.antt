@@ -1,5 +1,5 @@
 -- Runs of characters, word by word.
-use mathlib.Core.Path.{_≡_, refl, ap, _∙_, subst}
+use mathlib.Core.Path.{_≡_, refl, ap, _∙_, subst, sym}
 use mathlib.Core.Bool.{Bool, true, false, cond, not, _&&_}
 use mathlib.Core.List.{List, [], _∷_}
 use Prim.Native.Nat.{ℕ, zero, suc, _+_, _-_, _*_, _/_, _%_, _<_, _≤_}
@@ -14,8 +14,10 @@ use Rattle.segments.specs.Segments.{fourBytes}
 use Rattle.script.specs.declared.Glyph.{Glyph}
 use Rattle.script.specs.declared.Glyph.the-variants.{Same, Other, Lacking}
 use Rattle.script.specs.declared.Cost.the-variants.{Takes, Lacks}
-use Rattle.script.specs.Writer.{all, allPairs, isDigit, codeOf, inSubset, inText, pairCode, inRegion, inRegions, doubleCode, inDouble, textWords, textSwitches, regionWords, regionSwitches, doubleWords, fourCode, same, inFour, modeHas, modeLength}
+use Rattle.script.specs.Writer.{all, allPairs, isDigit, codeOf, inSubset, inText, pairCode, inRegion, inRegions, doubleCode, inDouble, textWords, regionWords, doubleWords, fourCode, same, inFour, modeHas}
+use Rattle.script.specs.Lengths.{textSwitches, regionSwitches, modeLength}
 use Rattle.script.specs.Glyphs.{wordsOf, hasAll, stepOf, widthOf, switchOf, endOf, textGlyph, regionGlyph, doubleGlyph, Glyphed, beginsIn, charCost, costOf}
+use Rattle.script.proofs.Tests.{both, same-is}
 use Rattle.script.proofs.Characters.{text-length, region-length, double-length}
 
 -- ---- the character at the front
@@ -212,36 +214,17 @@ four-same w (a ∷ b ∷ c ∷ []) e = absurd (omega arith)
 four-same w (a ∷ b ∷ c ∷ d ∷ []) e = refl
 four-same w (a ∷ b ∷ c ∷ d ∷ x ∷ s) e = absurd (omega arith)
 
-pub four-other : (w : ℕ) (s : List ℕ) → (length s ≡ 4 → ⊥) → same (fourBytes w) s ≡ false
-unfolding same fourBytes
-four-other w [] e = refl
-four-other w (a ∷ []) e = go (eqb (0x81 + w / 12600) a)
+-- four bytes are four
+pub four-long : (s : List ℕ) → inFour s ≡ true → length s ≡ 4
+unfolding inFour fourBytes
+four-long s h = sym (ap length (same-is (fourBytes (fourCode s)) s (both (ltb (fourCode s) 1587600) (same (fourBytes (fourCode s)) s) h .1)))
+
+pub four-other : (s : List ℕ) → (length s ≡ 4 → ⊥) → false ≡ inFour s
+four-other s n = go (inFour s) refl
   where
-    go : (x : Bool) → (x && false) ≡ false
-    go true = refl
-    go false = refl
-four-other w (a ∷ b ∷ []) e = go (eqb (0x81 + w / 12600) a) (eqb (0x30 + w % 12600 / 1260) b)
-  where
-    go : (x y : Bool) → (x && (y && false)) ≡ false
-    go true true = refl
-    go true false = refl
-    go false y = refl
-four-other w (a ∷ b ∷ c ∷ []) e = go (eqb (0x81 + w / 12600) a) (eqb (0x30 + w % 12600 / 1260) b) (eqb (0x81 + w % 1260 / 10) c)
-  where
-    go : (x y z : Bool) → (x && (y && (z && false))) ≡ false
-    go true true true = refl
-    go true true false = refl
-    go true false z = refl
-    go false y z = refl
-four-other w (a ∷ b ∷ c ∷ d ∷ []) e = absurd (e refl)
-four-other w (a ∷ b ∷ c ∷ d ∷ x ∷ s) e = go (eqb (0x81 + w / 12600) a) (eqb (0x30 + w % 12600 / 1260) b) (eqb (0x81 + w % 1260 / 10) c) (eqb (0x30 + w % 10) d)
-  where
-    go : (x y z v : Bool) → (x && (y && (z && (v && false)))) ≡ false
-    go true true true true = refl
-    go true true true false = refl
-    go true true false v = refl
-    go true false z v = refl
-    go false y z v = refl
+    go : (x : Bool) → inFour s ≡ x → false ≡ x
+    go true e = absurd (n (four-long s e))
+    go false e = refl
 
 pub last-and : (b : Bool) → b ≡ (b && true)
 last-and true = refl

@@ -9,7 +9,8 @@ use Rattle.script.specs.declared.Glyph.{Glyph}
 use Rattle.script.specs.declared.Glyph.the-variants.{Same, Other, Lacking}
 use Rattle.script.specs.declared.Cost.{Cost}
 use Rattle.script.specs.declared.Cost.the-variants.{Takes, Lacks}
-use Rattle.script.specs.Writer.{all, allPairs, codeOf, inSubset, inText, pairCode, inRegion, inRegions, doubleCode, inDouble, textWords, regionWords, doubleWords, modeHas, modeLength}
+use Rattle.script.specs.Writer.{all, allPairs, codeOf, inSubset, inText, pairCode, inRegion, inRegions, doubleCode, inDouble, textWords, regionWords, doubleWords, modeHas}
+use Rattle.script.specs.Lengths.{modeLength}
 
 -- the modes 2, 4, 5 and 6: words of one width, one for each byte or pair, a switch before some, and an end
 unfoldable pub wordsOf : ℕ → Bool → List ℕ → List ℕ

@@ -12,7 +12,7 @@ use Rattle.script.specs.declared.Command.{Command}
 use Rattle.script.specs.declared.Command.the-variants.{Run, Eci, Wrong}
 use Rattle.script.specs.declared.Check.{Check}
 use Rattle.script.specs.declared.Check.the-variants.{Bits, Malformed, Lacking, Empty}
-use Rattle.script.specs.Writer.{allHave}
+use Rattle.script.specs.Writer.{allHave, encodings}
 use Rattle.script.specs.Lengths.{bitsOfSegments}
 use Rattle.script.specs.Check.{allowed, taking, commandsOf}
 
@@ -75,4 +75,4 @@ pub record Fits (s p : List ℕ) (n : ℕ) : Type 0 where
   pub are : commandsOf s p ≡ some segments
   pub have : allHave segments ≡ true
   pub filled : 0 < length p
-  pub room : bitsOfSegments segments ≤ 8 * n
+  pub room : length (encodings segments) ≤ 8 * n

@@ -1,6 +1,6 @@
 -- The numbers of bits of commands by the formulas of SPECIFICATION 9.4, by which the code counts. Nobody has to believe them: they are the
 -- lengths of what Writer says (proofs/Theorems, `bits-by-formulas`).
-use mathlib.Core.Bool.{Bool, cond, not}
+use mathlib.Core.Bool.{Bool, true, false, cond, not}
 use mathlib.Core.List.{List, [], _∷_}
 use Prim.Native.Nat.{ℕ, suc, _+_, _*_, _/_}
 use lib.Dec.{ltb, eqb}

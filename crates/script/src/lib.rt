@@ -5,7 +5,8 @@ ghost use mathlib.Core.List.{[], _∷_};
 ghost use Prim.Native.Nat.{_+_, _-_, _*_, _/_, _<_, _≤_};
 ghost use lib.Dec.{ltb};
 ghost use lib.ListN.{length, getD, take, drop};
-ghost use Rattle.script.specs.Writer.{all, isDigit, codeOf, inSubset, pairCode, inRegion, doubleCode, inDouble, fourCode, inFour, eciLength};
+ghost use Rattle.script.specs.Writer.{all, isDigit, codeOf, inSubset, pairCode, inRegion, doubleCode, inDouble, fourCode, inFour};
+ghost use Rattle.script.specs.Lengths.{eciLength};
 ghost use Rattle.script.specs.Check.{allowed};
 ghost use Rattle.script.specs.Inner.{runAt, eciAt, commandAt, commandSize, capped, checkOf};
 ghost use Rattle.script.specs.Glyphs.{textGlyph, regionGlyph, doubleGlyph, Glyphed, charCost, costOf, Limited, stepOf, widthOf};
@@ -145,11 +146,9 @@ fn in_double(a: usize, b: usize) -> bool
 
 // The value of four bytes, where they have one.
 pub fn four_code(run: &[u8]) -> usize
+    requires { ⌜ 4 ≤ length (now run) ⌝ }
     ensures { λ r. ⌜ r ≡ fourCode (now (run .entry)) ⌝ }
 {
-    if run.len() < 4 {
-        return 0;
-    }
     minus(bits::wide(run[0]), 0x81) * 12600
         + minus(bits::wide(run[1]), 0x30) * 1260
         + minus(bits::wide(run[2]), 0x81) * 10
@@ -160,11 +159,11 @@ pub fn four_code(run: &[u8]) -> usize
 fn in_four(run: &[u8]) -> bool
     ensures { λ r. ⌜ r ≡ inFour (now (run .entry)) ⌝ }
 {
-    let w = four_code(run);
-    if 1587600 <= w {
+    if run.len() != 4 {
         return false;
     }
-    if run.len() != 4 {
+    let w = four_code(run);
+    if 1587600 <= w {
         return false;
     }
     if 0x81 + w / 12600 != bits::wide(run[0]) {

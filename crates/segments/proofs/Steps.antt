@@ -1,7 +1,7 @@
 -- One segment and all of them: what a step of the pass leaves of the definitions.
 use mathlib.Core.Path.{_≡_, refl, ap, _∙_, sym, subst}
 use mathlib.Core.Bool.{Bool, true, false, cond}
-use mathlib.Core.List.{List, [], _∷_, _++_}
+use mathlib.Core.List.{List, [], _∷_, _++_, flatMap}
 use Prim.Native.Nat.{ℕ, zero, suc, _+_, _-_, _*_, _/_, _%_, _<_, _≤_}
 use native.Mathlib.Nat.{one-mul, add-zero}
 use native.Mathlib.Omega.{arith}
@@ -166,7 +166,7 @@ step-room s i n m o c (got g u) r a k j x y p e =
 
 module _ (s : List ℕ) (i n m : ℕ) (o c : List ℕ) where
   pub pass-few : (f : ℕ) → 0 < f → length (drop i (bitsOf s)) < 4 → Passed n m o c (parse f (drop i (bitsOf s))) (Done n m) o c
-  unfolding parse payloadOf scriptOf
+  unfolding parse payloadOf scriptOf flatMap
   pass-few zero p h = absurd (omega arith)
   pass-few (suc f) p h = rw (lt-ltb (length (drop i (bitsOf s))) 4 h) (rw (add-zero, add-zero), refl, refl)
 
@@ -175,7 +175,7 @@ module _ (s : List ℕ) (i n m : ℕ) (o c : List ℕ) where
     enough = let m = w .room in omega (arith, length-left s i)
 
     pub pass-end : (f : ℕ) → 0 < f → mode ≡ 0 → Passed n m o c (parse f (drop i (bitsOf s))) (Done n m) o c
-    unfolding parse payloadOf scriptOf
+    unfolding parse payloadOf scriptOf flatMap
     pass-end zero p e = absurd (omega arith)
     pass-end (suc f) p e =
         rw (le-ltb (length (drop i (bitsOf s))) 4 enough, ← (w .is), eq-eqb mode 0 e) (rw (add-zero, add-zero), refl, refl)
@@ -198,7 +198,7 @@ module _ (s : List ℕ) (i n m : ℕ) (o c : List ℕ) where
           go (suc f) p = rw (opened f h) (here (segmentOf mode (drop (i + 4) (bitsOf s))) (λ u. parse f (drop u (drop (i + 4) (bitsOf s)))) g)
 
       pub pass-on : (a k j : ℕ) → t ≡ On a k j → (r : Count) (x′ y′ : List ℕ) → Passed k j x y (parse (f - 1) (drop a (bitsOf s))) r x′ y′ → Passed n m o c (parse f (drop i (bitsOf s))) r x′ y′
-      unfolding payloadOf scriptOf
+      unfolding payloadOf scriptOf flatMap
       pass-on a k j e r x′ y′ q = go f p q
         where
           reached : (b : Segment) (gs : List Segment) → Reached (n + length (bytesOf b)) (m + length (commandOf b)) (sets o n (bytesOf b)) (sets c m (commandOf b)) gs r x′ y′
