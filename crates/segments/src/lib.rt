@@ -12,7 +12,7 @@ ghost use lib.Seq.{sets};
 ghost use Rattle.bits.specs.Bits.{bitsOf};
 ghost use Rattle.segments.specs.Script.{commandOf, runCommand, eci};
 ghost use Rattle.segments.specs.Segments.{digits, charOf, highOf, lowOf, regionSize, firstByte, secondByte, fourBytes, eciOf, eciValue, segmentOf};
-ghost use Rattle.segments.specs.Passes.{countOf, Left, Inside, RegionLeft, EciLeft, Stepped, numericAt, textAt, bytesRunAt, bytesAt, regionAt, doubleByteAt, fourByteAt, runAt};
+ghost use Rattle.segments.specs.Positions.{countOf, Left, Inside, RegionLeft, EciLeft, Stepped, numericAt, textAt, bytesRunAt, bytesAt, regionAt, doubleByteAt, fourByteAt, runAt};
 
 // Two numbers: a position with the payload bytes there or with an ECI's value, or the lengths of payload and script.
 pub enum Count {

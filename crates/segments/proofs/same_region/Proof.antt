@@ -8,7 +8,7 @@ use lib.ListN.{length}
 use lib.Seq.{sets}
 use Rattle.bits.proofs.Words.{WordAt, word-read, word-cut}
 use Rattle.segments.specs.Segments.{highOf, lowOf}
-use Rattle.segments.specs.Passes.{regionAt}
+use Rattle.segments.specs.Positions.{regionAt}
 use Rattle.segments.proofs.Turns.{region-cut, region-end, region-switch, region-lacks, region-pair}
 use Rattle.segments.proofs.same_region.Statement.{statement}
 use Rattle.segments.proofs.same_region.Tie as tie
