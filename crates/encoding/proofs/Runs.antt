@@ -10,7 +10,7 @@ use Rattle.bits.specs.Bits.{lowBits, wordBits}
 use Rattle.bits.proofs.Words.{length-low, length-words}
 use Rattle.script.specs.Writer.{numericWords, fourCode, modeHas, modeBits, eciBits}
 use Rattle.script.proofs.Runs.{four-long}
-use Rattle.script.specs.Glyphs.{wordsOf, hasAll, widthOf, beginsIn}
+use Rattle.script.specs.Characters.{wordsOf, hasAll, widthOf, beginsIn}
 use Rattle.encoding.specs.Written.{Written}
 
 -- room for a part, and for what comes behind it

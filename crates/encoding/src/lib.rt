@@ -1,6 +1,6 @@
 // The bits of a script and its payload, in a lent run of data bytes.
+use script::Character;
 use script::Command;
-use script::Glyph;
 ghost use mathlib.Core.Path.{_≡_};
 ghost use mathlib.Core.Bool.{true};
 ghost use mathlib.Core.List.{_++_};
@@ -8,7 +8,7 @@ ghost use Prim.Native.Nat.{_+_, _-_, _*_, _/_, _<_, _≤_};
 ghost use lib.ListN.{length, getD, take, drop, replicate};
 ghost use Rattle.bits.specs.Bits.{bitsOf, lowBits, wordBits};
 ghost use Rattle.script.specs.Writer.{all, isDigit, numericWords, modeHas, modeBits, eciBits, encodingOf};
-ghost use Rattle.script.specs.Glyphs.{wordsOf, hasAll, widthOf, switchOf, endOf, beginsIn};
+ghost use Rattle.script.specs.Characters.{wordsOf, hasAll, widthOf, switchOf, endOf, beginsIn};
 ghost use Rattle.segments.specs.Script.{run, eci};
 ghost use Rattle.script.specs.Check.{commandsOf, scriptData};
 ghost use Rattle.script.specs.Inner.{Fits};
@@ -52,19 +52,19 @@ fn write_chars(buf: &mut [u8], from: usize, mode: usize, run: &[u8]) -> usize
     let mut at = from;
     let mut j: usize = 0;
     while j < run.len() {
-        let g = script::glyph_at(mode, first, run, j);
+        let g = script::character_at(mode, first, run, j);
         match g {
-            Glyph::Same(c) => {
+            Character::Same(c) => {
                 at = put(buf, at, w, c);
                 j += by;
             }
-            Glyph::Other(c) => {
+            Character::Other(c) => {
                 let next = put(buf, at, w, switch_word(mode));
                 at = put(buf, next, w, c);
                 first = !first;
                 j += by;
             }
-            Glyph::Lacking => {
+            Character::Lacking => {
                 return at;
             }
         }

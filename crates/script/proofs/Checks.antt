@@ -21,7 +21,7 @@ use Rattle.script.specs.Writer.{modeHas, has, allHave}
 use Rattle.script.specs.Lengths.{modeLength, eciLength, bitsOfSegment, bitsOfSegments}
 use Rattle.script.specs.Check.{allowed, segmentAt, commands}
 use Rattle.script.specs.Inner.{lengthOperand, valueOperand, runAt, eciAt, commandAt, commandSize, made, with, most, capped, checkedOf, settled}
-use Rattle.script.specs.Glyphs.{costOf, Limited}
+use Rattle.script.specs.Characters.{costOf, Limited}
 use Rattle.script.proofs.Tests.{both}
 
 -- ---- the command at a place

@@ -9,7 +9,7 @@ ghost use Rattle.script.specs.Writer.{all, isDigit, codeOf, inSubset, pa
 ghost use Rattle.script.specs.Lengths.{eciLength};
 ghost use Rattle.script.specs.Check.{allowed};
 ghost use Rattle.script.specs.Inner.{runAt, eciAt, commandAt, commandSize, capped, checkOf};
-ghost use Rattle.script.specs.Glyphs.{textGlyph, regionGlyph, doubleGlyph, Glyphed, charCost, costOf, Limited, stepOf, widthOf};
+ghost use Rattle.script.specs.Characters.{textCharacter, regionCharacter, doubleCharacter, CharacterIs, charCost, costOf, Limited, stepOf, widthOf};
 
 // A command with its operand: a mode of 1 to 7 with the number of its payload bytes, or an ECI with its value.
 pub enum Command {
@@ -19,7 +19,7 @@ pub enum Command {
 }
 
 // A character's word in the present subset or region, or in the other one, behind a switch.
-pub enum Glyph {
+pub enum Character {
     Same(usize),
     Other(usize),
     Lacking,
@@ -210,56 +210,56 @@ fn all_digits(run: &[u8]) -> bool
     top < 10
 }
 
-fn text_glyph(first: bool, b: usize) -> Glyph
-    ensures { λ r. ⌜ r ≡ textGlyph first b ⌝ }
+fn text_character(first: bool, b: usize) -> Character
+    ensures { λ r. ⌜ r ≡ textCharacter first b ⌝ }
 {
     if in_subset(first, b) {
-        return Glyph::Same(code(first, b));
+        return Character::Same(code(first, b));
     }
     if in_subset(!first, b) {
-        return Glyph::Other(code(!first, b));
+        return Character::Other(code(!first, b));
     }
-    Glyph::Lacking
+    Character::Lacking
 }
 
-fn region_glyph(one: bool, a: usize, b: usize) -> Glyph
+fn region_character(one: bool, a: usize, b: usize) -> Character
     requires { ⌜ (a < 256) × (b < 256) ⌝ }
-    ensures { λ r. ⌜ r ≡ regionGlyph one a b ⌝ }
+    ensures { λ r. ⌜ r ≡ regionCharacter one a b ⌝ }
 {
     if in_region(one, a, b) {
-        return Glyph::Same(pair_code(one, a, b));
+        return Character::Same(pair_code(one, a, b));
     }
     if in_region(!one, a, b) {
-        return Glyph::Other(pair_code(!one, a, b));
+        return Character::Other(pair_code(!one, a, b));
     }
-    Glyph::Lacking
+    Character::Lacking
 }
 
-fn double_glyph(a: usize, b: usize) -> Glyph
+fn double_character(a: usize, b: usize) -> Character
     requires { ⌜ (a < 256) × (b < 256) ⌝ }
-    ensures { λ r. ⌜ r ≡ doubleGlyph a b ⌝ }
+    ensures { λ r. ⌜ r ≡ doubleCharacter a b ⌝ }
 {
     if in_double(a, b) {
-        return Glyph::Same(double_code(a, b));
+        return Character::Same(double_code(a, b));
     }
-    Glyph::Lacking
+    Character::Lacking
 }
 
 // The character at a place of a run in modes 2, 4, 5 and 6.
-pub fn glyph_at(mode: usize, first: bool, run: &[u8], j: usize) -> Glyph
+pub fn character_at(mode: usize, first: bool, run: &[u8], j: usize) -> Character
     requires { ⌜ j < length (now run) ⌝ }
-    ensures { λ r. ⌜ Glyphed mode first (drop j (now (run .entry))) r ⌝ }
+    ensures { λ r. ⌜ CharacterIs mode first (drop j (now (run .entry))) r ⌝ }
 {
     if mode == 2 {
-        return text_glyph(first, bits::wide(run[j]));
+        return text_character(first, bits::wide(run[j]));
     }
     if run.len() - j < 2 {
-        return Glyph::Lacking;
+        return Character::Lacking;
     }
     if mode == 6 {
-        return double_glyph(bits::wide(run[j]), bits::wide(run[j + 1]));
+        return double_character(bits::wide(run[j]), bits::wide(run[j + 1]));
     }
-    region_glyph(first, bits::wide(run[j]), bits::wide(run[j + 1]))
+    region_character(first, bits::wide(run[j]), bits::wide(run[j + 1]))
 }
 
 pub fn step(mode: usize) -> usize
@@ -290,18 +290,18 @@ fn char_bits(mode: usize, run: &[u8]) -> Cost
     let mut words: usize = 0;
     let mut j: usize = 0;
     while j < run.len() {
-        let g = glyph_at(mode, first, run, j);
+        let g = character_at(mode, first, run, j);
         match g {
-            Glyph::Same(_) => {
+            Character::Same(_) => {
                 words += 1;
                 j += by;
             }
-            Glyph::Other(_) => {
+            Character::Other(_) => {
                 words += 2;
                 first = !first;
                 j += by;
             }
-            Glyph::Lacking => {
+            Character::Lacking => {
                 return Cost::Lacks;
             }
         }

@@ -6,7 +6,7 @@ use native.Mathlib.Omega.{arith}
 use lib.ListN.{length}
 use Rattle.bits.specs.Bits.{wordBits}
 use Rattle.script.specs.Writer.{numericWords, fourCode, modeBits}
-use Rattle.script.specs.Glyphs.{wordsOf, widthOf, beginsIn}
+use Rattle.script.specs.Characters.{wordsOf, widthOf, beginsIn}
 use Rattle.encoding.proofs.Doing.{written-both}
 use Rattle.encoding.proofs.Runs.{first-room, rest-room, word-length, numeric-bits, bytes-bits, four-bits, four-whole, char-bits}
 use borrow.Author.Needs.{needs}

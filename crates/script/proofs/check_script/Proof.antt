@@ -9,7 +9,7 @@ use borrow.Author.Needs.{needs}
 use lib.ListN.{length, take, drop}
 use Rattle.script.specs.Check.{commands, commandsOf}
 use Rattle.script.specs.Inner.{commandSize, checkOf, settled}
-use Rattle.script.specs.Glyphs.{costOf}
+use Rattle.script.specs.Characters.{costOf}
 use Rattle.script.proofs.Checks.{run-bounds, eci-bounds, settle-start, settle-wrong, settle-eci, settle-short, settle-takes, settle-lacks, end-left, end-lacks, end-empty, end-bits, limited}
 use Rattle.script.proofs.check_script.Statement.{statement}
 use Rattle.script.proofs.check_script.Tie as tie
