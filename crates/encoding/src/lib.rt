@@ -77,7 +77,7 @@ fn digit(run: &[u8], j: usize) -> usize
     requires { ⌜ j < length (now run) ⌝ }
     ensures { λ r. ⌜ (r ≡ getD (now (run .entry)) j 0 - 48) × (r < 256) ⌝ }
 {
-    script::minus(bits::wide(run[j]), 48)
+    script::saturating_sub(bits::wide(run[j]), 48)
 }
 
 // The three digits from a place of a run on, as a number.

@@ -81,7 +81,7 @@ fn in_subset(first: bool, b: usize) -> bool
 }
 
 // x - y, or 0.
-pub fn minus(x: usize, y: usize) -> usize
+pub fn saturating_sub(x: usize, y: usize) -> usize
     ensures { λ r. ⌜ r ≡ x - y ⌝ }
 {
     if x < y {
@@ -97,14 +97,14 @@ pub fn pair_code(one: bool, a: usize, b: usize) -> usize
 {
     if one {
         if a < 0xA4 {
-            return 3760 + minus(a, 0xA1) * 94 + minus(b, 0xA1);
+            return 3760 + saturating_sub(a, 0xA1) * 94 + saturating_sub(b, 0xA1);
         }
         if a == 0xA8 {
-            return 4042 + minus(b, 0xA1);
+            return 4042 + saturating_sub(b, 0xA1);
         }
-        return minus(a, 0xB0) * 94 + minus(b, 0xA1);
+        return saturating_sub(a, 0xB0) * 94 + saturating_sub(b, 0xA1);
     }
-    minus(a, 0xD8) * 94 + minus(b, 0xA1)
+    saturating_sub(a, 0xD8) * 94 + saturating_sub(b, 0xA1)
 }
 
 fn in_region(one: bool, a: usize, b: usize) -> bool
@@ -126,9 +126,9 @@ pub fn double_code(a: usize, b: usize) -> usize
     ensures { λ r. ⌜ r ≡ doubleCode a b ⌝ }
 {
     if b < 0x7F {
-        return minus(a, 0x81) * 190 + minus(b, 0x40);
+        return saturating_sub(a, 0x81) * 190 + saturating_sub(b, 0x40);
     }
-    minus(a, 0x81) * 190 + (b - 0x41)
+    saturating_sub(a, 0x81) * 190 + (b - 0x41)
 }
 
 fn in_double(a: usize, b: usize) -> bool
@@ -149,10 +149,10 @@ pub fn four_code(run: &[u8]) -> usize
     requires { ⌜ 4 ≤ length (now run) ⌝ }
     ensures { λ r. ⌜ r ≡ fourCode (now (run .entry)) ⌝ }
 {
-    minus(bits::wide(run[0]), 0x81) * 12600
-        + minus(bits::wide(run[1]), 0x30) * 1260
-        + minus(bits::wide(run[2]), 0x81) * 10
-        + minus(bits::wide(run[3]), 0x30)
+    saturating_sub(bits::wide(run[0]), 0x81) * 12600
+        + saturating_sub(bits::wide(run[1]), 0x30) * 1260
+        + saturating_sub(bits::wide(run[2]), 0x81) * 10
+        + saturating_sub(bits::wide(run[3]), 0x30)
 }
 
 // The four-byte mode has four bytes.
@@ -346,7 +346,7 @@ fn eci_bits(v: usize) -> usize
 }
 
 // A sum that stays at 31,089 once it is there: more bits than any mark has.
-fn plus(x: usize, y: usize) -> usize
+fn capped_sum(x: usize, y: usize) -> usize
     requires { ⌜ (x < 100000000) × (y < 100000000) ⌝ }
     ensures { λ r. ⌜ (r ≡ capped (x + y)) × (r ≤ 31089) ⌝ }
 {
@@ -452,7 +452,7 @@ pub fn check_script(script: &[u8], payload: &[u8]) -> Check
                 let cost = run_bits(mode, &payload[j..end]);
                 match cost {
                     Cost::Takes(b) => {
-                        total = plus(total, b);
+                        total = capped_sum(total, b);
                         j = end;
                         i += command_size(mode);
                     }
@@ -464,7 +464,7 @@ pub fn check_script(script: &[u8], payload: &[u8]) -> Check
                 }
             }
             Command::Eci(v) => {
-                total = plus(total, eci_bits(v));
+                total = capped_sum(total, eci_bits(v));
                 i += 4;
             }
             Command::Wrong => {

@@ -11,13 +11,13 @@ returns c =
     let e = d .before .before .before in
     let f = e .before .before .before in
     rw (
-      c .minus4 .ensures,
+      c .saturating-sub4 .ensures,
       c .before .wide4 .ensures .0,
-      d .minus3 .ensures,
+      d .saturating-sub3 .ensures,
       d .before .wide3 .ensures .0,
-      e .minus2 .ensures,
+      e .saturating-sub2 .ensures,
       e .before .wide2 .ensures .0,
-      f .minus .ensures,
+      f .saturating-sub .ensures,
       f .before .wide .ensures .0,
     )
 
