@@ -113,8 +113,8 @@ fn in_region(one: bool, a: usize, b: usize) -> bool
 {
     let c = pair_code(one, a, b);
     if c < segments::region_size(one) {
-        if segments::high(one, c) == a {
-            return segments::low(one, c) == b;
+        if segments::high_byte(one, c) == a {
+            return segments::low_byte(one, c) == b;
         }
     }
     false

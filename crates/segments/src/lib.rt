@@ -224,7 +224,7 @@ pub fn region_size(one: bool) -> usize
 }
 
 // The first byte of a value in a region.
-pub fn high(one: bool, w: usize) -> usize
+pub fn high_byte(one: bool, w: usize) -> usize
     requires { ⌜ w < regionSize one ⌝ }
     ensures { λ r. ⌜ (r < 256) × (r ≡ highOf one w) ⌝ }
 {
@@ -241,7 +241,7 @@ pub fn high(one: bool, w: usize) -> usize
 }
 
 // The second byte of a value in a region.
-pub fn low(one: bool, w: usize) -> usize
+pub fn low_byte(one: bool, w: usize) -> usize
     requires { ⌜ w < regionSize one ⌝ }
     ensures { λ r. ⌜ (r < 256) × (r ≡ lowOf one w) ⌝ }
 {
@@ -287,7 +287,7 @@ fn same_region(s: &[u8], from: usize, out: &mut [u8], to: usize, one: bool) -> R
         if w >= region_size(one) {
             return Region::Lacking;
         }
-        put_pair(out, n, high(one, w), low(one, w));
+        put_pair(out, n, high_byte(one, w), low_byte(one, w));
         n += 2;
     }
 }
