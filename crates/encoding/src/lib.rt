@@ -26,16 +26,16 @@ fn put(buf: &mut [u8], at: usize, n: usize, v: usize) -> usize
 fn switch_word(mode: usize) -> usize
     ensures { λ r. ⌜ r ≡ switchOf mode ⌝ }
 {
-    if mode == 2 { 62 } else { 4094 }
+    if mode == segments::TEXT { 62 } else { 4094 }
 }
 
 fn end_word(mode: usize) -> usize
     ensures { λ r. ⌜ r ≡ endOf mode ⌝ }
 {
-    if mode == 2 {
+    if mode == segments::TEXT {
         return 63;
     }
-    if mode == 6 {
+    if mode == segments::TWO_BYTE {
         return 32767;
     }
     4095
@@ -48,7 +48,7 @@ fn write_chars(buf: &mut [u8], from: usize, mode: usize, run: &[u8]) -> usize
 {
     let by = script::step(mode);
     let w = script::width(mode);
-    let mut first = mode != 5;
+    let mut first = mode != segments::REGION_TWO;
     let mut at = from;
     let mut j: usize = 0;
     while j < run.len() {
@@ -157,14 +157,14 @@ fn write_run(buf: &mut [u8], from: usize, mode: usize, chars: &[u8]) -> usize
     ensures { λ r. ⌜ Written (now (buf .entry)) from (encodingOf (run mode (now (chars .entry)))) r (now (buf .exit)) ⌝ }
 {
     let at = put(buf, from, 4, mode);
-    if mode == 1 {
+    if mode == segments::NUMERIC {
         return write_numeric(buf, at, chars);
     }
-    if mode == 3 {
+    if mode == segments::BYTES {
         let next = put(buf, at, 13, chars.len());
         return write_bytes(buf, next, chars);
     }
-    if mode == 7 {
+    if mode == segments::FOUR_BYTE {
         return put(buf, at, 21, script::four_code(chars));
     }
     write_chars(buf, at, mode, chars)
@@ -175,7 +175,7 @@ fn write_eci(buf: &mut [u8], from: usize, v: usize) -> usize
     requires { ⌜ (length (now buf) ≤ 4096) × (from + length (encodingOf (eci v)) ≤ 8 * length (now buf)) ⌝ }
     ensures { λ r. ⌜ Written (now (buf .entry)) from (encodingOf (eci v)) r (now (buf .exit)) ⌝ }
 {
-    let at = put(buf, from, 4, 8);
+    let at = put(buf, from, 4, segments::ECI);
     if v < 128 {
         let next = put(buf, at, 1, 0);
         return put(buf, next, 7, v);

@@ -73,7 +73,7 @@ pub fn from_data_with(
 ) -> Answer
     ensures { λ r. ⌜ dataOutcome r (now (payload .exit)) (now (script .exit)) ≡ fromData (now («data» .entry)) (now (payload .entry)) (now (script .entry)) ⌝ }
 {
-    if 3886 < data.len() {
+    if segments::MAX_DATA < data.len() {
         return Answer::TooLong;
     }
     let first = parse(data, spare, other);

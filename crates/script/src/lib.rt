@@ -250,13 +250,13 @@ pub fn character_at(mode: usize, first: bool, run: &[u8], j: usize) -> Character
     requires { ⌜ j < length (now run) ⌝ }
     ensures { λ r. ⌜ CharacterIs mode first (drop j (now (run .entry))) r ⌝ }
 {
-    if mode == 2 {
+    if mode == segments::TEXT {
         return text_character(first, bits::wide(run[j]));
     }
     if run.len() - j < 2 {
         return Character::Lacking;
     }
-    if mode == 6 {
+    if mode == segments::TWO_BYTE {
         return double_character(bits::wide(run[j]), bits::wide(run[j + 1]));
     }
     region_character(first, bits::wide(run[j]), bits::wide(run[j + 1]))
@@ -265,16 +265,16 @@ pub fn character_at(mode: usize, first: bool, run: &[u8], j: usize) -> Character
 pub fn step(mode: usize) -> usize
     ensures { λ r. ⌜ (r ≡ stepOf mode) × (1 ≤ r) × (r ≤ 2) ⌝ }
 {
-    if mode == 2 { 1 } else { 2 }
+    if mode == segments::TEXT { 1 } else { 2 }
 }
 
 pub fn width(mode: usize) -> usize
     ensures { λ r. ⌜ (r ≡ widthOf mode) × (1 ≤ r) × (r ≤ 15) ⌝ }
 {
-    if mode == 2 {
+    if mode == segments::TEXT {
         return 6;
     }
-    if mode == 6 {
+    if mode == segments::TWO_BYTE {
         return 15;
     }
     12
@@ -286,7 +286,7 @@ fn char_bits(mode: usize, run: &[u8]) -> Cost
     ensures { λ r. ⌜ (r ≡ charCost mode (now (run .entry))) × Limited r ⌝ }
 {
     let by = step(mode);
-    let mut first = mode != 5;
+    let mut first = mode != segments::REGION_TWO;
     let mut words: usize = 0;
     let mut j: usize = 0;
     while j < run.len() {
@@ -314,16 +314,16 @@ fn run_bits(mode: usize, run: &[u8]) -> Cost
     requires { ⌜ (1 ≤ mode) × (mode ≤ 7) × (length (now run) < 65536) ⌝ }
     ensures { λ r. ⌜ (r ≡ costOf mode (now (run .entry))) × Limited r ⌝ }
 {
-    if mode == 1 {
+    if mode == segments::NUMERIC {
         if all_digits(run) {
             return Cost::Takes(14 + 10 * ((run.len() + 2) / 3));
         }
         return Cost::Lacks;
     }
-    if mode == 3 {
+    if mode == segments::BYTES {
         return Cost::Takes(17 + 8 * run.len());
     }
-    if mode == 7 {
+    if mode == segments::FOUR_BYTE {
         if in_four(run) {
             return Cost::Takes(25);
         }
@@ -345,28 +345,31 @@ fn eci_bits(v: usize) -> usize
     28
 }
 
-// A sum that stays at 31,089 once it is there: more bits than any mark has.
+// More bits than any mark has: one more than the data of the largest.
+pub const TOO_MANY_BITS: usize = 8 * segments::MAX_DATA + 1;
+
+// A sum that stays at that number once it is there.
 fn capped_sum(x: usize, y: usize) -> usize
     requires { ⌜ (x < 100000000) × (y < 100000000) ⌝ }
     ensures { λ r. ⌜ (r ≡ capped (x + y)) × (r ≤ 31089) ⌝ }
 {
-    if x + y < 31089 {
+    if x + y < TOO_MANY_BITS {
         return x + y;
     }
-    31089
+    TOO_MANY_BITS
 }
 
 // A number of payload bytes is allowed in a mode.
 fn is_allowed(mode: usize, n: usize) -> bool
     ensures { λ r. ⌜ r ≡ allowed mode n ⌝ }
 {
-    if mode == 1 {
+    if mode == segments::NUMERIC {
         return 0 < n;
     }
-    if mode == 3 {
+    if mode == segments::BYTES {
         return n <= 8191;
     }
-    if 4 <= mode {
+    if segments::REGION_ONE <= mode {
         return n % 2 == 0;
     }
     true
@@ -411,16 +414,16 @@ pub fn command_at(script: &[u8], i: usize) -> Command
     ensures { λ r. ⌜ r ≡ commandAt (drop i (now (script .entry))) ⌝ }
 {
     let m = bits::wide(script[i]);
-    if m == 7 {
-        return Command::Run(7, 4);
+    if m == segments::FOUR_BYTE {
+        return Command::Run(segments::FOUR_BYTE, 4);
     }
-    if m == 8 {
+    if m == segments::ECI {
         return eci_at(script, i);
     }
-    if m < 1 {
+    if m < segments::NUMERIC {
         return Command::Wrong;
     }
-    if 6 < m {
+    if segments::TWO_BYTE < m {
         return Command::Wrong;
     }
     run_at(script, i)
@@ -430,7 +433,7 @@ pub fn command_at(script: &[u8], i: usize) -> Command
 pub fn command_size(mode: usize) -> usize
     ensures { λ r. ⌜ (r ≡ commandSize mode) × (1 ≤ r) × (r ≤ 3) ⌝ }
 {
-    if mode == 7 { 1 } else { 3 }
+    if mode == segments::FOUR_BYTE { 1 } else { 3 }
 }
 
 // SPECIFICATION 10.8, Check of a script: 11, else 12, else 8, else the number of bits.

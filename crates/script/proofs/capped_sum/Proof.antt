@@ -3,8 +3,8 @@ use Prim.Native.Nat.{_+_}
 use native.Mathlib.Omega.{arith}
 use borrow.Author.Tests.{lt-ltb, le-ltb}
 use borrow.Author.Needs.{needs}
-use Rattle.script.proofs.capped-sum.Statement.{statement}
-use Rattle.script.proofs.capped-sum.Tie as tie
+use Rattle.script.proofs.capped_sum.Statement.{statement}
+use Rattle.script.proofs.capped_sum.Tie as tie
 
 returns : tie.Need-returns
 returns c =
