@@ -14,9 +14,9 @@ use Rattle.bits.proofs.Words.{length-low, length-words}
 use Rattle.bits.proofs.Bytes.{low-add}
 use Rattle.bits.proofs.Appending.{low-split}
 use Rattle.script.specs.Writer.{numericWords}
-use Rattle.script.specs.declared.Glyph.{Glyph}
-use Rattle.script.specs.declared.Glyph.the-variants.{Same, Other, Lacking}
-use Rattle.script.specs.Glyphs.{wordsOf, hasAll, stepOf, switchOf, endOf, Glyphed}
+use Rattle.script.specs.declared.Character.{Character}
+use Rattle.script.specs.declared.Character.the-variants.{Same, Other, Lacking}
+use Rattle.script.specs.Characters.{wordsOf, hasAll, stepOf, switchOf, endOf, CharacterIs}
 use Rattle.script.proofs.Tests.{false-true}
 use Rattle.script.proofs.Runs.{just-end}
 use Rattle.encoding.specs.Written.{Written, Doing, groupAt}
@@ -127,10 +127,10 @@ no-byte run j h = drop-of-length-le run h
 
 -- ---- characters
 
-module _ (run : List ℕ) (mode : ℕ) (f : Bool) (j w by : ℕ) (r : Glyph) (h : Glyphed mode f (drop j run) r) (b : by ≡ stepOf mode) where
+module _ (run : List ℕ) (mode : ℕ) (f : Bool) (j w by : ℕ) (r : Character) (h : CharacterIs mode f (drop j run) r) (b : by ≡ stepOf mode) where
   pub same-words : r ≡ Same w → (wordsOf mode f (drop j run) ≡ w ∷ wordsOf mode f (drop (j + by) run)) × (hasAll mode (drop j run) ≡ hasAll mode (drop (j + by) run)) × (j + by ≤ j + length (drop j run))
   same-words e =
-      let g : Glyphed mode f (drop j run) (Same w) = subst (λ (z : Glyph). Glyphed mode f (drop j run) z) e h in
+      let g : CharacterIs mode f (drop j run) (Same w) = subst (λ (z : Character). CharacterIs mode f (drop j run) z) e h in
       (rw b (g .0 ∙ rw drop-drop), rw b (g .1 ∙ rw drop-drop), rw b (add-le (g .2)))
     where
       add-le : stepOf mode ≤ length (drop j run) → j + stepOf mode ≤ j + length (drop j run)
@@ -138,7 +138,7 @@ module _ (run : List ℕ) (mode : ℕ) (f : Bool) (j w by : ℕ) (r : Glyph) (h 
 
   pub other-words : r ≡ Other w → (wordsOf mode f (drop j run) ≡ switchOf mode ∷ w ∷ wordsOf mode (not f) (drop (j + by) run)) × (hasAll mode (drop j run) ≡ hasAll mode (drop (j + by) run)) × (j + by ≤ j + length (drop j run))
   other-words e =
-      let g : Glyphed mode f (drop j run) (Other w) = subst (λ (z : Glyph). Glyphed mode f (drop j run) z) e h in
+      let g : CharacterIs mode f (drop j run) (Other w) = subst (λ (z : Character). CharacterIs mode f (drop j run) z) e h in
       (rw b (g .0 ∙ rw drop-drop), rw b (g .1 ∙ rw drop-drop), rw b (add-le (g .2)))
     where
       add-le : stepOf mode ≤ length (drop j run) → j + stepOf mode ≤ j + length (drop j run)
@@ -146,7 +146,7 @@ module _ (run : List ℕ) (mode : ℕ) (f : Bool) (j w by : ℕ) (r : Glyph) (h 
 
   pub never-lacking : {A : Type 0} → hasAll mode (drop j run) ≡ true → r ≡ Lacking → A
   never-lacking t e =
-      let g : hasAll mode (drop j run) ≡ false = subst (λ (z : Glyph). Glyphed mode f (drop j run) z) e h in
+      let g : hasAll mode (drop j run) ≡ false = subst (λ (z : Character). CharacterIs mode f (drop j run) z) e h in
       absurd (false-true (sym g ∙ t))
 
 pub end-words : (run : List ℕ) (mode : ℕ) (f : Bool) (j : ℕ) → length run ≤ j → wordsOf mode f (drop j run) ≡ endOf mode ∷ []

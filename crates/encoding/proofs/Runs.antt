@@ -1,5 +1,6 @@
 -- The bits of one segment, part by part.
 use mathlib.Core.Path.{_≡_, refl}
+use mathlib.Core.Bool.{true}
 use mathlib.Core.List.{List, _++_}
 use Prim.Native.Nat.{ℕ, zero, suc, _+_, _*_, _<_, _≤_}
 use native.Mathlib.Omega.{arith}
@@ -8,7 +9,8 @@ use lib.ListN.{length, length-append}
 use Rattle.bits.specs.Bits.{lowBits, wordBits}
 use Rattle.bits.proofs.Words.{length-low, length-words}
 use Rattle.script.specs.Writer.{numericWords, fourCode, modeHas, modeBits, eciBits}
-use Rattle.script.specs.Glyphs.{wordsOf, hasAll, widthOf, beginsIn}
+use Rattle.script.proofs.Runs.{four-long}
+use Rattle.script.specs.Characters.{wordsOf, hasAll, widthOf, beginsIn}
 use Rattle.encoding.specs.Written.{Written}
 
 -- room for a part, and for what comes behind it
@@ -33,6 +35,10 @@ module _ (mode : ℕ) (bs : List ℕ) where
   pub four-bits : mode ≡ 7 → modeBits mode bs ≡ lowBits 21 (fourCode bs)
   unfolding modeBits
   four-bits e = rw e
+
+  pub four-whole : mode ≡ 7 → modeHas mode bs ≡ true → 4 ≤ length bs
+  unfolding modeHas
+  four-whole e h = let l = four-long bs (rw e at h) in omega arith
 
 pub char-bits : (mode : ℕ) (bs : List ℕ) → 1 ≤ mode → mode ≤ 7 → (mode ≡ 1 → ⊥) → (mode ≡ 3 → ⊥) → (mode ≡ 7 → ⊥)
     → (modeBits mode bs ≡ wordBits (widthOf mode) (wordsOf mode (beginsIn mode) bs)) × (modeHas mode bs ≡ hasAll mode bs)

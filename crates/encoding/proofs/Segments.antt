@@ -2,7 +2,7 @@
 use mathlib.Core.Path.{_≡_, refl, ap, _∙_, sym}
 use mathlib.Core.Bool.{Bool, true, false, cond}
 use mathlib.Core.Option.{Option, none, some}
-use mathlib.Core.List.{List, [], _∷_, _++_, append-assoc, append-nil}
+use mathlib.Core.List.{List, [], _∷_, _++_, append-assoc, append-nil, flatMap}
 use Prim.Native.Nat.{ℕ, zero, suc, _+_, _-_, _*_, _<_, _≤_}
 use native.Mathlib.Nat.{zero-add, add-zero}
 use native.Mathlib.Omega.{arith}
@@ -20,7 +20,6 @@ use Rattle.script.specs.Check.{commands, commandsOf, scriptData}
 use Rattle.script.specs.Inner.{commandAt, commandSize, with, Fits}
 use Rattle.script.proofs.Tests.{both}
 use Rattle.script.proofs.Checks.{at-wrong, at-eci, at-short, at-run}
-use Rattle.script.proofs.Theorems.{encodings-fit}
 use Rattle.encoding.specs.Written.{Written}
 
 -- to write the segments hs of the rest of script and payload into the bytes t from the position a on is what is left of the whole
@@ -47,7 +46,7 @@ begun s p n t b f =
       are = f .are;
       left = f .are;
       have = f .have;
-      room = encodings-fit s p n b f;
+      room = f .room;
       place = zero-add (length (encodings gs));
       bits = refl;
     }
@@ -95,14 +94,14 @@ module _ (s p : List ℕ) (n : ℕ) (t : List ℕ) (i j a : ℕ) (h : i < length
     front-has = both (has g) (allHave (f .0)) (rw (f .1) at (d .have)) .0
 
     parts : a + (length (encodingOf g) + length (encodings (f .0))) ≡ length (encodings (d .whole))
-    unfolding encodings
+    unfolding encodings flatMap
     parts = ap (λ (z : ℕ). a + z) (sym (length-append (encodingOf g) (encodings (f .0)))) ∙ (rw (f .1) at (d .place))
 
     pub front-room : a + length (encodingOf g) ≤ 8 * n
     front-room = let r = d .room in let q = parts in omega arith
 
     pub front-done : (t′ : List ℕ) (r : ℕ) → 0 < x → i + x ≤ length s → Written t a (encodingOf g) r t′ → Left s p n t′ (i + x) (j + y) r
-    unfolding allHave encodings
+    unfolding allHave encodings flatMap
     front-done t′ r l k w =
         let q = parts in
         let m = d .enough in
@@ -137,7 +136,7 @@ module _ (s p : List ℕ) (n : ℕ) (t : List ℕ) (i j a : ℕ) (h : length s �
   nothing = last (d .fuel) (omega (arith, d .enough)) (d .left)
 
   place-is : a ≡ length (encodings (d .whole))
-  unfolding encodings
+  unfolding encodings flatMap
   place-is = rw (nothing, add-zero) at (d .place)
 
   pub end-room : a ≤ 8 * n
@@ -145,7 +144,7 @@ module _ (s p : List ℕ) (n : ℕ) (t : List ℕ) (i j a : ℕ) (h : length s �
 
   -- zeros behind
   pub ended : (u : List ℕ) → ((k : ℕ) → getD u k 0 < 256) → bitsOf u ≡ take a (bitsOf t) ++ replicate (8 * n - a) 0 → u ≡ scriptData n (commandsOf s p)
-  unfolding encodings
+  unfolding encodings flatMap
   ended u b e =
       let q : take a (bitsOf t) ≡ encodings (d .whole) = rw (nothing, append-nil) at (d .bits) in
       rw (d .are) (sym (words-bits u b) ∙ ap (words 8) (rw (q, place-is) at e))

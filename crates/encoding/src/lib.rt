@@ -1,6 +1,6 @@
 // The bits of a script and its payload, in a lent run of data bytes.
+use script::Character;
 use script::Command;
-use script::Glyph;
 ghost use mathlib.Core.Path.{_≡_};
 ghost use mathlib.Core.Bool.{true};
 ghost use mathlib.Core.List.{_++_};
@@ -8,7 +8,7 @@ ghost use Prim.Native.Nat.{_+_, _-_, _*_, _/_, _<_, _≤_};
 ghost use lib.ListN.{length, getD, take, drop, replicate};
 ghost use Rattle.bits.specs.Bits.{bitsOf, lowBits, wordBits};
 ghost use Rattle.script.specs.Writer.{all, isDigit, numericWords, modeHas, modeBits, eciBits, encodingOf};
-ghost use Rattle.script.specs.Glyphs.{wordsOf, hasAll, widthOf, switchOf, endOf, beginsIn};
+ghost use Rattle.script.specs.Characters.{wordsOf, hasAll, widthOf, switchOf, endOf, beginsIn};
 ghost use Rattle.segments.specs.Script.{run, eci};
 ghost use Rattle.script.specs.Check.{commandsOf, scriptData};
 ghost use Rattle.script.specs.Inner.{Fits};
@@ -26,16 +26,16 @@ fn put(buf: &mut [u8], at: usize, n: usize, v: usize) -> usize
 fn switch_word(mode: usize) -> usize
     ensures { λ r. ⌜ r ≡ switchOf mode ⌝ }
 {
-    if mode == 2 { 62 } else { 4094 }
+    if mode == segments::TEXT { 62 } else { 4094 }
 }
 
 fn end_word(mode: usize) -> usize
     ensures { λ r. ⌜ r ≡ endOf mode ⌝ }
 {
-    if mode == 2 {
+    if mode == segments::TEXT {
         return 63;
     }
-    if mode == 6 {
+    if mode == segments::TWO_BYTE {
         return 32767;
     }
     4095
@@ -48,23 +48,23 @@ fn write_chars(buf: &mut [u8], from: usize, mode: usize, run: &[u8]) -> usize
 {
     let by = script::step(mode);
     let w = script::width(mode);
-    let mut first = mode != 5;
+    let mut first = mode != segments::REGION_TWO;
     let mut at = from;
     let mut j: usize = 0;
     while j < run.len() {
-        let g = script::glyph_at(mode, first, run, j);
+        let g = script::character_at(mode, first, run, j);
         match g {
-            Glyph::Same(c) => {
+            Character::Same(c) => {
                 at = put(buf, at, w, c);
                 j += by;
             }
-            Glyph::Other(c) => {
+            Character::Other(c) => {
                 let next = put(buf, at, w, switch_word(mode));
                 at = put(buf, next, w, c);
                 first = !first;
                 j += by;
             }
-            Glyph::Lacking => {
+            Character::Lacking => {
                 return at;
             }
         }
@@ -77,7 +77,7 @@ fn digit(run: &[u8], j: usize) -> usize
     requires { ⌜ j < length (now run) ⌝ }
     ensures { λ r. ⌜ (r ≡ getD (now (run .entry)) j 0 - 48) × (r < 256) ⌝ }
 {
-    script::minus(bits::wide(run[j]), 48)
+    script::saturating_sub(bits::wide(run[j]), 48)
 }
 
 // The three digits from a place of a run on, as a number.
@@ -157,14 +157,14 @@ fn write_run(buf: &mut [u8], from: usize, mode: usize, chars: &[u8]) -> usize
     ensures { λ r. ⌜ Written (now (buf .entry)) from (encodingOf (run mode (now (chars .entry)))) r (now (buf .exit)) ⌝ }
 {
     let at = put(buf, from, 4, mode);
-    if mode == 1 {
+    if mode == segments::NUMERIC {
         return write_numeric(buf, at, chars);
     }
-    if mode == 3 {
+    if mode == segments::BYTES {
         let next = put(buf, at, 13, chars.len());
         return write_bytes(buf, next, chars);
     }
-    if mode == 7 {
+    if mode == segments::FOUR_BYTE {
         return put(buf, at, 21, script::four_code(chars));
     }
     write_chars(buf, at, mode, chars)
@@ -175,7 +175,7 @@ fn write_eci(buf: &mut [u8], from: usize, v: usize) -> usize
     requires { ⌜ (length (now buf) ≤ 4096) × (from + length (encodingOf (eci v)) ≤ 8 * length (now buf)) ⌝ }
     ensures { λ r. ⌜ Written (now (buf .entry)) from (encodingOf (eci v)) r (now (buf .exit)) ⌝ }
 {
-    let at = put(buf, from, 4, 8);
+    let at = put(buf, from, 4, segments::ECI);
     if v < 128 {
         let next = put(buf, at, 1, 0);
         return put(buf, next, 7, v);

@@ -15,7 +15,7 @@ use Rattle.segments.specs.declared.Count.{Count}
 use Rattle.segments.specs.declared.Count.the-variants.{Done}
 use Rattle.segments.specs.Script.{Segment, payloadOf, scriptOf}
 use Rattle.segments.specs.Segments.{Fault, Ending, endMark, fewBits, broken, segmentsOf}
-use Rattle.segments.specs.Passes.{counted, Reached, PassedTo, Passed}
+use Rattle.segments.specs.Positions.{counted, Reached, ParsesTo, Parses}
 use Rattle.segments.specs.FromData.{DataOutcome, isBroken, fromData, dataOutcome}
 use Rattle.segments.proofs.Steps.{not-done}
 
@@ -31,7 +31,7 @@ module _ (s p c : List ℕ) where
   pub too-long : 3886 < length s → dataOutcome TooLong p c ≡ fromData s p c
   too-long h = rw (lt-ltb 3886 (length s) h)
 
-  module _ (h : length s ≤ 3886) (o q : List ℕ) (r : Count) (x y : List ℕ) (d : Passed 0 0 o q (segmentsOf s) r x y) where
+  module _ (h : length s ≤ 3886) (o q : List ℕ) (r : Count) (x y : List ℕ) (d : Parses 0 0 o q (segmentsOf s) r x y) where
     abbrev gs : List Segment
     gs = segmentsOf s .segments
 
@@ -39,7 +39,7 @@ module _ (s p c : List ℕ) where
     pub is-broken : (bad : Fault) → r ≡ counted bad → dataOutcome Broken p c ≡ fromData s p c
     is-broken bad e = rw (le-ltb 3886 (length s) h, go (segmentsOf s .end) d)
       where
-        go : (z : Ending) → PassedTo 0 0 o q gs z r x y → isBroken z ≡ true
+        go : (z : Ending) → ParsesTo 0 0 o q gs z r x y → isBroken z ≡ true
         go endMark g = not-done bad (sym e ∙ g .0)
         go fewBits g = not-done bad (sym e ∙ g .0)
         go (broken b) g = refl
@@ -49,16 +49,16 @@ module _ (s p c : List ℕ) where
       whole : isBroken (segmentsOf s .end) ≡ false
       whole = go (segmentsOf s .end) d
         where
-          go : (z : Ending) → PassedTo 0 0 o q gs z r x y → isBroken z ≡ false
+          go : (z : Ending) → ParsesTo 0 0 o q gs z r x y → isBroken z ≡ false
           go endMark g = refl
           go fewBits g = refl
           go (broken bad) g = not-done bad (sym g ∙ e)
 
       -- and so has every other pass
-      reached : (p c : List ℕ) (t : Count) (u v : List ℕ) → Passed 0 0 p c (segmentsOf s) t u v → Reached 0 0 p c gs t u v
+      reached : (p c : List ℕ) (t : Count) (u v : List ℕ) → Parses 0 0 p c (segmentsOf s) t u v → Reached 0 0 p c gs t u v
       reached p c t u v i = go (segmentsOf s .end) whole i
         where
-          go : (z : Ending) → isBroken z ≡ false → PassedTo 0 0 p c gs z t u v → Reached 0 0 p c gs t u v
+          go : (z : Ending) → isBroken z ≡ false → ParsesTo 0 0 p c gs z t u v → Reached 0 0 p c gs t u v
           go endMark b g = g
           go fewBits b g = g
           go (broken bad) b g = never cc
@@ -102,7 +102,7 @@ module _ (s p c : List ℕ) where
                 (same (lengths .0) j eu ev)
 
             -- the second pass, over the buffers themselves
-            pub is-read : (t : Count) (u v : List ℕ) → Passed 0 0 p c (segmentsOf s) t u v → dataOutcome (Read n m) u v ≡ fromData s p c
+            pub is-read : (t : Count) (u v : List ℕ) → Parses 0 0 p c (segmentsOf s) t u v → dataOutcome (Read n m) u v ≡ fromData s p c
             is-read t u v i =
                 let k = lengths .0 in
                 let j = lengths .1 in

@@ -4,7 +4,7 @@ ghost use mathlib.Core.List.{_++_};
 ghost use Prim.Native.Nat.{_≤_};
 ghost use lib.ListN.{length, take, drop};
 ghost use Rattle.segments.specs.Segments.{segmentsOf};
-ghost use Rattle.segments.specs.Passes.{Passed};
+ghost use Rattle.segments.specs.Positions.{Parses};
 ghost use Rattle.segments.specs.FromData.{fromData, dataOutcome};
 use bits::Word;
 use segments::Answer;
@@ -13,9 +13,9 @@ use segments::Place;
 use segments::Step;
 
 // One pass over the data.
-fn pass(s: &[u8], out: &mut [u8], script: &mut [u8]) -> Count
+fn parse(s: &[u8], out: &mut [u8], script: &mut [u8]) -> Count
     requires { ⌜ length (now s) ≤ 4096 ⌝ }
-    ensures { λ r. ⌜ Passed 0 0 (now (out .entry)) (now (script .entry)) (segmentsOf (now (s .entry))) r (now (out .exit)) (now (script .exit)) ⌝ }
+    ensures { λ r. ⌜ Parses 0 0 (now (out .entry)) (now (script .entry)) (segmentsOf (now (s .entry))) r (now (out .exit)) (now (script .exit)) ⌝ }
 {
     let mut at: usize = 0;
     let mut n: usize = 0;
@@ -73,10 +73,10 @@ pub fn from_data_with(
 ) -> Answer
     ensures { λ r. ⌜ dataOutcome r (now (payload .exit)) (now (script .exit)) ≡ fromData (now («data» .entry)) (now (payload .entry)) (now (script .entry)) ⌝ }
 {
-    if 3886 < data.len() {
+    if segments::MAX_DATA < data.len() {
         return Answer::TooLong;
     }
-    let first = pass(data, spare, other);
+    let first = parse(data, spare, other);
     match first {
         Count::Done(n, m) => {
             if n == 0 {
@@ -89,11 +89,11 @@ pub fn from_data_with(
                 return Answer::ScriptFull;
             }
             if spare.len() < n {
-                pass(data, payload, script);
+                parse(data, payload, script);
                 return Answer::Read(n, m);
             }
             if other.len() < m {
-                pass(data, payload, script);
+                parse(data, payload, script);
                 return Answer::Read(n, m);
             }
             copy(payload, spare, n);

@@ -12,7 +12,7 @@ use Rattle.segments.specs.declared.Answer.{Answer}
 use Rattle.segments.specs.declared.Answer.the-variants.{Read}
 use Rattle.segments.specs.Script.{Segment, payloadOf, scriptOf}
 use Rattle.segments.specs.Segments.{segmentsOf}
-use Rattle.segments.specs.FromData.{DataOutcome, dataOutcome, refusedData, given, isBroken, fromData}
+use Rattle.segments.specs.FromData.{DataOutcome, dataOutcome, refusedData, inBuffers, isBroken, fromData}
 use Rattle.segments.proofs.Theorems.{room-enough}
 use Rattle.receipts.specs.declared.Told.{Told}
 use Rattle.receipts.specs.Inner.{Refuses, Answers, Tells}
@@ -49,8 +49,8 @@ little-if : (b : Bool) (o q : DataOutcome) → Little o → Little q → Little 
 little-if true o q l m = l
 little-if false o q l m = m
 
-little-given : (gs : List Segment) (p c : List ℕ) → length (payloadOf gs) ≤ 12288 → length (scriptOf gs) ≤ 12288 → Little (given gs p c)
-little-given gs p c h k =
+little-in-buffers : (gs : List Segment) (p c : List ℕ) → length (payloadOf gs) ≤ 12288 → length (scriptOf gs) ≤ 12288 → Little (inBuffers gs p c)
+little-in-buffers gs p c h k =
     little-if (eqb (length (payloadOf gs)) 0) _ _ (little-refused 8 p c (omega arith))
     (little-if (ltb (length p) (length (payloadOf gs))) _ _ (little-refused 9 p c (omega arith))
     (little-if (ltb (length c) (length (scriptOf gs))) _ _ (little-refused 10 p c (omega arith))
@@ -60,7 +60,7 @@ pub from-data-little : (s p c : List ℕ) → length s ≤ 3886 → Little (from
 from-data-little s p c h =
     little-if (ltb 3886 (length s)) _ _ (little-refused 2 p c (omega arith))
     (little-if (isBroken (segmentsOf s .end)) _ _ (little-refused 7 p c (omega arith))
-    (little-given (segmentsOf s .segments) p c (room-enough s h .0) (room-enough s h .1)))
+    (little-in-buffers (segmentsOf s .segments) p c (room-enough s h .0) (room-enough s h .1)))
 
 -- what is told of the answer is told of the outcome
 pub tells : (n : ℕ) (a : Answer) (t : Told) (d p₀ s₀ p s : List ℕ) (m : ℕ) → n < 65536 → length d ≡ m → m ≤ 3886 → Answers a n t → dataOutcome a p s ≡ fromData d p₀ s₀

@@ -1,7 +1,7 @@
--- Segments that are written are read back, with zero bits behind them; and their number of bits is what the formulas say.
+-- Segments that are written are read back, with zero bits behind them.
 use mathlib.Core.Path.{_≡_, refl, ap, _∙_}
 use mathlib.Core.Bool.{Bool, true, false, cond}
-use mathlib.Core.List.{List, [], _∷_, _++_, append-assoc}
+use mathlib.Core.List.{List, [], _∷_, _++_, append-assoc, flatMap}
 use Prim.Native.Nat.{ℕ, zero, suc, _+_, _*_, _^_, _<_, _≤_}
 use native.Mathlib.Nat.{le-of-suc-le-suc}
 use native.Mathlib.Omega.{arith}
@@ -14,10 +14,10 @@ use Rattle.bits.proofs.Words.{length-low, low-back, length-words, words-back}
 use Rattle.segments.specs.Script.{Segment, run, eci}
 use Rattle.segments.specs.FromData.{isBroken}
 use Rattle.segments.specs.Segments.{Result, got, inBits, numericOf, textOf, bytesMode, regionOf, doubleByteOf, fourBytes, fourByteOf, eciValue, eciOf, bytesOfMode, segmentOf, Parsed, following, parse}
-use Rattle.script.specs.Writer.{all, numericWords, textWords, regionWords, doubleWords, fourCode, same, inFour, eciBits, modeHas, modeBits, modeLength, eciLength, has, encodingOf, bitsOfSegment, allHave, encodings, bitsOfSegments}
+use Rattle.script.specs.Writer.{all, numericWords, textWords, regionWords, doubleWords, fourCode, same, inFour, eciBits, modeHas, modeBits, has, encodingOf, allHave, encodings}
 use Rattle.script.proofs.Tests.{both, same-is}
-use Rattle.script.proofs.Digits.{numeric-back, numeric-small, numeric-length}
-use Rattle.script.proofs.Characters.{text-back, text-small, text-length, region-back, region-small, region-length, double-back, double-small, double-length, bytes-back}
+use Rattle.script.proofs.Digits.{numeric-back, numeric-small}
+use Rattle.script.proofs.Characters.{text-back, text-small, region-back, region-small, double-back, double-small, bytes-back}
 
 -- ---- the modes in bits
 
@@ -133,7 +133,7 @@ zeros (suc (suc (suc (suc z)))) (suc k) h =
     rw (le-ltb (suc (suc (suc (suc (length l))))) 4 (omega arith)) (refl, refl)
 
 pub round : (k : ℕ) (gs : List Segment) (z : ℕ) → length gs < k → AllLegal gs → allHave gs ≡ true → Whole (parse k (encodings gs ++ replicate z 0)) gs
-unfolding encodings allHave
+unfolding encodings allHave flatMap
 round zero gs z h l t = absurd (omega arith)
 round (suc k) [] z h l t = zeros z (suc k) (omega arith)
 round (suc k) (g ∷ gs) z h l t =
@@ -145,37 +145,3 @@ round (suc k) (g ∷ gs) z h l t =
     append-assoc (encodingOf g) (encodings gs) (replicate z 0) ∙ rw (encoding-parts g) (append-assoc (lowBits 4 (modeOf g)) (bodyOf g) x) in
     rw (e, opened k (modeOf g) (bodyOf g ++ x) (m .0) (m .1), segment-back g x (l .0) (a .0), drop-at (bodyOf g) x (length (bodyOf g)) refl)
     (ap (λ (z : List Segment). g ∷ z) (r .0), r .1)
-
--- ---- the number of bits
-
-mode-length : (mode : ℕ) (bs : List ℕ) → Legal (run mode bs) → modeHas mode bs ≡ true → 4 + length (modeBits mode bs) ≡ modeLength mode bs
-unfolding modeHas modeBits modeLength
-mode-length zero bs l h = absurd (omega arith)
-mode-length (suc zero) bs l h = rw (length-words 10 (numericWords bs), numeric-length bs) (omega arith)
-mode-length (suc (suc zero)) bs l h = rw (length-words 6 (textWords true bs), text-length true bs) (omega arith)
-mode-length (suc (suc (suc zero))) bs l h = rw (length-append (lowBits 13 (length bs)) (wordBits 8 bs), length-low, length-words) (omega arith)
-mode-length (suc (suc (suc (suc zero)))) bs l h = rw (length-words 12 (regionWords true bs), region-length true bs h) (omega arith)
-mode-length (suc (suc (suc (suc (suc zero))))) bs l h = rw (length-words 12 (regionWords false bs), region-length false bs h) (omega arith)
-mode-length (suc (suc (suc (suc (suc (suc zero)))))) bs l h = rw (length-words 15 (doubleWords bs), double-length bs h) (omega arith)
-mode-length (suc (suc (suc (suc (suc (suc (suc zero))))))) bs l h = rw length-low
-mode-length (suc (suc (suc (suc (suc (suc (suc (suc m)))))))) bs l h = absurd (omega arith)
-
-eci-length : (v : ℕ) → 4 + length (eciBits v) ≡ eciLength v
-unfolding eciBits eciLength
-eci-length v = go (ltb v 128) (ltb v 16384)
-  where
-    go : (a b : Bool) → 4 + length (cond a (0 ∷ lowBits 7 v) (cond b (1 ∷ 0 ∷ lowBits 14 v) (1 ∷ 1 ∷ 0 ∷ lowBits 21 v))) ≡ cond a 12 (cond b 20 28)
-    go true b = rw length-low
-    go false true = rw length-low
-    go false false = rw length-low
-
-pub segment-length : (g : Segment) → Legal g → has g ≡ true → length (encodingOf g) ≡ bitsOfSegment g
-segment-length (run mode bs) l h = rw (length-append (lowBits 4 mode) (modeBits mode bs), length-low) (mode-length mode bs l h)
-segment-length (eci v) l h = rw (length-append (lowBits 4 8) (eciBits v), length-low) (eci-length v)
-
-pub encodings-length : (gs : List Segment) → AllLegal gs → allHave gs ≡ true → length (encodings gs) ≡ bitsOfSegments gs
-unfolding encodings allHave bitsOfSegments
-encodings-length [] l h = refl
-encodings-length (g ∷ gs) l h =
-    let a = both (has g) (allHave gs) h in
-    length-append (encodingOf g) (encodings gs) ∙ rw (segment-length g (l .0) (a .0), encodings-length gs (l .1) (a .1))

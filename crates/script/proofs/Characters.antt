@@ -7,7 +7,8 @@ use native.Mathlib.Omega.{arith}
 use borrow.Author.Tests.{ne-eqb, lt-ltb}
 use lib.ListN.{length, getD}
 use Rattle.segments.specs.Segments.{got, before, charOf, textOf, highOf, lowOf, regionSize, regionOf, doubleByteOf, bytesRun}
-use Rattle.script.specs.Writer.{all, allPairs, codeOf, inSubset, inText, textWords, textSwitches, pairCode, inRegion, inRegions, regionWords, regionSwitches, doubleCode, inDouble, doubleWords}
+use Rattle.script.specs.Writer.{all, allPairs, codeOf, inSubset, inText, textWords, pairCode, inRegion, inRegions, regionWords, doubleCode, inDouble, doubleWords}
+use Rattle.script.specs.Lengths.{textSwitches, regionSwitches}
 use Rattle.script.proofs.Tests.{both, false-true, subset-has, other-subset, region-has, other-region, double-has, small-cons}
 
 -- ---- text

@@ -17,10 +17,11 @@ use Rattle.script.specs.declared.Command.the-variants.{Run, Eci, Wrong}
 use Rattle.script.specs.declared.Check.the-variants.{Bits, Malformed, Lacking, Empty}
 use Rattle.script.specs.declared.Cost.{Cost}
 use Rattle.script.specs.declared.Cost.the-variants.{Takes, Lacks}
-use Rattle.script.specs.Writer.{modeHas, modeLength, eciLength, has, bitsOfSegment, allHave, bitsOfSegments}
-use Rattle.script.specs.Check.{allowed, lengthOperand, valueOperand, segmentAt, commands}
-use Rattle.script.specs.Inner.{runAt, eciAt, commandAt, commandSize, made, with, most, capped, checkedOf, settled}
-use Rattle.script.specs.Glyphs.{costOf, Limited}
+use Rattle.script.specs.Writer.{modeHas, has, allHave}
+use Rattle.script.specs.Lengths.{modeLength, eciLength, bitsOfSegment, bitsOfSegments}
+use Rattle.script.specs.Check.{allowed, segmentAt, commands}
+use Rattle.script.specs.Inner.{lengthOperand, valueOperand, runAt, eciAt, commandAt, commandSize, made, with, most, capped, checkedOf, settled}
+use Rattle.script.specs.Characters.{costOf, Limited}
 use Rattle.script.proofs.Tests.{both}
 
 -- ---- the command at a place

@@ -1,7 +1,7 @@
 -- The data bytes of segments: as many as asked for, and their bits are those of the segments with zeros behind.
 use mathlib.Core.Path.{_≡_, ap, _∙_, sym}
 use mathlib.Core.Bool.{Bool, true, false, cond}
-use mathlib.Core.List.{List, [], _∷_, _++_}
+use mathlib.Core.List.{List, [], _∷_, _++_, flatMap}
 use Prim.Native.Nat.{ℕ, zero, suc, _-_, _*_, _/_, _%_, _^_, _<_, _≤_}
 use native.Mathlib.Omega.{arith}
 use lib.Dec.{eqb, ltb}
@@ -11,7 +11,7 @@ use Rattle.bits.proofs.Reading.{length-bits}
 use Rattle.bits.proofs.Words.{length-low}
 use Rattle.bits.proofs.Bytes.{bits-words}
 use Rattle.segments.specs.Script.{Segment, run, eci}
-use Rattle.script.specs.Writer.{numericWords, textWords, regionWords, doubleWords, fourCode, eciBits, modeBits, encodingOf, encodings, paddedBits, dataBytes}
+use Rattle.script.specs.Writer.{numericWords, textWords, regionWords, doubleWords, fourCode, eciBits, modeBits, encodingOf, encodings, dataBytes}
 use Rattle.script.proofs.Tests.{small-cons}
 
 -- a list of bits
@@ -58,9 +58,13 @@ encoding-small (eci v) =
     (small-cons 1 2 (1 ∷ 0 ∷ lowBits 21 v) (omega arith) (small-cons 1 2 (0 ∷ lowBits 21 v) (omega arith) (small-cons 0 2 (lowBits 21 v) (omega arith) (low-small 21 v))))))
 
 encodings-small : (gs : List Segment) → Small (encodings gs)
-unfolding encodings
+unfolding encodings flatMap
 encodings-small [] = λ i. omega arith
 encodings-small (g ∷ gs) = append-small (encodingOf g) (encodings gs) (encoding-small g) (encodings-small gs)
+
+-- the bits of the data bytes
+abbrev pub paddedBits : ℕ → List Segment → List ℕ
+paddedBits n gs = encodings gs ++ replicate (8 * n - length (encodings gs)) 0
 
 pub padded-length : (n : ℕ) (gs : List Segment) → length (encodings gs) ≤ 8 * n → length (paddedBits n gs) ≡ 8 * n
 padded-length n gs h = length-append (encodings gs) (replicate (8 * n - length (encodings gs)) 0) ∙ rw length-replicate (omega arith)
@@ -80,7 +84,7 @@ data-length n gs h =
 
 -- each segment has bits
 pub count-bits : (gs : List Segment) → length gs ≤ length (encodings gs)
-unfolding encodings
+unfolding encodings flatMap
 count-bits [] = omega arith
 count-bits (g ∷ gs) = let h = count-bits gs in let k = four g in omega (arith, length-append (encodingOf g) (encodings gs))
   where

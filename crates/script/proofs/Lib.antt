@@ -3,9 +3,9 @@ pub mod Tests
 pub mod Digits
 pub mod Characters
 pub mod Back
+pub mod Lengths
 pub mod Scripts
 pub mod Data
 pub mod Theorems
-pub mod Codes
 pub mod Runs
 pub mod Checks

@@ -1,5 +1,5 @@
 -- Runs of characters, word by word.
-use mathlib.Core.Path.{_≡_, refl, ap, _∙_, subst}
+use mathlib.Core.Path.{_≡_, refl, ap, _∙_, subst, sym}
 use mathlib.Core.Bool.{Bool, true, false, cond, not, _&&_}
 use mathlib.Core.List.{List, [], _∷_}
 use Prim.Native.Nat.{ℕ, zero, suc, _+_, _-_, _*_, _/_, _%_, _<_, _≤_}
@@ -11,21 +11,23 @@ use lib.Dec.{eqb, ltb}
 use lib.ListN.{length, getD, drop, length-drop, drop-of-length-le}
 use lib.Seq.{drop-cons, drop-drop}
 use Rattle.segments.specs.Segments.{fourBytes}
-use Rattle.script.specs.declared.Glyph.{Glyph}
-use Rattle.script.specs.declared.Glyph.the-variants.{Same, Other, Lacking}
+use Rattle.script.specs.declared.Character.{Character}
+use Rattle.script.specs.declared.Character.the-variants.{Same, Other, Lacking}
 use Rattle.script.specs.declared.Cost.the-variants.{Takes, Lacks}
-use Rattle.script.specs.Writer.{all, allPairs, isDigit, codeOf, inSubset, inText, pairCode, inRegion, inRegions, doubleCode, inDouble, textWords, textSwitches, regionWords, regionSwitches, doubleWords, fourCode, same, inFour, modeHas, modeLength}
-use Rattle.script.specs.Glyphs.{wordsOf, hasAll, stepOf, widthOf, switchOf, endOf, textGlyph, regionGlyph, doubleGlyph, Glyphed, beginsIn, charCost, costOf}
+use Rattle.script.specs.Writer.{all, allPairs, isDigit, codeOf, inSubset, inText, pairCode, inRegion, inRegions, doubleCode, inDouble, textWords, regionWords, doubleWords, fourCode, same, inFour, modeHas}
+use Rattle.script.specs.Lengths.{textSwitches, regionSwitches, modeLength}
+use Rattle.script.specs.Characters.{wordsOf, hasAll, stepOf, widthOf, switchOf, endOf, textCharacter, regionCharacter, doubleCharacter, CharacterIs, beginsIn, charCost, costOf}
+use Rattle.script.proofs.Tests.{both, same-is}
 use Rattle.script.proofs.Characters.{text-length, region-length, double-length}
 
 -- ---- the character at the front
 
-text-front : (f : Bool) (b : ℕ) (bs : List ℕ) → Glyphed 2 f (b ∷ bs) (textGlyph f b)
-unfolding wordsOf hasAll stepOf switchOf textGlyph textWords inText
+text-front : (f : Bool) (b : ℕ) (bs : List ℕ) → CharacterIs 2 f (b ∷ bs) (textCharacter f b)
+unfolding wordsOf hasAll stepOf switchOf textCharacter textWords inText
 text-front f b bs = go f (inSubset f b) refl (inSubset (not f) b) refl
   where
     go : (f : Bool) (x : Bool) → inSubset f b ≡ x → (y : Bool) → inSubset (not f) b ≡ y
-        → Glyphed 2 f (b ∷ bs) (cond x (Same (codeOf f b)) (cond y (Other (codeOf (not f) b)) Lacking))
+        → CharacterIs 2 f (b ∷ bs) (cond x (Same (codeOf f b)) (cond y (Other (codeOf (not f) b)) Lacking))
     go true true p y q = (rw p, rw p, omega arith)
     go true false p true q = (rw p, rw (p, q), omega arith)
     go true false p false q = rw (p, q)
@@ -34,8 +36,8 @@ text-front f b bs = go f (inSubset f b) refl (inSubset (not f) b) refl
     go false false p true q = (rw p, rw q, omega arith)
     go false false p false q = rw (q, p)
 
-region-front : (mode : ℕ) (f : Bool) (a b : ℕ) (bs : List ℕ) → (mode ≡ 2 → ⊥) → (mode ≡ 6 → ⊥) → Glyphed mode f (a ∷ b ∷ bs) (regionGlyph f a b)
-unfolding wordsOf hasAll stepOf switchOf regionGlyph regionWords inRegions
+region-front : (mode : ℕ) (f : Bool) (a b : ℕ) (bs : List ℕ) → (mode ≡ 2 → ⊥) → (mode ≡ 6 → ⊥) → CharacterIs mode f (a ∷ b ∷ bs) (regionCharacter f a b)
+unfolding wordsOf hasAll stepOf switchOf regionCharacter regionWords inRegions
 region-front mode f a b bs n2 n6 = go f (inRegion f a b) refl (inRegion (not f) a b) refl
   where
     e2 : eqb mode 2 ≡ false
@@ -45,7 +47,7 @@ region-front mode f a b bs n2 n6 = go f (inRegion f a b) refl (inRegion (not f) 
     e6 = ne-eqb mode 6 n6
 
     go : (f : Bool) (x : Bool) → inRegion f a b ≡ x → (y : Bool) → inRegion (not f) a b ≡ y
-        → Glyphed mode f (a ∷ b ∷ bs) (cond x (Same (pairCode f a b)) (cond y (Other (pairCode (not f) a b)) Lacking))
+        → CharacterIs mode f (a ∷ b ∷ bs) (cond x (Same (pairCode f a b)) (cond y (Other (pairCode (not f) a b)) Lacking))
     go true true p y q = (rw (e2, e6, p), rw (e2, e6, p), rw e2 (omega arith))
     go true false p true q = (rw (e2, e6, p), rw (e2, e6, p, q), rw e2 (omega arith))
     go true false p false q = rw (e2, e6, p, q)
@@ -54,15 +56,15 @@ region-front mode f a b bs n2 n6 = go f (inRegion f a b) refl (inRegion (not f) 
     go false false p true q = (rw (e2, e6, p), rw (e2, e6, q), rw e2 (omega arith))
     go false false p false q = rw (e2, e6, q, p)
 
-double-front : (f : Bool) (a b : ℕ) (bs : List ℕ) → Glyphed 6 f (a ∷ b ∷ bs) (doubleGlyph a b)
-unfolding wordsOf hasAll stepOf switchOf doubleGlyph doubleWords
+double-front : (f : Bool) (a b : ℕ) (bs : List ℕ) → CharacterIs 6 f (a ∷ b ∷ bs) (doubleCharacter a b)
+unfolding wordsOf hasAll stepOf switchOf doubleCharacter doubleWords
 double-front f a b bs = go (inDouble a b) refl
   where
-    go : (x : Bool) → inDouble a b ≡ x → Glyphed 6 f (a ∷ b ∷ bs) (cond x (Same (doubleCode a b)) Lacking)
+    go : (x : Bool) → inDouble a b ≡ x → CharacterIs 6 f (a ∷ b ∷ bs) (cond x (Same (doubleCode a b)) Lacking)
     go true p = (refl, rw p, omega arith)
     go false p = rw p
 
-alone : (mode : ℕ) (f : Bool) (bs : List ℕ) → (mode ≡ 2 → ⊥) → 0 < length bs → length bs < 2 → Glyphed mode f bs Lacking
+alone : (mode : ℕ) (f : Bool) (bs : List ℕ) → (mode ≡ 2 → ⊥) → 0 < length bs → length bs < 2 → CharacterIs mode f bs Lacking
 unfolding hasAll
 alone mode f [] n p h = absurd (omega arith)
 alone mode f (a ∷ []) n p h = rw (ne-eqb mode 2 n) (go (eqb mode 6))
@@ -73,26 +75,26 @@ alone mode f (a ∷ []) n p h = rw (ne-eqb mode 2 n) (go (eqb mode 6))
 alone mode f (a ∷ b ∷ bs) n p h = absurd (omega arith)
 
 -- the same at a place of a run
-module _ (run : List ℕ) (mode : ℕ) (f : Bool) (j : ℕ) (h : j < length run) (r : Glyph) where
-  pub text-glyph : mode ≡ 2 → r ≡ textGlyph f (getD run j 0) → Glyphed mode f (drop j run) r
-  text-glyph e q = rw (e, q, drop-cons run j 0 h) (text-front f (getD run j 0) (drop (suc j) run))
+module _ (run : List ℕ) (mode : ℕ) (f : Bool) (j : ℕ) (h : j < length run) (r : Character) where
+  pub text-character : mode ≡ 2 → r ≡ textCharacter f (getD run j 0) → CharacterIs mode f (drop j run) r
+  text-character e q = rw (e, q, drop-cons run j 0 h) (text-front f (getD run j 0) (drop (suc j) run))
 
-  pub alone-glyph : (mode ≡ 2 → ⊥) → length run - j < 2 → Glyphed mode f (drop j run) Lacking
-  alone-glyph n l = alone mode f (drop j run) n (rw length-drop (omega arith)) (rw length-drop l)
+  pub alone-character : (mode ≡ 2 → ⊥) → length run - j < 2 → CharacterIs mode f (drop j run) Lacking
+  alone-character n l = alone mode f (drop j run) n (rw length-drop (omega arith)) (rw length-drop l)
 
   module _ (l : j + 1 < length run) where
     pair : drop j run ≡ getD run j 0 ∷ getD run (j + 1) 0 ∷ drop (suc (suc j)) run
     pair = let e : j + 1 ≡ suc j = omega arith in drop-cons run j 0 h ∙ rw (e, drop-cons run (suc j) 0 (omega arith))
 
-    pub double-glyph : mode ≡ 6 → r ≡ doubleGlyph (getD run j 0) (getD run (j + 1) 0) → Glyphed mode f (drop j run) r
-    double-glyph e q = rw (e, q, pair) (double-front f (getD run j 0) (getD run (j + 1) 0) (drop (suc (suc j)) run))
+    pub double-character : mode ≡ 6 → r ≡ doubleCharacter (getD run j 0) (getD run (j + 1) 0) → CharacterIs mode f (drop j run) r
+    double-character e q = rw (e, q, pair) (double-front f (getD run j 0) (getD run (j + 1) 0) (drop (suc (suc j)) run))
 
-    pub region-glyph : (mode ≡ 2 → ⊥) → (mode ≡ 6 → ⊥) → r ≡ regionGlyph f (getD run j 0) (getD run (j + 1) 0) → Glyphed mode f (drop j run) r
-    region-glyph n m q = rw (q, pair) (region-front mode f (getD run j 0) (getD run (j + 1) 0) (drop (suc (suc j)) run) n m)
+    pub region-character : (mode ≡ 2 → ⊥) → (mode ≡ 6 → ⊥) → r ≡ regionCharacter f (getD run j 0) (getD run (j + 1) 0) → CharacterIs mode f (drop j run) r
+    region-character n m q = rw (q, pair) (region-front mode f (getD run j 0) (getD run (j + 1) 0) (drop (suc (suc j)) run) n m)
 
 -- ---- along a run
 
-module _ (run : List ℕ) (mode : ℕ) (f : Bool) (j w by : ℕ) (r : Glyph) (h : Glyphed mode f (drop j run) r) (b : by ≡ stepOf mode) (p : 0 < by) where
+module _ (run : List ℕ) (mode : ℕ) (f : Bool) (j w by : ℕ) (r : Character) (h : CharacterIs mode f (drop j run) r) (b : by ≡ stepOf mode) (p : 0 < by) where
   -- k words behind, in a subset or region g
   abbrev Past : ℕ → Bool → Type 0
   Past k g =
@@ -104,16 +106,16 @@ module _ (run : List ℕ) (mode : ℕ) (f : Bool) (j w by : ℕ) (r : Glyph) (h 
 
   pub run-same : r ≡ Same w → Past 1 f
   run-same e =
-      let g : Glyphed mode f (drop j run) (Same w) = subst (λ (z : Glyph). Glyphed mode f (drop j run) z) e h in
+      let g : CharacterIs mode f (drop j run) (Same w) = subst (λ (z : Character). CharacterIs mode f (drop j run) z) e h in
       (room (g .2), rw b (rw drop-drop at (g .1)), rw b (ap length (g .0) ∙ rw drop-drop (omega arith)))
 
   pub run-other : r ≡ Other w → Past 2 (not f)
   run-other e =
-      let g : Glyphed mode f (drop j run) (Other w) = subst (λ (z : Glyph). Glyphed mode f (drop j run) z) e h in
+      let g : CharacterIs mode f (drop j run) (Other w) = subst (λ (z : Character). CharacterIs mode f (drop j run) z) e h in
       (room (g .2), rw b (rw drop-drop at (g .1)), rw b (ap length (g .0) ∙ rw drop-drop (omega arith)))
 
   pub run-lacks : r ≡ Lacking → hasAll mode (drop j run) ≡ false
-  run-lacks e = subst (λ (z : Glyph). Glyphed mode f (drop j run) z) e h
+  run-lacks e = subst (λ (z : Character). CharacterIs mode f (drop j run) z) e h
 
 nothing : (mode : ℕ) → hasAll mode [] ≡ true
 unfolding hasAll
@@ -212,36 +214,17 @@ four-same w (a ∷ b ∷ c ∷ []) e = absurd (omega arith)
 four-same w (a ∷ b ∷ c ∷ d ∷ []) e = refl
 four-same w (a ∷ b ∷ c ∷ d ∷ x ∷ s) e = absurd (omega arith)
 
-pub four-other : (w : ℕ) (s : List ℕ) → (length s ≡ 4 → ⊥) → same (fourBytes w) s ≡ false
-unfolding same fourBytes
-four-other w [] e = refl
-four-other w (a ∷ []) e = go (eqb (0x81 + w / 12600) a)
+-- four bytes are four
+pub four-long : (s : List ℕ) → inFour s ≡ true → length s ≡ 4
+unfolding inFour fourBytes
+four-long s h = sym (ap length (same-is (fourBytes (fourCode s)) s (both (ltb (fourCode s) 1587600) (same (fourBytes (fourCode s)) s) h .1)))
+
+pub four-other : (s : List ℕ) → (length s ≡ 4 → ⊥) → false ≡ inFour s
+four-other s n = go (inFour s) refl
   where
-    go : (x : Bool) → (x && false) ≡ false
-    go true = refl
-    go false = refl
-four-other w (a ∷ b ∷ []) e = go (eqb (0x81 + w / 12600) a) (eqb (0x30 + w % 12600 / 1260) b)
-  where
-    go : (x y : Bool) → (x && (y && false)) ≡ false
-    go true true = refl
-    go true false = refl
-    go false y = refl
-four-other w (a ∷ b ∷ c ∷ []) e = go (eqb (0x81 + w / 12600) a) (eqb (0x30 + w % 12600 / 1260) b) (eqb (0x81 + w % 1260 / 10) c)
-  where
-    go : (x y z : Bool) → (x && (y && (z && false))) ≡ false
-    go true true true = refl
-    go true true false = refl
-    go true false z = refl
-    go false y z = refl
-four-other w (a ∷ b ∷ c ∷ d ∷ []) e = absurd (e refl)
-four-other w (a ∷ b ∷ c ∷ d ∷ x ∷ s) e = go (eqb (0x81 + w / 12600) a) (eqb (0x30 + w % 12600 / 1260) b) (eqb (0x81 + w % 1260 / 10) c) (eqb (0x30 + w % 10) d)
-  where
-    go : (x y z v : Bool) → (x && (y && (z && (v && false)))) ≡ false
-    go true true true true = refl
-    go true true true false = refl
-    go true true false v = refl
-    go true false z v = refl
-    go false y z v = refl
+    go : (x : Bool) → inFour s ≡ x → false ≡ x
+    go true e = absurd (n (four-long s e))
+    go false e = refl
 
 pub last-and : (b : Bool) → b ≡ (b && true)
 last-and true = refl

@@ -2,7 +2,7 @@
 use mathlib.Core.Path.{_≡_, refl}
 use mathlib.Core.Bool.{Bool, true, false, cond, _&&_}
 use mathlib.Core.Option.{Option, none, some, bind}
-use mathlib.Core.List.{List, [], _∷_, _++_}
+use mathlib.Core.List.{List, [], _∷_, _++_, flatMap}
 use Prim.Native.Nat.{ℕ, zero, suc, _+_, _*_, _/_, _%_, _<_, _≤_}
 use native.Mathlib.Omega.{arith}
 use borrow.Author.Tests.{eqb-true, eqb-false, ltb-false, ltb-true, leb-true, eq-eqb, ne-eqb}
@@ -11,8 +11,8 @@ use lib.ListN.{length, getD, take, drop, take-append-drop}
 use lib.Seq.{getD-drop, length-take-le}
 use Rattle.bits.proofs.Tests.{never}
 use Rattle.segments.specs.Script.{Segment, run, eci, bytesOf, runCommand, commandOf, payloadOf, scriptOf}
-use Rattle.script.specs.Check.{allowed, lengthOperand, valueOperand, taking, segmentAt, commands}
-use Rattle.script.specs.Inner.{with}
+use Rattle.script.specs.Check.{allowed, taking, segmentAt, commands}
+use Rattle.script.specs.Inner.{lengthOperand, valueOperand, with}
 use Rattle.script.proofs.Tests.{both}
 use Rattle.script.proofs.Back.{Legal, AllLegal}
 
@@ -128,7 +128,7 @@ module _ (k : ℕ) (s p : List ℕ) (gs : List Segment) (b : (i : ℕ) → getD 
   behind g = commands k (drop (length (commandOf g)) s) (drop (length (bytesOf g)) p)
 
   rest : (g : Segment) → Front s p (some g) → (z : Option (List Segment)) → behind g ≡ z → with g z ≡ some gs → Again s p gs
-  unfolding scriptOf payloadOf
+  unfolding scriptOf payloadOf flatMap
   rest g f none q h = never cc
   rest g f (some hs) q h =
       let e : gs ≡ g ∷ hs = cc in
@@ -142,7 +142,7 @@ module _ (k : ℕ) (s p : List ℕ) (gs : List Segment) (b : (i : ℕ) → getD 
 
   more : (x : Bool) → eqb (length s) 0 ≡ x → (y : Bool) → eqb (length p) 0 ≡ y
       → cond x (cond y (some []) none) (bind (segmentAt s p) (λ g. with g (behind g))) ≡ some gs → Again s p gs
-  unfolding scriptOf payloadOf
+  unfolding scriptOf payloadOf flatMap
   more true q false r h = never cc
   more true q true r h =
       let g : gs ≡ [] = cc in

@@ -11,11 +11,17 @@ use Rattle.segments.specs.Script.{Segment}
 use Rattle.segments.specs.Segments.{segmentsOf}
 use Rattle.segments.specs.FromData.{fromData}
 use Rattle.script.specs.Writer.{allHave, encodings, dataBytes}
+use Rattle.script.specs.Lengths.{bitsOfSegments}
 use Rattle.script.specs.Check.{commandsOf, scriptData}
 use Rattle.script.specs.Inner.{most, capped, Fits}
-use Rattle.script.proofs.Back.{AllLegal, Whole, round, encodings-length}
+use Rattle.script.proofs.Back.{AllLegal, Whole, round}
+use Rattle.script.proofs.Lengths.{encodings-length}
 use Rattle.script.proofs.Data.{data-bits, data-length, count-bits}
 use Rattle.script.proofs.Scripts.{Again, commands-again}
+
+-- NUMBER OF BITS. Segments whose modes have their bytes take as many bits as the formulas of SPECIFICATION 9.4 say.
+pub bits-by-formulas : (gs : List Segment) → allHave gs ≡ true → length (encodings gs) ≡ bitsOfSegments gs
+bits-by-formulas = encodings-length
 
 -- a number of bits that stops is at most the bits of data exactly where the number itself is
 pub capped-fits : (b n : ℕ) → n ≤ 3886 → leb (capped b) (8 * n) ≡ leb b (8 * n)
@@ -25,17 +31,14 @@ capped-fits b n h = go (ltb b most) refl
     go true e = refl
     go false e = let k = ltb-false b most e in rw (lt-leb most (8 * n) (omega arith), lt-leb b (8 * n) (omega arith))
 
--- what is accepted and fits n bytes: its segments have this script and payload again, and their encoding has no more bits
+-- what is accepted and fits n bytes: its segments have this script and payload again
 module _ (s p : List ℕ) (n : ℕ) (b : (i : ℕ) → getD s i 0 < 256) (f : Fits s p n) where
   pub again : Again s p (f .segments)
   again = commands-again (length s + 1) s p (f .segments) b (f .are)
 
-  pub encodings-fit : length (encodings (f .segments)) ≤ 8 * n
-  encodings-fit = rw (encodings-length (f .segments) (again .2) (f .have)) (f .room)
-
   -- the encoding has n bytes
   pub encoded-data : (scriptData n (commandsOf s p) ≡ dataBytes n (f .segments)) × (length (dataBytes n (f .segments)) ≡ n)
-  encoded-data = (ap (scriptData n) (f .are), data-length n (f .segments) encodings-fit)
+  encoded-data = (ap (scriptData n) (f .are), data-length n (f .segments) (f .room))
 
 read-back : (n : ℕ) (gs : List Segment) → AllLegal gs → allHave gs ≡ true → length (encodings gs) ≤ 8 * n → Whole (segmentsOf (dataBytes n gs)) gs
 read-back n gs l h k = rw (data-length n gs k, data-bits n gs k) (round (8 * n + 1) gs (8 * n - length (encodings gs)) (omega (arith, count-bits gs)) l h)
@@ -49,7 +52,7 @@ pub round-trip : (s p : List ℕ) (n : ℕ) (buffer other : List ℕ) → ((i : 
 round-trip s p n buffer other b f m lp ls =
     let gs = f .segments in
     let g = again s p n b f in
-    let k = encodings-fit s p n b f in
+    let k = f .room in
     let z = read-back n gs (g .2) (f .have) k in
     let o = f .filled in
     let a = ne-eqb (length p) 0 (λ e. omega arith) in

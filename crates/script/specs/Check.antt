@@ -12,24 +12,18 @@ use Rattle.script.specs.Writer.{dataBytes}
 unfoldable pub allowed : ℕ → ℕ → Bool
 allowed mode n = cond (eqb mode 1) (ltb 0 n) (cond (eqb mode 3) (leb n 8191) (cond (leb 4 mode) (eqb (n % 2) 0) true))
 
--- the operands behind the first byte of a script, big-endian: a length in 2 bytes, a value in 3
-abbrev pub lengthOperand : List ℕ → ℕ
-lengthOperand s = getD s 1 0 * 256 + getD s 2 0
-
-abbrev pub valueOperand : List ℕ → ℕ
-valueOperand s = getD s 1 0 * 65536 + getD s 2 0 * 256 + getD s 3 0
-
 -- the first n bytes of a payload as a segment of a mode, where there are so many
 abbrev pub taking : ℕ → ℕ → List ℕ → Option Segment
 taking mode n p = cond (ltb (length p) n) none (some (run mode (take n p)))
 
--- The segment that the command at the front of the script s makes of the payload p: mode 7 takes 4 bytes, mode 8 has a value below 2^21,
+-- The segment that the command at the front of the script s makes of the payload p; its operand is a length n in 2 bytes or a value v in 3,
+-- big-endian: mode 7 takes 4 bytes, mode 8 has a value below 2^21,
 -- modes 1 to 6 take as many bytes as their length says. None where the operand is cut short or not allowed, or the first byte is no command.
 unfoldable pub segmentAt : List ℕ → List ℕ → Option Segment
 segmentAt s p =
     let mode = getD s 0 0 in
-    let n = lengthOperand s in
-    let v = valueOperand s in
+    let n = getD s 1 0 * 256 + getD s 2 0 in
+    let v = getD s 1 0 * 65536 + getD s 2 0 * 256 + getD s 3 0 in
     cond (eqb mode 7) (taking 7 4 p)
     (cond (eqb mode 8) (cond (ltb (length s) 4) none (cond (ltb 2097151 v) none (some (eci v))))
     (cond (leb 1 mode && leb mode 6) (cond (ltb (length s) 3) none (cond (allowed mode n) (taking mode n p) none)) none))

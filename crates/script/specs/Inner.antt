@@ -12,8 +12,16 @@ use Rattle.script.specs.declared.Command.{Command}
 use Rattle.script.specs.declared.Command.the-variants.{Run, Eci, Wrong}
 use Rattle.script.specs.declared.Check.{Check}
 use Rattle.script.specs.declared.Check.the-variants.{Bits, Malformed, Lacking, Empty}
-use Rattle.script.specs.Writer.{allHave, bitsOfSegments}
-use Rattle.script.specs.Check.{allowed, lengthOperand, valueOperand, taking, commandsOf}
+use Rattle.script.specs.Writer.{allHave, encodings}
+use Rattle.script.specs.Lengths.{bitsOfSegments}
+use Rattle.script.specs.Check.{allowed, taking, commandsOf}
+
+-- the operands behind the first byte of a script, big-endian: a length in 2 bytes, a value in 3
+abbrev pub lengthOperand : List ℕ → ℕ
+lengthOperand s = getD s 1 0 * 256 + getD s 2 0
+
+abbrev pub valueOperand : List ℕ → ℕ
+valueOperand s = getD s 1 0 * 65536 + getD s 2 0 * 256 + getD s 3 0
 
 -- a command of modes 1 to 6 at the front of a script, an ECI, and any command
 unfoldable pub runAt : List ℕ → Command
@@ -67,4 +75,4 @@ pub record Fits (s p : List ℕ) (n : ℕ) : Type 0 where
   pub are : commandsOf s p ≡ some segments
   pub have : allHave segments ≡ true
   pub filled : 0 < length p
-  pub room : bitsOfSegments segments ≤ 8 * n
+  pub room : length (encodings segments) ≤ 8 * n

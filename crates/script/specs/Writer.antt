@@ -1,18 +1,16 @@
 -- SPECIFICATION 9: each command in its mode, switches only where the next character needs one, shortest ECI; all later bits 0.
--- And the number of bits, by the formulas of 9.4.
 use mathlib.Core.Bool.{Bool, true, false, cond, not, _&&_, _||_}
-use mathlib.Core.List.{List, [], _∷_, _++_}
-use Prim.Native.Nat.{ℕ, suc, _+_, _-_, _*_, _/_}
+use mathlib.Core.List.{List, [], _∷_, _++_, foldr, flatMap}
+use Prim.Native.Nat.{ℕ, _+_, _-_, _*_}
 use lib.Dec.{ltb, eqb, leb}
-use lib.ListN.{length, replicate}
+use lib.ListN.{length, getD, replicate}
 use Rattle.bits.specs.Bits.{lowBits, wordBits, words}
 use Rattle.segments.specs.Script.{Segment, run, eci}
 use Rattle.segments.specs.Segments.{charOf, highOf, lowOf, regionSize, firstByte, secondByte, fourBytes}
 
 -- every one passes a test
 abbrev pub all : (ℕ → Bool) → List ℕ → Bool
-all test [] = true
-all test (b ∷ bs) = test b && all test bs
+all test bs = foldr (λ b r. test b && r) true bs
 
 -- every pair passes a test; a byte left alone does not
 abbrev pub allPairs : (ℕ → ℕ → Bool) → List ℕ → Bool
@@ -49,16 +47,7 @@ inText b = inSubset true b || inSubset false b
 unfoldable pub textWords : Bool → List ℕ → List ℕ
 textWords subset [] = 63 ∷ []
 textWords subset (b ∷ bs) =
-    let same : List ℕ = codeOf subset b ∷ textWords subset bs in
-    let other : List ℕ = 62 ∷ codeOf (not subset) b ∷ textWords (not subset) bs in
-    cond (inSubset subset b) same other
-
-unfoldable pub textSwitches : Bool → List ℕ → ℕ
-textSwitches subset [] = 0
-textSwitches subset (b ∷ bs) =
-    let same = textSwitches subset bs in
-    let other = suc (textSwitches (not subset) bs) in
-    cond (inSubset subset b) same other
+    cond (inSubset subset b) (codeOf subset b ∷ textWords subset bs) (62 ∷ codeOf (not subset) b ∷ textWords (not subset) bs)
 
 -- ---- regions
 
@@ -80,17 +69,7 @@ unfoldable pub regionWords : Bool → List ℕ → List ℕ
 regionWords region [] = 4095 ∷ []
 regionWords region (a ∷ []) = 4095 ∷ []
 regionWords region (a ∷ b ∷ bs) =
-    let same : List ℕ = pairCode region a b ∷ regionWords region bs in
-    let other : List ℕ = 4094 ∷ pairCode (not region) a b ∷ regionWords (not region) bs in
-    cond (inRegion region a b) same other
-
-unfoldable pub regionSwitches : Bool → List ℕ → ℕ
-regionSwitches region [] = 0
-regionSwitches region (a ∷ []) = 0
-regionSwitches region (a ∷ b ∷ bs) =
-    let same = regionSwitches region bs in
-    let other = suc (regionSwitches (not region) bs) in
-    cond (inRegion region a b) same other
+    cond (inRegion region a b) (pairCode region a b ∷ regionWords region bs) (4094 ∷ pairCode (not region) a b ∷ regionWords (not region) bs)
 
 -- ---- two-byte
 
@@ -108,11 +87,7 @@ doubleWords (a ∷ b ∷ bs) = doubleCode a b ∷ doubleWords bs
 -- ---- four-byte
 
 unfoldable pub fourCode : List ℕ → ℕ
-fourCode [] = 0
-fourCode (a ∷ []) = 0
-fourCode (a ∷ b ∷ []) = 0
-fourCode (a ∷ b ∷ c ∷ []) = 0
-fourCode (a ∷ b ∷ c ∷ d ∷ bs) = (a - 0x81) * 12600 + (b - 0x30) * 1260 + (c - 0x81) * 10 + (d - 0x30)
+fourCode bs = (getD bs 0 0 - 0x81) * 12600 + (getD bs 1 0 - 0x30) * 1260 + (getD bs 2 0 - 0x81) * 10 + (getD bs 3 0 - 0x30)
 
 -- two lists of bytes are the same
 unfoldable pub same : List ℕ → List ℕ → Bool
@@ -154,19 +129,6 @@ modeBits mode bs =
     (cond (eqb mode 5) (wordBits 12 (regionWords false bs))
     (cond (eqb mode 6) (wordBits 15 (doubleWords bs)) (lowBits 21 (fourCode bs)))))))
 
--- the number of bits of n bytes in a mode, by the formulas of SPECIFICATION 9.4
-unfoldable pub modeLength : ℕ → List ℕ → ℕ
-modeLength mode bs =
-    cond (eqb mode 1) (14 + 10 * ((length bs + 2) / 3))
-    (cond (eqb mode 2) (10 + 6 * (length bs + textSwitches true bs))
-    (cond (eqb mode 3) (17 + 8 * length bs)
-    (cond (eqb mode 4) (16 + 12 * (length bs / 2 + regionSwitches true bs))
-    (cond (eqb mode 5) (16 + 12 * (length bs / 2 + regionSwitches false bs))
-    (cond (eqb mode 6) (19 + 15 * (length bs / 2)) 25)))))
-
-unfoldable pub eciLength : ℕ → ℕ
-eciLength v = cond (ltb v 128) 12 (cond (ltb v 16384) 20 28)
-
 abbrev pub has : Segment → Bool
 has (run mode bs) = modeHas mode bs
 has (eci v) = true
@@ -176,26 +138,13 @@ abbrev pub encodingOf : Segment → List ℕ
 encodingOf (run mode bs) = lowBits 4 mode ++ modeBits mode bs
 encodingOf (eci v) = lowBits 4 8 ++ eciBits v
 
-abbrev pub bitsOfSegment : Segment → ℕ
-bitsOfSegment (run mode bs) = modeLength mode bs
-bitsOfSegment (eci v) = eciLength v
-
 -- each of some segments has its bytes
 unfoldable pub allHave : List Segment → Bool
-allHave [] = true
-allHave (g ∷ gs) = has g && allHave gs
+allHave gs = foldr (λ g r. has g && r) true gs
 
 unfoldable pub encodings : List Segment → List ℕ
-encodings [] = []
-encodings (g ∷ gs) = encodingOf g ++ encodings gs
-
-unfoldable pub bitsOfSegments : List Segment → ℕ
-bitsOfSegments [] = 0
-bitsOfSegments (g ∷ gs) = bitsOfSegment g + bitsOfSegments gs
+encodings gs = flatMap encodingOf gs
 
 -- the n data bytes of segments: their bits, and zeros behind
-abbrev pub paddedBits : ℕ → List Segment → List ℕ
-paddedBits n gs = encodings gs ++ replicate (8 * n - length (encodings gs)) 0
-
 abbrev pub dataBytes : ℕ → List Segment → List ℕ
-dataBytes n gs = words 8 (paddedBits n gs)
+dataBytes n gs = words 8 (encodings gs ++ replicate (8 * n - length (encodings gs)) 0)

@@ -5,10 +5,11 @@ ghost use mathlib.Core.List.{[], _∷_};
 ghost use Prim.Native.Nat.{_+_, _-_, _*_, _/_, _<_, _≤_};
 ghost use lib.Dec.{ltb};
 ghost use lib.ListN.{length, getD, take, drop};
-ghost use Rattle.script.specs.Writer.{all, isDigit, codeOf, inSubset, pairCode, inRegion, doubleCode, inDouble, fourCode, inFour, eciLength};
+ghost use Rattle.script.specs.Writer.{all, isDigit, codeOf, inSubset, pairCode, inRegion, doubleCode, inDouble, fourCode, inFour};
+ghost use Rattle.script.specs.Lengths.{eciLength};
 ghost use Rattle.script.specs.Check.{allowed};
 ghost use Rattle.script.specs.Inner.{runAt, eciAt, commandAt, commandSize, capped, checkOf};
-ghost use Rattle.script.specs.Glyphs.{textGlyph, regionGlyph, doubleGlyph, Glyphed, charCost, costOf, Limited, stepOf, widthOf};
+ghost use Rattle.script.specs.Characters.{textCharacter, regionCharacter, doubleCharacter, CharacterIs, charCost, costOf, Limited, stepOf, widthOf};
 
 // A command with its operand: a mode of 1 to 7 with the number of its payload bytes, or an ECI with its value.
 pub enum Command {
@@ -18,7 +19,7 @@ pub enum Command {
 }
 
 // A character's word in the present subset or region, or in the other one, behind a switch.
-pub enum Glyph {
+pub enum Character {
     Same(usize),
     Other(usize),
     Lacking,
@@ -80,7 +81,7 @@ fn in_subset(first: bool, b: usize) -> bool
 }
 
 // x - y, or 0.
-pub fn minus(x: usize, y: usize) -> usize
+pub fn saturating_sub(x: usize, y: usize) -> usize
     ensures { λ r. ⌜ r ≡ x - y ⌝ }
 {
     if x < y {
@@ -96,14 +97,14 @@ pub fn pair_code(one: bool, a: usize, b: usize) -> usize
 {
     if one {
         if a < 0xA4 {
-            return 3760 + minus(a, 0xA1) * 94 + minus(b, 0xA1);
+            return 3760 + saturating_sub(a, 0xA1) * 94 + saturating_sub(b, 0xA1);
         }
         if a == 0xA8 {
-            return 4042 + minus(b, 0xA1);
+            return 4042 + saturating_sub(b, 0xA1);
         }
-        return minus(a, 0xB0) * 94 + minus(b, 0xA1);
+        return saturating_sub(a, 0xB0) * 94 + saturating_sub(b, 0xA1);
     }
-    minus(a, 0xD8) * 94 + minus(b, 0xA1)
+    saturating_sub(a, 0xD8) * 94 + saturating_sub(b, 0xA1)
 }
 
 fn in_region(one: bool, a: usize, b: usize) -> bool
@@ -112,8 +113,8 @@ fn in_region(one: bool, a: usize, b: usize) -> bool
 {
     let c = pair_code(one, a, b);
     if c < segments::region_size(one) {
-        if segments::high(one, c) == a {
-            return segments::low(one, c) == b;
+        if segments::high_byte(one, c) == a {
+            return segments::low_byte(one, c) == b;
         }
     }
     false
@@ -125,9 +126,9 @@ pub fn double_code(a: usize, b: usize) -> usize
     ensures { λ r. ⌜ r ≡ doubleCode a b ⌝ }
 {
     if b < 0x7F {
-        return minus(a, 0x81) * 190 + minus(b, 0x40);
+        return saturating_sub(a, 0x81) * 190 + saturating_sub(b, 0x40);
     }
-    minus(a, 0x81) * 190 + (b - 0x41)
+    saturating_sub(a, 0x81) * 190 + (b - 0x41)
 }
 
 fn in_double(a: usize, b: usize) -> bool
@@ -145,26 +146,24 @@ fn in_double(a: usize, b: usize) -> bool
 
 // The value of four bytes, where they have one.
 pub fn four_code(run: &[u8]) -> usize
+    requires { ⌜ 4 ≤ length (now run) ⌝ }
     ensures { λ r. ⌜ r ≡ fourCode (now (run .entry)) ⌝ }
 {
-    if run.len() < 4 {
-        return 0;
-    }
-    minus(bits::wide(run[0]), 0x81) * 12600
-        + minus(bits::wide(run[1]), 0x30) * 1260
-        + minus(bits::wide(run[2]), 0x81) * 10
-        + minus(bits::wide(run[3]), 0x30)
+    saturating_sub(bits::wide(run[0]), 0x81) * 12600
+        + saturating_sub(bits::wide(run[1]), 0x30) * 1260
+        + saturating_sub(bits::wide(run[2]), 0x81) * 10
+        + saturating_sub(bits::wide(run[3]), 0x30)
 }
 
 // The four-byte mode has four bytes.
 fn in_four(run: &[u8]) -> bool
     ensures { λ r. ⌜ r ≡ inFour (now (run .entry)) ⌝ }
 {
-    let w = four_code(run);
-    if 1587600 <= w {
+    if run.len() != 4 {
         return false;
     }
-    if run.len() != 4 {
+    let w = four_code(run);
+    if 1587600 <= w {
         return false;
     }
     if 0x81 + w / 12600 != bits::wide(run[0]) {
@@ -211,71 +210,71 @@ fn all_digits(run: &[u8]) -> bool
     top < 10
 }
 
-fn text_glyph(first: bool, b: usize) -> Glyph
-    ensures { λ r. ⌜ r ≡ textGlyph first b ⌝ }
+fn text_character(first: bool, b: usize) -> Character
+    ensures { λ r. ⌜ r ≡ textCharacter first b ⌝ }
 {
     if in_subset(first, b) {
-        return Glyph::Same(code(first, b));
+        return Character::Same(code(first, b));
     }
     if in_subset(!first, b) {
-        return Glyph::Other(code(!first, b));
+        return Character::Other(code(!first, b));
     }
-    Glyph::Lacking
+    Character::Lacking
 }
 
-fn region_glyph(one: bool, a: usize, b: usize) -> Glyph
+fn region_character(one: bool, a: usize, b: usize) -> Character
     requires { ⌜ (a < 256) × (b < 256) ⌝ }
-    ensures { λ r. ⌜ r ≡ regionGlyph one a b ⌝ }
+    ensures { λ r. ⌜ r ≡ regionCharacter one a b ⌝ }
 {
     if in_region(one, a, b) {
-        return Glyph::Same(pair_code(one, a, b));
+        return Character::Same(pair_code(one, a, b));
     }
     if in_region(!one, a, b) {
-        return Glyph::Other(pair_code(!one, a, b));
+        return Character::Other(pair_code(!one, a, b));
     }
-    Glyph::Lacking
+    Character::Lacking
 }
 
-fn double_glyph(a: usize, b: usize) -> Glyph
+fn double_character(a: usize, b: usize) -> Character
     requires { ⌜ (a < 256) × (b < 256) ⌝ }
-    ensures { λ r. ⌜ r ≡ doubleGlyph a b ⌝ }
+    ensures { λ r. ⌜ r ≡ doubleCharacter a b ⌝ }
 {
     if in_double(a, b) {
-        return Glyph::Same(double_code(a, b));
+        return Character::Same(double_code(a, b));
     }
-    Glyph::Lacking
+    Character::Lacking
 }
 
 // The character at a place of a run in modes 2, 4, 5 and 6.
-pub fn glyph_at(mode: usize, first: bool, run: &[u8], j: usize) -> Glyph
+pub fn character_at(mode: usize, first: bool, run: &[u8], j: usize) -> Character
     requires { ⌜ j < length (now run) ⌝ }
-    ensures { λ r. ⌜ Glyphed mode first (drop j (now (run .entry))) r ⌝ }
+    ensures { λ r. ⌜ CharacterIs mode first (drop j (now (run .entry))) r ⌝ }
 {
-    if mode == 2 {
-        return text_glyph(first, bits::wide(run[j]));
+    if mode == segments::TEXT {
+        return text_character(first, bits::wide(run[j]));
     }
     if run.len() - j < 2 {
-        return Glyph::Lacking;
+        return Character::Lacking;
     }
-    if mode == 6 {
-        return double_glyph(bits::wide(run[j]), bits::wide(run[j + 1]));
+    if mode == segments::TWO_BYTE {
+        return double_character(bits::wide(run[j]), bits::wide(run[j + 1]));
     }
-    region_glyph(first, bits::wide(run[j]), bits::wide(run[j + 1]))
+    region_character(first, bits::wide(run[j]), bits::wide(run[j + 1]))
 }
 
 pub fn step(mode: usize) -> usize
     ensures { λ r. ⌜ (r ≡ stepOf mode) × (1 ≤ r) × (r ≤ 2) ⌝ }
 {
-    if mode == 2 { 1 } else { 2 }
+    if mode == segments::TEXT { 1 } else { 2 }
 }
 
 pub fn width(mode: usize) -> usize
     ensures { λ r. ⌜ (r ≡ widthOf mode) × (1 ≤ r) × (r ≤ 15) ⌝ }
 {
-    if mode == 2 {
+    if mode == segments::TEXT {
         return 6;
     }
-    if mode == 6 {
+    if mode == segments::TWO_BYTE {
         return 15;
     }
     12
@@ -287,22 +286,22 @@ fn char_bits(mode: usize, run: &[u8]) -> Cost
     ensures { λ r. ⌜ (r ≡ charCost mode (now (run .entry))) × Limited r ⌝ }
 {
     let by = step(mode);
-    let mut first = mode != 5;
+    let mut first = mode != segments::REGION_TWO;
     let mut words: usize = 0;
     let mut j: usize = 0;
     while j < run.len() {
-        let g = glyph_at(mode, first, run, j);
+        let g = character_at(mode, first, run, j);
         match g {
-            Glyph::Same(_) => {
+            Character::Same(_) => {
                 words += 1;
                 j += by;
             }
-            Glyph::Other(_) => {
+            Character::Other(_) => {
                 words += 2;
                 first = !first;
                 j += by;
             }
-            Glyph::Lacking => {
+            Character::Lacking => {
                 return Cost::Lacks;
             }
         }
@@ -315,16 +314,16 @@ fn run_bits(mode: usize, run: &[u8]) -> Cost
     requires { ⌜ (1 ≤ mode) × (mode ≤ 7) × (length (now run) < 65536) ⌝ }
     ensures { λ r. ⌜ (r ≡ costOf mode (now (run .entry))) × Limited r ⌝ }
 {
-    if mode == 1 {
+    if mode == segments::NUMERIC {
         if all_digits(run) {
             return Cost::Takes(14 + 10 * ((run.len() + 2) / 3));
         }
         return Cost::Lacks;
     }
-    if mode == 3 {
+    if mode == segments::BYTES {
         return Cost::Takes(17 + 8 * run.len());
     }
-    if mode == 7 {
+    if mode == segments::FOUR_BYTE {
         if in_four(run) {
             return Cost::Takes(25);
         }
@@ -346,28 +345,31 @@ fn eci_bits(v: usize) -> usize
     28
 }
 
-// A sum that stays at 31,089 once it is there: more bits than any mark has.
-fn plus(x: usize, y: usize) -> usize
+// More bits than any mark has: one more than the data of the largest.
+pub const TOO_MANY_BITS: usize = 8 * segments::MAX_DATA + 1;
+
+// A sum that stays at that number once it is there.
+fn capped_sum(x: usize, y: usize) -> usize
     requires { ⌜ (x < 100000000) × (y < 100000000) ⌝ }
     ensures { λ r. ⌜ (r ≡ capped (x + y)) × (r ≤ 31089) ⌝ }
 {
-    if x + y < 31089 {
+    if x + y < TOO_MANY_BITS {
         return x + y;
     }
-    31089
+    TOO_MANY_BITS
 }
 
 // A number of payload bytes is allowed in a mode.
 fn is_allowed(mode: usize, n: usize) -> bool
     ensures { λ r. ⌜ r ≡ allowed mode n ⌝ }
 {
-    if mode == 1 {
+    if mode == segments::NUMERIC {
         return 0 < n;
     }
-    if mode == 3 {
+    if mode == segments::BYTES {
         return n <= 8191;
     }
-    if 4 <= mode {
+    if segments::REGION_ONE <= mode {
         return n % 2 == 0;
     }
     true
@@ -412,16 +414,16 @@ pub fn command_at(script: &[u8], i: usize) -> Command
     ensures { λ r. ⌜ r ≡ commandAt (drop i (now (script .entry))) ⌝ }
 {
     let m = bits::wide(script[i]);
-    if m == 7 {
-        return Command::Run(7, 4);
+    if m == segments::FOUR_BYTE {
+        return Command::Run(segments::FOUR_BYTE, 4);
     }
-    if m == 8 {
+    if m == segments::ECI {
         return eci_at(script, i);
     }
-    if m < 1 {
+    if m < segments::NUMERIC {
         return Command::Wrong;
     }
-    if 6 < m {
+    if segments::TWO_BYTE < m {
         return Command::Wrong;
     }
     run_at(script, i)
@@ -431,7 +433,7 @@ pub fn command_at(script: &[u8], i: usize) -> Command
 pub fn command_size(mode: usize) -> usize
     ensures { λ r. ⌜ (r ≡ commandSize mode) × (1 ≤ r) × (r ≤ 3) ⌝ }
 {
-    if mode == 7 { 1 } else { 3 }
+    if mode == segments::FOUR_BYTE { 1 } else { 3 }
 }
 
 // SPECIFICATION 10.8, Check of a script: 11, else 12, else 8, else the number of bits.
@@ -453,7 +455,7 @@ pub fn check_script(script: &[u8], payload: &[u8]) -> Check
                 let cost = run_bits(mode, &payload[j..end]);
                 match cost {
                     Cost::Takes(b) => {
-                        total = plus(total, b);
+                        total = capped_sum(total, b);
                         j = end;
                         i += command_size(mode);
                     }
@@ -465,7 +467,7 @@ pub fn check_script(script: &[u8], payload: &[u8]) -> Check
                 }
             }
             Command::Eci(v) => {
-                total = plus(total, eci_bits(v));
+                total = capped_sum(total, eci_bits(v));
                 i += 4;
             }
             Command::Wrong => {

@@ -14,7 +14,7 @@ use Rattle.bits.proofs.Reading.{length-bits, length-left}
 use Rattle.bits.proofs.Words.{WordAt}
 use Rattle.segments.specs.declared.Count.the-variants.{Done, Cut}
 use Rattle.segments.specs.Segments.{cut, lacking, failed, eciValue, eciOf}
-use Rattle.segments.specs.Passes.{EciLeft}
+use Rattle.segments.specs.Positions.{EciLeft}
 
 -- the field behind the prefix
 module _ (s : List ℕ) (i k w : ℕ) where

@@ -10,7 +10,7 @@ use Rattle.segments.specs.declared.Region.{Region}
 use Rattle.segments.specs.declared.Region.the-variants.{End, Switch, Cut as RegionCut, Lacking as RegionLacking}
 use Rattle.segments.specs.declared.Count.{Count}
 use Rattle.segments.specs.declared.Count.the-variants.{Done, Cut, Lacking}
-use Rattle.segments.specs.Passes.{countOf, Left, Inside, RegionLeft, regionAt}
+use Rattle.segments.specs.Positions.{countOf, Left, Inside, RegionLeft, regionAt}
 
 coded : (i n : ℕ) → n < 65536 → countOf (i * 65536 + n + 2) ≡ Done i n
 coded i n h =

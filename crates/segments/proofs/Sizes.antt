@@ -1,7 +1,7 @@
 -- How long payload and script can be: a segment gives at most 3 payload bytes for 10 bits, and a script byte for 3 bits.
 use mathlib.Core.Path.{_≡_, refl, ap}
 use mathlib.Core.Bool.{Bool, true, false, cond, not}
-use mathlib.Core.List.{List, [], _∷_}
+use mathlib.Core.List.{List, [], _∷_, flatMap}
 use Prim.Native.Nat.{ℕ, zero, suc, _+_, _-_, _*_, _/_, _^_, _<_, _≤_}
 use native.Mathlib.Nat.{mul-suc, zero-add}
 use native.Mathlib.Omega.{arith}
@@ -204,12 +204,12 @@ AllSized bs z = (10 * length (payloadOf (z .segments)) ≤ 3 * length bs) × (3 
 
 -- no segment
 none-sized : (bs : List ℕ) (e : Ending) → AllSized bs (ended e)
-unfolding payloadOf scriptOf
+unfolding payloadOf scriptOf flatMap
 none-sized bs e = (omega arith, omega arith)
 
 -- one segment more, given what holds of the rest
 more-sized : (bs : List ℕ) (r : Result Segment) (rest : ℕ → Parsed) → 4 ≤ length bs → SegmentSized (drop 4 bs) r → ((u : ℕ) → AllSized (drop u (drop 4 bs)) (rest u)) → AllSized bs (following r rest)
-unfolding payloadOf scriptOf
+unfolding payloadOf scriptOf flatMap
 more-sized bs (failed bad) rest l s a = none-sized bs (broken bad)
 more-sized bs (got g u) rest l s a =
     let gs = rest u .segments in

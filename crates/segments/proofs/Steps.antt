@@ -1,7 +1,7 @@
 -- One segment and all of them: what a step of the pass leaves of the definitions.
 use mathlib.Core.Path.{_≡_, refl, ap, _∙_, sym, subst}
 use mathlib.Core.Bool.{Bool, true, false, cond}
-use mathlib.Core.List.{List, [], _∷_, _++_}
+use mathlib.Core.List.{List, [], _∷_, _++_, flatMap}
 use Prim.Native.Nat.{ℕ, zero, suc, _+_, _-_, _*_, _/_, _%_, _<_, _≤_}
 use native.Mathlib.Nat.{one-mul, add-zero}
 use native.Mathlib.Omega.{arith}
@@ -19,7 +19,7 @@ use Rattle.segments.specs.declared.Step.{Step}
 use Rattle.segments.specs.declared.Step.the-variants.{On}
 use Rattle.segments.specs.Script.{Segment, run, eci, bytesOf, runCommand, commandOf, payloadOf, scriptOf}
 use Rattle.segments.specs.Segments.{Fault, cut, lacking, Result, failed, got, andThen, eciOf, bytesOfMode, segmentOf, Ending, endMark, fewBits, broken, Parsed, following, parse}
-use Rattle.segments.specs.Passes.{stopped, behind, counted, stepped, Left, Inside, numericAt, textAt, bytesAt, regionAt, doubleByteAt, fourByteAt, runAt, EciLeft, Stepped, Reached, PassedTo, Passed}
+use Rattle.segments.specs.Positions.{stopped, behind, counted, stepped, Left, Inside, numericAt, textAt, bytesAt, regionAt, doubleByteAt, fourByteAt, runAt, EciLeft, Stepped, Reached, ParsesTo, Parses}
 use Rattle.segments.proofs.Turns.{behind-bits}
 
 -- ---- faults and answers
@@ -165,19 +165,19 @@ step-room s i n m o c (got g u) r a k j x y p e =
     (omega arith, rw ea (p .3), rw (ea, ek) (p .4), rw (ea, ej) (p .5))
 
 module _ (s : List ℕ) (i n m : ℕ) (o c : List ℕ) where
-  pub pass-few : (f : ℕ) → 0 < f → length (drop i (bitsOf s)) < 4 → Passed n m o c (parse f (drop i (bitsOf s))) (Done n m) o c
-  unfolding parse payloadOf scriptOf
-  pass-few zero p h = absurd (omega arith)
-  pass-few (suc f) p h = rw (lt-ltb (length (drop i (bitsOf s))) 4 h) (rw (add-zero, add-zero), refl, refl)
+  pub parse-few : (f : ℕ) → 0 < f → length (drop i (bitsOf s)) < 4 → Parses n m o c (parse f (drop i (bitsOf s))) (Done n m) o c
+  unfolding parse payloadOf scriptOf flatMap
+  parse-few zero p h = absurd (omega arith)
+  parse-few (suc f) p h = rw (lt-ltb (length (drop i (bitsOf s))) 4 h) (rw (add-zero, add-zero), refl, refl)
 
   module _ (mode : ℕ) (w : WordAt 4 i mode s) where
     enough : 4 ≤ length (drop i (bitsOf s))
     enough = let m = w .room in omega (arith, length-left s i)
 
-    pub pass-end : (f : ℕ) → 0 < f → mode ≡ 0 → Passed n m o c (parse f (drop i (bitsOf s))) (Done n m) o c
-    unfolding parse payloadOf scriptOf
-    pass-end zero p e = absurd (omega arith)
-    pass-end (suc f) p e =
+    pub parse-end : (f : ℕ) → 0 < f → mode ≡ 0 → Parses n m o c (parse f (drop i (bitsOf s))) (Done n m) o c
+    unfolding parse payloadOf scriptOf flatMap
+    parse-end zero p e = absurd (omega arith)
+    parse-end (suc f) p e =
         rw (le-ltb (length (drop i (bitsOf s))) 4 enough, ← (w .is), eq-eqb mode 0 e) (rw (add-zero, add-zero), refl, refl)
 
     opened : (f : ℕ) → (mode ≡ 0 → ⊥) → parse (suc f) (drop i (bitsOf s))
@@ -186,20 +186,20 @@ module _ (s : List ℕ) (i n m : ℕ) (o c : List ℕ) where
     opened f h = simp (le-ltb (length (drop i (bitsOf s))) 4 enough, sym (w .is), ne-eqb mode 0 h, drop-drop 4 i (bitsOf s))
 
     module _ (f : ℕ) (p : 0 < f) (h : mode ≡ 0 → ⊥) (t : Step) (x y : List ℕ) (g : Stepped s (i + 4) n m o c (segmentOf mode (drop (i + 4) (bitsOf s))) t x y) where
-      pub pass-stop : (bad : Fault) → t ≡ stepped bad → Passed n m o c (parse f (drop i (bitsOf s))) (counted bad) x y
-      pass-stop bad e = go f p
+      pub parse-stop : (bad : Fault) → t ≡ stepped bad → Parses n m o c (parse f (drop i (bitsOf s))) (counted bad) x y
+      parse-stop bad e = go f p
         where
-          here : (z : Result Segment) (k : ℕ → Parsed) → Stepped s (i + 4) n m o c z t x y → Passed n m o c (following z k) (counted bad) x y
+          here : (z : Result Segment) (k : ℕ → Parsed) → Stepped s (i + 4) n m o c z t x y → Parses n m o c (following z k) (counted bad) x y
           here (failed b) k q = ap counted (same-step bad b (sym e ∙ q))
           here (got b u) k q = not-on bad (sym e ∙ q .0)
 
-          go : (f : ℕ) → 0 < f → Passed n m o c (parse f (drop i (bitsOf s))) (counted bad) x y
+          go : (f : ℕ) → 0 < f → Parses n m o c (parse f (drop i (bitsOf s))) (counted bad) x y
           go zero p = absurd (omega arith)
           go (suc f) p = rw (opened f h) (here (segmentOf mode (drop (i + 4) (bitsOf s))) (λ u. parse f (drop u (drop (i + 4) (bitsOf s)))) g)
 
-      pub pass-on : (a k j : ℕ) → t ≡ On a k j → (r : Count) (x′ y′ : List ℕ) → Passed k j x y (parse (f - 1) (drop a (bitsOf s))) r x′ y′ → Passed n m o c (parse f (drop i (bitsOf s))) r x′ y′
-      unfolding payloadOf scriptOf
-      pass-on a k j e r x′ y′ q = go f p q
+      pub parse-on : (a k j : ℕ) → t ≡ On a k j → (r : Count) (x′ y′ : List ℕ) → Parses k j x y (parse (f - 1) (drop a (bitsOf s))) r x′ y′ → Parses n m o c (parse f (drop i (bitsOf s))) r x′ y′
+      unfolding payloadOf scriptOf flatMap
+      parse-on a k j e r x′ y′ q = go f p q
         where
           reached : (b : Segment) (gs : List Segment) → Reached (n + length (bytesOf b)) (m + length (commandOf b)) (sets o n (bytesOf b)) (sets c m (commandOf b)) gs r x′ y′
               → Reached n m o c (b ∷ gs) r x′ y′
@@ -208,14 +208,14 @@ module _ (s : List ℕ) (i n m : ℕ) (o c : List ℕ) where
               let e2 : m + length (commandOf b ++ scriptOf gs) ≡ m + length (commandOf b) + length (scriptOf gs) = rw length-append (omega arith) in
               (rw (e1, e2) (d .0), rw sets-append (d .1), rw sets-append (d .2))
 
-          join : (b : Segment) (gs : List Segment) (z : Ending) → PassedTo (n + length (bytesOf b)) (m + length (commandOf b)) (sets o n (bytesOf b)) (sets c m (commandOf b)) gs z r x′ y′
-              → PassedTo n m o c (b ∷ gs) z r x′ y′
+          join : (b : Segment) (gs : List Segment) (z : Ending) → ParsesTo (n + length (bytesOf b)) (m + length (commandOf b)) (sets o n (bytesOf b)) (sets c m (commandOf b)) gs z r x′ y′
+              → ParsesTo n m o c (b ∷ gs) z r x′ y′
           join b gs endMark d = reached b gs d
           join b gs fewBits d = reached b gs d
           join b gs (broken bad) d = d
 
-          here : (f′ : ℕ) (z : Result Segment) → Stepped s (i + 4) n m o c z t x y → Passed k j x y (parse f′ (drop a (bitsOf s))) r x′ y′
-              → Passed n m o c (following z (λ u. parse f′ (drop u (drop (i + 4) (bitsOf s))))) r x′ y′
+          here : (f′ : ℕ) (z : Result Segment) → Stepped s (i + 4) n m o c z t x y → Parses k j x y (parse f′ (drop a (bitsOf s))) r x′ y′
+              → Parses n m o c (following z (λ u. parse f′ (drop u (drop (i + 4) (bitsOf s))))) r x′ y′
           here f′ (failed bad) d q = not-on bad (sym d ∙ e)
           here f′ (got b u) d q =
               let d0 = d .0 in
@@ -224,7 +224,7 @@ module _ (s : List ℕ) (i n m : ℕ) (o c : List ℕ) where
               let ej : j ≡ m + length (commandOf b) = cc in
               join b (parse f′ (drop u (drop (i + 4) (bitsOf s))) .segments) (parse f′ (drop u (drop (i + 4) (bitsOf s))) .end) (rw (drop-drop u (i + 4) (bitsOf s), ← ea, ← ek, ← ej, ← (d .1), ← (d .2)) q)
 
-          go : (f : ℕ) → 0 < f → Passed k j x y (parse (f - 1) (drop a (bitsOf s))) r x′ y′ → Passed n m o c (parse f (drop i (bitsOf s))) r x′ y′
+          go : (f : ℕ) → 0 < f → Parses k j x y (parse (f - 1) (drop a (bitsOf s))) r x′ y′ → Parses n m o c (parse f (drop i (bitsOf s))) r x′ y′
           go zero p q = absurd (omega arith)
           go (suc f) p q =
               let z : suc f - 1 ≡ f = omega arith in

@@ -14,7 +14,7 @@ use Rattle.bits.proofs.Words.{WordAt, sets-append}
 use Rattle.segments.specs.Segments.{cut, lacking, Result, failed, got, andThen, before, inBits, digits, groupsOf, numericOf, charOf, textOf, bytesRun, bytesMode, highOf, lowOf, regionSize, regionOf, firstByte, secondByte, doubleByteOf, fourBytes, fourByteOf}
 use Rattle.segments.specs.declared.Count.{Count}
 use Rattle.segments.specs.declared.Count.the-variants.{Done, Cut, Lacking}
-use Rattle.segments.specs.Passes.{stopped, Inside, at, behind, groupsAt, numericAt, textAt, bytesRunAt, bytesAt, regionAt, doubleByteAt, fourByteAt}
+use Rattle.segments.specs.Positions.{stopped, Inside, at, behind, groupsAt, numericAt, textAt, bytesRunAt, bytesAt, regionAt, doubleByteAt, fourByteAt}
 
 -- one word and the bytes that it gives
 behind-before : (w i n : ℕ) (o cs : List ℕ) (p : Result (List ℕ)) → behind w i n o (before cs p) ≡ behind w (i + w) (n + length cs) (sets o n cs) p

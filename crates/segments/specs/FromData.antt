@@ -22,9 +22,9 @@ pub record DataOutcome : Type 0 where
 abbrev pub refusedData : ℕ → List ℕ → List ℕ → DataOutcome
 refusedData k p c = record { number = k; payloadLength = 0; scriptLength = 0; payload = p; script = c }
 
--- segments given in the buffers p and c
-abbrev pub given : List Segment → List ℕ → List ℕ → DataOutcome
-given gs p c =
+-- segments put into the buffers p and c
+abbrev pub inBuffers : List Segment → List ℕ → List ℕ → DataOutcome
+inBuffers gs p c =
     cond (eqb (length (payloadOf gs)) 0) (refusedData 8 p c)
     (cond (ltb (length p) (length (payloadOf gs))) (refusedData 9 p c)
     (cond (ltb (length c) (length (scriptOf gs))) (refusedData 10 p c)
@@ -46,7 +46,7 @@ isBroken (broken bad) = true
 abbrev pub fromData : List ℕ → List ℕ → List ℕ → DataOutcome
 fromData s p c =
     cond (ltb 3886 (length s)) (refusedData 2 p c)
-    (cond (isBroken (segmentsOf s .end)) (refusedData 7 p c) (given (segmentsOf s .segments) p c))
+    (cond (isBroken (segmentsOf s .end)) (refusedData 7 p c) (inBuffers (segmentsOf s .segments) p c))
 
 -- what an answer says, with what the buffers hold afterwards
 abbrev pub dataOutcome : Answer → List ℕ → List ℕ → DataOutcome

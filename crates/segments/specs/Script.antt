@@ -1,6 +1,6 @@
 -- SPECIFICATION 2.5 and 8.11: the script, commands of one byte with operands of fixed width, big-endian, and the payload beside them.
 use mathlib.Core.Bool.{cond}
-use mathlib.Core.List.{List, [], _∷_, _++_}
+use mathlib.Core.List.{List, [], _∷_, flatMap}
 use Prim.Native.Nat.{ℕ, _/_, _%_}
 use lib.Dec.{eqb}
 use lib.ListN.{length}
@@ -26,10 +26,8 @@ commandOf (eci v) = 8 ∷ v / 65536 ∷ v / 256 % 256 ∷ v % 256 ∷ []
 
 -- the payload of segments
 unfoldable pub payloadOf : List Segment → List ℕ
-payloadOf [] = []
-payloadOf (g ∷ gs) = bytesOf g ++ payloadOf gs
+payloadOf gs = flatMap bytesOf gs
 
 -- the script of segments
 unfoldable pub scriptOf : List Segment → List ℕ
-scriptOf [] = []
-scriptOf (g ∷ gs) = commandOf g ++ scriptOf gs
+scriptOf gs = flatMap commandOf gs

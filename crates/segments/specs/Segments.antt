@@ -57,9 +57,7 @@ charOf false w = cond (ltb w 28) w (cond (ltb w 44) (4 + w) (cond (ltb w 51) (14
 unfoldable pub textOf : Bool → List ℕ → Result (List ℕ)
 textOf subset [] = failed cut
 textOf subset (w ∷ ws) =
-    let same = before (charOf subset w ∷ []) (textOf subset ws) in
-    let other = before [] (textOf (not subset) ws) in
-    cond (eqb w 63) (got [] 1) (cond (eqb w 62) other same)
+    cond (eqb w 63) (got [] 1) (cond (eqb w 62) (before [] (textOf (not subset) ws)) (before (charOf subset w ∷ []) (textOf subset ws)))
 
 -- ---- bytes (8.7): a length of 13 bits, then so many words of 8 bits
 
@@ -89,9 +87,8 @@ regionSize false = 3008
 unfoldable pub regionOf : Bool → List ℕ → Result (List ℕ)
 regionOf region [] = failed cut
 regionOf region (w ∷ ws) =
-    let other = before [] (regionOf (not region) ws) in
-    let same = before (highOf region w ∷ lowOf region w ∷ []) (regionOf region ws) in
-    cond (eqb w 4095) (got [] 1) (cond (eqb w 4094) other (cond (ltb w (regionSize region)) same (failed lacking)))
+    cond (eqb w 4095) (got [] 1) (cond (eqb w 4094) (before [] (regionOf (not region) ws))
+    (cond (ltb w (regionSize region)) (before (highOf region w ∷ lowOf region w ∷ []) (regionOf region ws)) (failed lacking)))
 
 -- ---- two-byte (8.8): words of 15 bits, ended by 32767
 

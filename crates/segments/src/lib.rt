@@ -12,7 +12,27 @@ ghost use lib.Seq.{sets};
 ghost use Rattle.bits.specs.Bits.{bitsOf};
 ghost use Rattle.segments.specs.Script.{commandOf, runCommand, eci};
 ghost use Rattle.segments.specs.Segments.{digits, charOf, highOf, lowOf, regionSize, firstByte, secondByte, fourBytes, eciOf, eciValue, segmentOf};
-ghost use Rattle.segments.specs.Passes.{countOf, Left, Inside, RegionLeft, EciLeft, Stepped, numericAt, textAt, bytesRunAt, bytesAt, regionAt, doubleByteAt, fourByteAt, runAt};
+ghost use Rattle.segments.specs.Positions.{countOf, Left, Inside, RegionLeft, EciLeft, Stepped, numericAt, textAt, bytesRunAt, bytesAt, regionAt, doubleByteAt, fourByteAt, runAt};
+
+// The modes of segments. Mode 0 ends the data.
+pub const NUMERIC: usize = 1;
+
+pub const TEXT: usize = 2;
+
+pub const BYTES: usize = 3;
+
+pub const REGION_ONE: usize = 4;
+
+pub const REGION_TWO: usize = 5;
+
+pub const TWO_BYTE: usize = 6;
+
+pub const FOUR_BYTE: usize = 7;
+
+pub const ECI: usize = 8;
+
+// The most data that a symbol has, in bytes.
+pub const MAX_DATA: usize = 3886;
 
 // Two numbers: a position with the payload bytes there or with an ECI's value, or the lengths of payload and script.
 pub enum Count {
@@ -224,7 +244,7 @@ pub fn region_size(one: bool) -> usize
 }
 
 // The first byte of a value in a region.
-pub fn high(one: bool, w: usize) -> usize
+pub fn high_byte(one: bool, w: usize) -> usize
     requires { ⌜ w < regionSize one ⌝ }
     ensures { λ r. ⌜ (r < 256) × (r ≡ highOf one w) ⌝ }
 {
@@ -241,7 +261,7 @@ pub fn high(one: bool, w: usize) -> usize
 }
 
 // The second byte of a value in a region.
-pub fn low(one: bool, w: usize) -> usize
+pub fn low_byte(one: bool, w: usize) -> usize
     requires { ⌜ w < regionSize one ⌝ }
     ensures { λ r. ⌜ (r < 256) × (r ≡ lowOf one w) ⌝ }
 {
@@ -287,7 +307,7 @@ fn same_region(s: &[u8], from: usize, out: &mut [u8], to: usize, one: bool) -> R
         if w >= region_size(one) {
             return Region::Lacking;
         }
-        put_pair(out, n, high(one, w), low(one, w));
+        put_pair(out, n, high_byte(one, w), low_byte(one, w));
         n += 2;
     }
 }
@@ -451,13 +471,13 @@ fn run_of_mode(s: &[u8], from: usize, out: &mut [u8], to: usize, mode: usize) ->
     ensures { λ r. ⌜ Inside (now (s .entry)) from to r ⌝ }
 {
     match mode {
-        1 => numeric(s, from, out, to),
-        2 => text_mode(s, from, out, to),
-        3 => bytes_mode(s, from, out, to),
-        4 => region_count(region_one(s, from, out, to)),
-        5 => region_count(region_two(s, from, out, to)),
-        6 => double_byte(s, from, out, to),
-        7 => four_byte(s, from, out, to),
+        NUMERIC => numeric(s, from, out, to),
+        TEXT => text_mode(s, from, out, to),
+        BYTES => bytes_mode(s, from, out, to),
+        REGION_ONE => region_count(region_one(s, from, out, to)),
+        REGION_TWO => region_count(region_two(s, from, out, to)),
+        TWO_BYTE => double_byte(s, from, out, to),
+        FOUR_BYTE => four_byte(s, from, out, to),
         _ => Count::Lacking,
     }
 }
@@ -467,8 +487,8 @@ fn put_command(script: &mut [u8], m: usize, mode: usize, n: usize) -> usize
     requires { ⌜ (mode < 16) × (n < 65536) × (m < 65535) ⌝ }
     ensures { λ r. ⌜ (r ≡ length (runCommand mode n)) × (now (script .exit) ≡ sets (now (script .entry)) m (runCommand mode n)) ⌝ }
 {
-    if mode == 7 {
-        put(script, m, 7);
+    if mode == FOUR_BYTE {
+        put(script, m, FOUR_BYTE);
         return 1;
     }
     put(script, m, mode);
@@ -481,7 +501,7 @@ fn put_eci(script: &mut [u8], m: usize, v: usize)
     requires { ⌜ (v < 16777216) × (m < 65533) ⌝ }
     ensures { λ _. ⌜ now (script .exit) ≡ sets (now (script .entry)) m (commandOf (eci v)) ⌝ }
 {
-    put_pair(script, m, 8, v / 65536);
+    put_pair(script, m, ECI, v / 65536);
     put_pair(script, m + 2, v / 256 % 256, v % 256);
 }
 
@@ -507,7 +527,7 @@ pub fn segment(s: &[u8], place: Place, mode: usize, out: &mut [u8], script: &mut
     let from = place.at;
     let n = place.payload;
     let m = place.script;
-    if mode == 8 {
+    if mode == ECI {
         let designator = eci_value(s, from);
         return match designator {
             Count::Done(at, v) => {

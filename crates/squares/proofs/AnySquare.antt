@@ -27,7 +27,7 @@ use Rattle.blockwise.proofs.Settle.{block-small, at-settled}
 use Rattle.blockwise.proofs.Theorems as blocks
 use Rattle.segments.specs.Segments.{segmentsOf}
 use Rattle.segments.specs.Script.{Segment, payloadOf, scriptOf}
-use Rattle.segments.specs.FromData.{DataOutcome as Given, refusedData as refusedData, given, isBroken, fromData}
+use Rattle.segments.specs.FromData.{DataOutcome as Given, refusedData as refusedData, inBuffers, isBroken, fromData}
 use Rattle.squares.specs.Read.{Reading, refused, unless, levelIn, maskIn, distanceIn, streamFrom, blocksIn, readRefusal, knownRefusal}
 use Rattle.squares.specs.Read.{told, bodyOf, withReceipt, readOf, readKnownOf}
 use Rattle.squares.specs.Promise.{InReach, EachInReach, setTo, correctionsAt}
@@ -46,8 +46,8 @@ other : (n : ℕ) → n ≡ 6 → n < 6 ⊎ 6 < n → ⊥
 other n e (inl h) = omega arith
 other n e (inr h) = omega arith
 
-given-not-six : (gs : List Segment) (p s : List ℕ) → given gs p s .number ≢ 6
-given-not-six gs p s =
+in-buffers-not-six : (gs : List Segment) (p s : List ℕ) → inBuffers gs p s .number ≢ 6
+in-buffers-not-six gs p s =
     not-six (eqb (length (payloadOf gs)) 0) (refusedData 8 p s) _ (λ e. omega arith)
     (not-six (ltb (length p) (length (payloadOf gs))) (refusedData 9 p s) _ (λ e. omega arith)
     (not-six (ltb (length s) (length (scriptOf gs))) (refusedData 10 p s) _ (λ e. omega arith) (λ e. omega arith)))
@@ -55,7 +55,7 @@ given-not-six gs p s =
 data-not-six : (ds p s : List ℕ) → fromData ds p s .number ≢ 6
 data-not-six ds p s =
     not-six (ltb 3886 (length ds)) (refusedData 2 p s) _ (λ e. omega arith)
-    (not-six (isBroken (segmentsOf ds .end)) (refusedData 7 p s) _ (λ e. omega arith) (given-not-six (segmentsOf ds .segments) p s))
+    (not-six (isBroken (segmentsOf ds .end)) (refusedData 7 p s) _ (λ e. omega arith) (in-buffers-not-six (segmentsOf ds .segments) p s))
 
 -- ---- a search does not find nothing and something
 

@@ -5,8 +5,8 @@ use lib.ListN.{length}
 use Rattle.bits.specs.Bits.{words}
 use Rattle.codewords.proofs.Small.{Below, codewords-below}
 use Rattle.segments.specs.Script.{Segment}
-use Rattle.script.specs.Writer.{paddedBits, dataBytes}
-use Rattle.script.proofs.Data.{padded-small}
+use Rattle.script.specs.Writer.{dataBytes}
+use Rattle.script.proofs.Data.{paddedBits, padded-small}
 
 pub data-below : (n : ℕ) (gs : List Segment) → Below 256 (dataBytes n gs)
 unfolding words

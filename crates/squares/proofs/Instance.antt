@@ -3,19 +3,20 @@
 use mathlib.Core.Path.{_≡_, refl, ap}
 use mathlib.Core.Bool.{Bool, true, false, cond, _&&_}
 use mathlib.Core.Option.{bind}
-use mathlib.Core.List.{List, [], _∷_}
+use mathlib.Core.List.{List, [], _∷_, flatMap}
 use Prim.Native.Nat.{ℕ, zero, suc, _+_, _<_}
 use native.Mathlib.Omega.{arith}
 use borrow.Author.Tests.{eq-eqb}
 use lib.Dec.{eqb}
 use lib.ListN.{getD, replicate}
+use Rattle.bits.specs.Bits.{lowBits, wordBits}
 use Rattle.symbol.specs.Version.{isVersion}
 use Rattle.symbol.specs.Layout.{layoutOf, plotAll, corners, table, cornerAt, ring, edge, finderAt, finderRow, half, within, finders}
 use Rattle.information.specs.Information.{isInfo, infoFlips}
 use Rattle.blocks.specs.Table.{blocks, totals}
 use Rattle.blocks.specs.Blocks.{hasBlocks, rowHolds, batchHolds, rowLength, rowOf, rowAt, totalOf, dataModules, shapesOf, shapes, batch, totalData}
 use Rattle.segments.specs.Script.{runCommand}
-use Rattle.script.specs.Writer.{isDigit, modeHas, modeLength, allHave, bitsOfSegments}
+use Rattle.script.specs.Writer.{isDigit, modeHas, allHave, numericWords, modeBits, encodings}
 use Rattle.script.specs.Check.{allowed, segmentAt, commands, commandsOf}
 use Rattle.corrector.proofs.Settle.{distance-self}
 use Rattle.squares.specs.Read.{Reading, firstRefusal, unless, readOf, readKnownOf}
@@ -42,7 +43,7 @@ unfolding hasBlocks rowHolds batchHolds rowLength rowOf rowAt totalOf dataModule
 blocked = refl
 
 accepted : writeRefusal 1 0 0 script payload before ≡ 0
-unfolding writeRefusal firstRefusal isInfo isVersion commands bind segmentAt allowed runCommand allHave modeHas isDigit bitsOfSegments modeLength shapesOf shapes rowOf rowAt blocks batch totalData
+unfolding writeRefusal firstRefusal isInfo isVersion commands bind segmentAt allowed runCommand allHave modeHas isDigit encodings flatMap modeBits numericWords wordBits lowBits shapesOf shapes rowOf rowAt blocks batch totalData
 accepted =
     ap
     (λ (b : Bool). firstRefusal (0 ∷ unless b 1 ∷ 0 ∷ scriptRefusals (commandsOf script payload) payload (roomOf 1 0)))

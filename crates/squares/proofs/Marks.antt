@@ -20,7 +20,7 @@ use Rattle.codewords.specs.Codewords.{maskBit, squareOf}
 use Rattle.codewords.proofs.Back.{length-square}
 use Rattle.blockwise.specs.Blockwise.{streamOf}
 use Rattle.segments.specs.Script.{Segment}
-use Rattle.script.specs.Writer.{allHave, bitsOfSegments}
+use Rattle.script.specs.Writer.{allHave, encodings}
 use Rattle.script.specs.Check.{commandsOf, scriptData}
 use Rattle.script.specs.Inner.{Fits}
 use Rattle.squares.specs.Read.{firstRefusal, unless, levelIn, maskIn, distanceIn, nearestIn}
@@ -78,7 +78,8 @@ pub record Written (v l k : ℕ) (s p sq : List ℕ) : Type 0 where
 script-fits : (s p : List ℕ) (n : ℕ) (z : Option (List Segment)) → commandsOf s p ≡ z → firstRefusal (scriptRefusals z p n) ≡ 0 → Fits s p n
 script-fits s p n none q e = absurd (omega (arith, first-one 11))
 script-fits s p n (some gs) q e =
-    let bits = unless (leb (bitsOfSegments gs) (8 * n)) 13 in
+    let room = leb (length (encodings gs)) (8 * n) in
+    let bits = unless room 13 in
     let a = first-none (unless (allHave gs) 12) (unless (ltb 0 (length p)) 8 ∷ bits ∷ []) e in
     let b = first-none (unless (ltb 0 (length p)) 8) (bits ∷ []) (a .1) in
     let c = first-none bits [] (b .1) in
@@ -87,7 +88,7 @@ script-fits s p n (some gs) q e =
       are = q;
       have = true-unless (allHave gs) 11 (a .0);
       filled = ltb-true 0 (length p) (true-unless (ltb 0 (length p)) 7 (b .0));
-      room = leb-fact (bitsOfSegments gs) (8 * n) (true-unless (leb (bitsOfSegments gs) (8 * n)) 12 (c .0));
+      room = leb-fact (length (encodings gs)) (8 * n) (true-unless room 12 (c .0));
     }
 
 module _ (v l k : ℕ) (s p sq : List ℕ) where

@@ -12,7 +12,7 @@ use Rattle.blocks.specs.Blocks.{shapesOf, hasBlocks, totalData}
 use Rattle.codewords.specs.Codewords.{maskBit, squareOf}
 use Rattle.blockwise.specs.Blockwise.{streamOf}
 use Rattle.segments.specs.Script.{Segment}
-use Rattle.script.specs.Writer.{allHave, bitsOfSegments}
+use Rattle.script.specs.Writer.{allHave, encodings}
 use Rattle.script.specs.Check.{commandsOf, scriptData}
 use Rattle.squares.specs.Read.{firstRefusal, unless}
 
@@ -33,7 +33,7 @@ roomOf v level = totalData (shapesOf v level)
 -- a byte, pair or four bytes that its mode lacks; 8 payload empty; 13 more bits than 8 × data codewords
 abbrev pub scriptRefusals : Option (List Segment) → List ℕ → ℕ → List ℕ
 scriptRefusals none p room = 11 ∷ []
-scriptRefusals (some gs) p room = unless (allHave gs) 12 ∷ unless (ltb 0 (length p)) 8 ∷ unless (leb (bitsOfSegments gs) (8 * room)) 13 ∷ []
+scriptRefusals (some gs) p room = unless (allHave gs) 12 ∷ unless (ltb 0 (length p)) 8 ∷ unless (leb (length (encodings gs)) (8 * room)) 13 ∷ []
 
 -- 1 version, level or mask outside its range, or by SPECIFICATION 7.4; 2 square not s × s; then script and payload
 unfoldable pub writeRefusal : ℕ → ℕ → ℕ → List ℕ → List ℕ → List ℕ → ℕ

@@ -16,11 +16,12 @@ use Rattle.blocks.specs.Blocks.{totalOf, hasBlocks, dataModules}
 use Rattle.segments.specs.Script.{Segment}
 use Rattle.script.specs.declared.Check.{Check}
 use Rattle.script.specs.declared.Check.the-variants.{Bits, Malformed, Lacking, Empty}
-use Rattle.script.specs.Writer.{allHave, bitsOfSegments}
+use Rattle.script.specs.Writer.{allHave, encodings}
+use Rattle.script.specs.Lengths.{bitsOfSegments}
 use Rattle.script.specs.Check.{commandsOf}
 use Rattle.script.specs.Inner.{capped, checkedOf, checkOf}
 use Rattle.script.proofs.Scripts.{positive}
-use Rattle.script.proofs.Theorems.{capped-fits}
+use Rattle.script.proofs.Theorems.{bits-by-formulas, capped-fits}
 use Rattle.squares.specs.Read.{firstRefusal, unless}
 use Rattle.squares.specs.Write.{Writing, roomOf, writingOf, scriptRefusals, writeRefusal, markOf, writeOf}
 use Rattle.squares.proofs.Marks.{info-is}
@@ -52,16 +53,16 @@ answered room (Bits n) = unless (leb n (8 * room)) 13
 checked : (room : ℕ) (p : List ℕ) (z : Option (List Segment)) → room ≤ 3886
     → answered room (checkedOf z p) ≡ firstRefusal (scriptRefusals z p room)
 unfolding firstRefusal
-checked room p none h = refl
-checked room p (some gs) h = go (allHave gs) (eqb (length p) 0) refl
+checked room p none small = refl
+checked room p (some gs) small = go (allHave gs) refl (eqb (length p) 0) refl
   where
-    go : (x y : Bool) → eqb (length p) 0 ≡ y
+    go : (x : Bool) → allHave gs ≡ x → (y : Bool) → eqb (length p) 0 ≡ y
         → answered room (cond x (cond y Empty (Bits (capped (bitsOfSegments gs)))) Lacking)
-        ≡ firstRefusal (unless x 12 ∷ unless (ltb 0 (length p)) 8 ∷ unless (leb (bitsOfSegments gs) (8 * room)) 13 ∷ [])
-    go false y e = refl
-    go true true e = rw (eqb-true (length p) 0 e)
-    go true false e =
-        rw (lt-ltb 0 (length p) (positive (length p) (eqb-false (length p) 0 e)), capped-fits (bitsOfSegments gs) room h)
+        ≡ firstRefusal (unless x 12 ∷ unless (ltb 0 (length p)) 8 ∷ unless (leb (length (encodings gs)) (8 * room)) 13 ∷ [])
+    go false h y e = refl
+    go true h true e = rw (eqb-true (length p) 0 e)
+    go true h false e =
+        rw (lt-ltb 0 (length p) (positive (length p) (eqb-false (length p) 0 e)), bits-by-formulas gs h, capped-fits (bitsOfSegments gs) room small)
         (sym (first-one (unless (leb (bitsOfSegments gs) (8 * room)) 13)))
 
 module _ (v l : ℕ) (s p : List ℕ) (small : roomOf v l ≤ 3886) where

@@ -1,6 +1,6 @@
 -- `end_word` meets its contract. Assumes nothing.
 use borrow.Author.Tests.{eq-eqb, ne-eqb}
-use Rattle.script.specs.Glyphs.{endOf}
+use Rattle.script.specs.Characters.{endOf}
 use Rattle.encoding.proofs.end_word.Statement.{statement}
 use Rattle.encoding.proofs.end_word.Tie as tie
 

@@ -1,6 +1,6 @@
 -- `switch_word` meets its contract. Assumes nothing.
 use borrow.Author.Tests.{eq-eqb, ne-eqb}
-use Rattle.script.specs.Glyphs.{switchOf}
+use Rattle.script.specs.Characters.{switchOf}
 use Rattle.encoding.proofs.switch_word.Statement.{statement}
 use Rattle.encoding.proofs.switch_word.Tie as tie
 

@@ -5,7 +5,7 @@ use Prim.Native.Nat.{_+_, _-_, _*_, _≤_}
 use native.Mathlib.Omega.{arith}
 use borrow.Author.Needs.{needs}
 use lib.ListN.{length, drop, length-drop}
-use Rattle.script.specs.Glyphs.{wordsOf, hasAll, beginsIn}
+use Rattle.script.specs.Characters.{wordsOf, hasAll, beginsIn}
 use Rattle.encoding.specs.Written.{Doing}
 use Rattle.encoding.proofs.Doing.{begun, word-room, word-done, all-done, doing-as, same-words, other-words, never-lacking, end-words}
 use Rattle.encoding.proofs.write_chars.Statement.{statement}
@@ -34,7 +34,7 @@ put-requires c κs =
     let st = gl .before .before .before .before .step in
     let a = gl .before .before .before .before .before .before .before .args in
     let v = k .before .g .given in
-    let t = same-words (a .run .now) (a .mode) (l .first) (l .j) (v .0 .0) (st .result) (gl .glyph-at .result) (gl .glyph-at .ensures) (st .ensures .0) (v .1) in
+    let t = same-words (a .run .now) (a .mode) (l .first) (l .j) (v .0 .0) (st .result) (gl .character-at .result) (gl .character-at .ensures) (st .ensures .0) (v .1) in
     let n = length-drop (l .j) (a .run .now) in
     let d = doing-as (t .0) (l .inv .4) in
     let r = word-room (8 * length (a .buf .now)) d (l .inv .3) in
@@ -48,7 +48,7 @@ loop-less c =
     let st = gl .before .before .before .before .step in
     let a = gl .before .before .before .before .before .before .before .args in
     let v = k .before .g .given in
-    let t = same-words (a .run .now) (a .mode) (l .first) (l .j) (v .0 .0) (st .result) (gl .glyph-at .result) (gl .glyph-at .ensures) (st .ensures .0) (v .1) in
+    let t = same-words (a .run .now) (a .mode) (l .first) (l .j) (v .0 .0) (st .result) (gl .character-at .result) (gl .character-at .ensures) (st .ensures .0) (v .1) in
     let n = length-drop (l .j) (a .run .now) in
     let d = doing-as (t .0) (l .inv .4) in
     omega arith
@@ -61,7 +61,7 @@ loop-again c =
     let st = gl .before .before .before .before .step in
     let a = gl .before .before .before .before .before .before .before .args in
     let v = k .before .g .given in
-    let t = same-words (a .run .now) (a .mode) (l .first) (l .j) (v .0 .0) (st .result) (gl .glyph-at .result) (gl .glyph-at .ensures) (st .ensures .0) (v .1) in
+    let t = same-words (a .run .now) (a .mode) (l .first) (l .j) (v .0 .0) (st .result) (gl .character-at .result) (gl .character-at .ensures) (st .ensures .0) (v .1) in
     let n = length-drop (l .j) (a .run .now) in
     let d = doing-as (t .0) (l .inv .4) in
     let p = c .before .before .put in
@@ -75,7 +75,7 @@ put-requires-2 c κs =
     let st = gl .before .before .before .before .step in
     let a = gl .before .before .before .before .before .before .before .args in
     let v = k .before .g2 .given in
-    let t = other-words (a .run .now) (a .mode) (l .first) (l .j) (v .0 .0) (st .result) (gl .glyph-at .result) (gl .glyph-at .ensures) (st .ensures .0) (v .1) in
+    let t = other-words (a .run .now) (a .mode) (l .first) (l .j) (v .0 .0) (st .result) (gl .character-at .result) (gl .character-at .ensures) (st .ensures .0) (v .1) in
     let n = length-drop (l .j) (a .run .now) in
     let d = doing-as (t .0) (l .inv .4) in
     let r = word-room (8 * length (a .buf .now)) d (l .inv .3) in
@@ -89,7 +89,7 @@ put-requires-3 c κs =
     let st = gl .before .before .before .before .step in
     let a = gl .before .before .before .before .before .before .before .args in
     let v = k .before .g2 .given in
-    let t = other-words (a .run .now) (a .mode) (l .first) (l .j) (v .0 .0) (st .result) (gl .glyph-at .result) (gl .glyph-at .ensures) (st .ensures .0) (v .1) in
+    let t = other-words (a .run .now) (a .mode) (l .first) (l .j) (v .0 .0) (st .result) (gl .character-at .result) (gl .character-at .ensures) (st .ensures .0) (v .1) in
     let n = length-drop (l .j) (a .run .now) in
     let d = doing-as (t .0) (l .inv .4) in
     let p = c .before .before .before .put2 in
@@ -106,7 +106,7 @@ loop-less-2 c =
     let st = gl .before .before .before .before .step in
     let a = gl .before .before .before .before .before .before .before .args in
     let v = k .before .g2 .given in
-    let t = other-words (a .run .now) (a .mode) (l .first) (l .j) (v .0 .0) (st .result) (gl .glyph-at .result) (gl .glyph-at .ensures) (st .ensures .0) (v .1) in
+    let t = other-words (a .run .now) (a .mode) (l .first) (l .j) (v .0 .0) (st .result) (gl .character-at .result) (gl .character-at .ensures) (st .ensures .0) (v .1) in
     let n = length-drop (l .j) (a .run .now) in
     let d = doing-as (t .0) (l .inv .4) in
     omega arith
@@ -122,7 +122,7 @@ loop-again-2 c =
     let st = gl .before .before .before .before .step in
     let a = gl .before .before .before .before .before .before .before .args in
     let v = k .before .g2 .given in
-    let t = other-words (a .run .now) (a .mode) (l .first) (l .j) (v .0 .0) (st .result) (gl .glyph-at .result) (gl .glyph-at .ensures) (st .ensures .0) (v .1) in
+    let t = other-words (a .run .now) (a .mode) (l .first) (l .j) (v .0 .0) (st .result) (gl .character-at .result) (gl .character-at .ensures) (st .ensures .0) (v .1) in
     let n = length-drop (l .j) (a .run .now) in
     let d = doing-as (t .0) (l .inv .4) in
     let p = put2 in
@@ -136,7 +136,7 @@ returns c =
     let l = gl .before .before .loop in
     let st = gl .before .before .before .before .step in
     let a = gl .before .before .before .before .before .before .before .args in
-    never-lacking (a .run .now) (a .mode) (l .first) (l .j) 0 (st .result) (gl .glyph-at .result) (gl .glyph-at .ensures) (st .ensures .0) (l .inv .2) (c .enum-told .given .1)
+    never-lacking (a .run .now) (a .mode) (l .first) (l .j) 0 (st .result) (gl .character-at .result) (gl .character-at .ensures) (st .ensures .0) (l .inv .2) (c .enum-told .given .1)
 
 put-requires-4 : tie.Need-put-requires-4 Inv-loop μ-loop
 put-requires-4 c κs =

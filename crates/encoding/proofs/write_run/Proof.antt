@@ -6,9 +6,9 @@ use native.Mathlib.Omega.{arith}
 use lib.ListN.{length}
 use Rattle.bits.specs.Bits.{wordBits}
 use Rattle.script.specs.Writer.{numericWords, fourCode, modeBits}
-use Rattle.script.specs.Glyphs.{wordsOf, widthOf, beginsIn}
+use Rattle.script.specs.Characters.{wordsOf, widthOf, beginsIn}
 use Rattle.encoding.proofs.Doing.{written-both}
-use Rattle.encoding.proofs.Runs.{first-room, rest-room, word-length, numeric-bits, bytes-bits, four-bits, char-bits}
+use Rattle.encoding.proofs.Runs.{first-room, rest-room, word-length, numeric-bits, bytes-bits, four-bits, four-whole, char-bits}
 use borrow.Author.Needs.{needs}
 use Rattle.encoding.proofs.write_run.Statement.{statement}
 use Rattle.encoding.proofs.write_run.Tie as tie
@@ -68,6 +68,11 @@ returns-2 c =
     let a = p .before .before .before .before .args in
     rw (bytes-bits (a .mode) (a .chars .now) (q .before .before .if2 .taken)) (written-both (p .put .ensures) (written-both (q .put2 .ensures) (c .before .before .write-bytes .ensures)))
 
+four-code-requires : tie.Need-four-code-requires
+four-code-requires c κs =
+    let s = c .before .before .before .before .before .before .before .before .before .before in
+    four-whole (s .args .mode) (s .args .chars .now) (c .before .if3 .taken) (s .pre .3)
+
 put-requires-3 : tie.Need-put-requires-3
 put-requires-3 c κs =
     let p = c .before .before .before .before .before .before .before in
@@ -108,5 +113,5 @@ returns-4 c =
 pub write-run-spec : {M : Type 1} → statement M
 write-run-spec =
     tie.close (tie.spec put-requires write-numeric-requires (λ c. search needs) returns put-requires-2 write-bytes-requires
-    (λ c. search needs) returns-2 (λ c κs. search needs) put-requires-3 (λ c. search needs) returns-3 write-chars-requires
+    (λ c. search needs) returns-2 four-code-requires put-requires-3 (λ c. search needs) returns-3 write-chars-requires
     (λ c. search needs) returns-4)

@@ -15,7 +15,7 @@ returns-2 c =
     let t = c .before in
     let b = t .before .before .before .before .before .before .before in
     let a = b .before .before .before .before .before .before .before .before .before .args in
-    let d = b .pass in
+    let d = b .parse in
     let v = t .before .first .given in
     is-empty (a .«data» .now) (a .payload .now) (a .script .now) (b .before .before .before .if1 .left) (a .spare .now) (a .other .now) (d .result) (d .last .1 .0) (d .last .1 .1 .0) (d .ensures) (v .0 .0) (v .0 .1 .0) (v .1) (c .if2 .taken)
 
@@ -24,7 +24,7 @@ returns-3 c =
     let t = c .before .before in
     let b = t .before .before .before .before .before .before .before in
     let a = b .before .before .before .before .before .before .before .before .before .args in
-    let d = b .pass in
+    let d = b .parse in
     let v = t .before .first .given in
     is-payload-full (a .«data» .now) (a .payload .now) (a .script .now) (b .before .before .before .if1 .left) (a .spare .now) (a .other .now) (d .result) (d .last .1 .0) (d .last .1 .1 .0) (d .ensures) (v .0 .0) (v .0 .1 .0) (v .1) (c .before .if2 .left) (c .if3 .taken)
 
@@ -33,7 +33,7 @@ returns-4 c =
     let t = c .before .before .before in
     let b = t .before .before .before .before .before .before .before in
     let a = b .before .before .before .before .before .before .before .before .before .args in
-    let d = b .pass in
+    let d = b .parse in
     let v = t .before .first .given in
     is-script-full (a .«data» .now) (a .payload .now) (a .script .now) (b .before .before .before .if1 .left) (a .spare .now) (a .other .now) (d .result) (d .last .1 .0) (d .last .1 .1 .0) (d .ensures) (v .0 .0) (v .0 .1 .0) (v .1) (c .before .before .if2 .left) (c .before .if3 .left) (c .if4 .taken)
 
@@ -43,9 +43,9 @@ returns-5 c =
     let t = c .before .before .before .before .before .before .before .before .before .before .before in
     let b = t .before .before .before .before .before .before .before in
     let a = b .before .before .before .before .before .before .before .before .before .args in
-    let d = b .pass in
+    let d = b .parse in
     let v = t .before .first .given in
-    let g = c .before .before .before .before .pass2 in
+    let g = c .before .before .before .before .parse2 in
     is-read (a .«data» .now) (a .payload .now) (a .script .now) (b .before .before .before .if1 .left) (a .spare .now) (a .other .now) (d .result) (d .last .1 .0) (d .last .1 .1 .0) (d .ensures) (v .0 .0) (v .0 .1 .0) (v .1) (e .before .before .if2 .left) (e .before .if3 .left) (e .if4 .left) (g .result) (g .last .1 .0) (g .last .1 .1 .0) (g .ensures)
 
 returns-6 : tie.Need-returns-6
@@ -54,9 +54,9 @@ returns-6 c =
     let t = c .before .before .before .before .before .before .before .before .before .before .before .before in
     let b = t .before .before .before .before .before .before .before in
     let a = b .before .before .before .before .before .before .before .before .before .args in
-    let d = b .pass in
+    let d = b .parse in
     let v = t .before .first .given in
-    let g = c .before .before .before .before .pass3 in
+    let g = c .before .before .before .before .parse3 in
     is-read (a .«data» .now) (a .payload .now) (a .script .now) (b .before .before .before .if1 .left) (a .spare .now) (a .other .now) (d .result) (d .last .1 .0) (d .last .1 .1 .0) (d .ensures) (v .0 .0) (v .0 .1 .0) (v .1) (e .before .before .if2 .left) (e .before .if3 .left) (e .if4 .left) (g .result) (g .last .1 .0) (g .last .1 .1 .0) (g .ensures)
 
 returns-7 : tie.Need-returns-7
@@ -65,7 +65,7 @@ returns-7 c =
     let t = c .before .before .before .before .before .before .before .before .before .before .before .before .before .before .before in
     let b = t .before .before .before .before .before .before .before in
     let a = b .before .before .before .before .before .before .before .before .before .args in
-    let d = b .pass in
+    let d = b .parse in
     let v = t .before .first .given in
     let g = c .before .before .before .before .before .before .before .copy in
     let f = c .before .before .copy2 in
@@ -75,14 +75,14 @@ returns-8 : tie.Need-returns-8
 returns-8 c =
     let b = c .before .before .before .before .before .before in
     let a = b .before .before .before .before .before .before .before .before .before .args in
-    let d = b .pass in
+    let d = b .parse in
     is-broken (a .«data» .now) (a .payload .now) (a .script .now) (b .before .before .before .if1 .left) (a .spare .now) (a .other .now) (d .result) (d .last .1 .0) (d .last .1 .1 .0) (d .ensures) cut (c .enum-told .given .1)
 
 returns-9 : tie.Need-returns-9
 returns-9 c =
     let b = c .before .before .before .before .before .before in
     let a = b .before .before .before .before .before .before .before .before .before .args in
-    let d = b .pass in
+    let d = b .parse in
     is-broken (a .«data» .now) (a .payload .now) (a .script .now) (b .before .before .before .if1 .left) (a .spare .now) (a .other .now) (d .result) (d .last .1 .0) (d .last .1 .1 .0) (d .ensures) lacking (c .enum-told2 .given .1)
 
 pub from-data-with-spec : {M : Type 1} → statement M

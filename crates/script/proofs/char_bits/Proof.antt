@@ -4,7 +4,7 @@ use Prim.Native.Nat.{_+_, _≤_, _-_, _*_}
 use native.Mathlib.Omega.{arith}
 use borrow.Author.Needs.{needs}
 use lib.ListN.{length, drop}
-use Rattle.script.specs.Glyphs.{wordsOf, hasAll, beginsIn}
+use Rattle.script.specs.Characters.{wordsOf, hasAll, beginsIn}
 use Rattle.script.proofs.Runs.{run-same, run-other, run-lacks, run-done, cost-lacks, small}
 use Rattle.script.proofs.char_bits.Statement.{statement}
 use Rattle.script.proofs.char_bits.Tie as tie
@@ -21,7 +21,7 @@ loop-less c =
     let l = g .before .before .loop in
     let s = g .before .before .before .step in
     let a = g .before .before .before .before .before .args in
-    let t = run-same (a .run .now) (a .mode) (l .first) (l .j) (c .enum-told .given .0 .0) (s .result) (g .glyph-at .result) (g .glyph-at .ensures) (s .ensures .0) (s .ensures .1) (c .enum-told .given .1) in
+    let t = run-same (a .run .now) (a .mode) (l .first) (l .j) (c .enum-told .given .0 .0) (s .result) (g .character-at .result) (g .character-at .ensures) (s .ensures .0) (s .ensures .1) (c .enum-told .given .1) in
     omega arith
 
 loop-again : tie.Need-loop-again Inv-loop μ-loop
@@ -30,7 +30,7 @@ loop-again c =
     let l = g .before .before .loop in
     let s = g .before .before .before .step in
     let a = g .before .before .before .before .before .args in
-    let t = run-same (a .run .now) (a .mode) (l .first) (l .j) (c .enum-told .given .0 .0) (s .result) (g .glyph-at .result) (g .glyph-at .ensures) (s .ensures .0) (s .ensures .1) (c .enum-told .given .1) in
+    let t = run-same (a .run .now) (a .mode) (l .first) (l .j) (c .enum-told .given .0 .0) (s .result) (g .character-at .result) (g .character-at .ensures) (s .ensures .0) (s .ensures .1) (c .enum-told .given .1) in
     (t .0, omega arith, l .inv .2 ∙ t .1, omega arith)
 
 loop-less-2 : tie.Need-loop-less-2 Inv-loop μ-loop
@@ -39,7 +39,7 @@ loop-less-2 c =
     let l = g .before .before .loop in
     let s = g .before .before .before .step in
     let a = g .before .before .before .before .before .args in
-    let t = run-other (a .run .now) (a .mode) (l .first) (l .j) (c .enum-told2 .given .0 .0) (s .result) (g .glyph-at .result) (g .glyph-at .ensures) (s .ensures .0) (s .ensures .1) (c .enum-told2 .given .1) in
+    let t = run-other (a .run .now) (a .mode) (l .first) (l .j) (c .enum-told2 .given .0 .0) (s .result) (g .character-at .result) (g .character-at .ensures) (s .ensures .0) (s .ensures .1) (c .enum-told2 .given .1) in
     omega arith
 
 loop-again-2 : tie.Need-loop-again-2 Inv-loop μ-loop
@@ -48,7 +48,7 @@ loop-again-2 c =
     let l = g .before .before .loop in
     let s = g .before .before .before .step in
     let a = g .before .before .before .before .before .args in
-    let t = run-other (a .run .now) (a .mode) (l .first) (l .j) (c .enum-told2 .given .0 .0) (s .result) (g .glyph-at .result) (g .glyph-at .ensures) (s .ensures .0) (s .ensures .1) (c .enum-told2 .given .1) in
+    let t = run-other (a .run .now) (a .mode) (l .first) (l .j) (c .enum-told2 .given .0 .0) (s .result) (g .character-at .result) (g .character-at .ensures) (s .ensures .0) (s .ensures .1) (c .enum-told2 .given .1) in
     (t .0, omega arith, l .inv .2 ∙ t .1, omega arith)
 
 returns : tie.Need-returns Inv-loop μ-loop
@@ -57,7 +57,7 @@ returns c =
     let l = g .before .before .loop in
     let s = g .before .before .before .step in
     let a = g .before .before .before .before .before .args in
-    (cost-lacks (a .run .now) (a .mode) (l .inv .2 ∙ run-lacks (a .run .now) (a .mode) (l .first) (l .j) 0 (s .result) (g .glyph-at .result) (g .glyph-at .ensures) (s .ensures .0) (s .ensures .1) (c .enum-told3 .given .1)), tt)
+    (cost-lacks (a .run .now) (a .mode) (l .inv .2 ∙ run-lacks (a .run .now) (a .mode) (l .first) (l .j) 0 (s .result) (g .character-at .result) (g .character-at .ensures) (s .ensures .0) (s .ensures .1) (c .enum-told3 .given .1)), tt)
 
 mul-t12 : tie.Need-mul-t12 Inv-loop μ-loop
 mul-t12 c =

@@ -9,7 +9,7 @@ use borrow.Author.Needs.{needs}
 use lib.ListN.{length, take, drop}
 use Rattle.script.specs.Check.{commands, commandsOf}
 use Rattle.script.specs.Inner.{commandSize, checkOf, settled}
-use Rattle.script.specs.Glyphs.{costOf}
+use Rattle.script.specs.Characters.{costOf}
 use Rattle.script.proofs.Checks.{run-bounds, eci-bounds, settle-start, settle-wrong, settle-eci, settle-short, settle-takes, settle-lacks, end-left, end-lacks, end-empty, end-bits, limited}
 use Rattle.script.proofs.check_script.Statement.{statement}
 use Rattle.script.proofs.check_script.Tie as tie
@@ -58,8 +58,8 @@ run-bits-requires c κs =
     let k : n ≤ length (drop (l .j) (a .payload .now)) = rw length-drop (omega arith) in
     rw (z, length-take-le n (drop (l .j) (a .payload .now)) k) (b .0, b .1, b .2)
 
-plus-requires : tie.Need-plus-requires Inv-loop μ-loop
-plus-requires c κs =
+capped-sum-requires : tie.Need-capped-sum-requires Inv-loop μ-loop
+capped-sum-requires c κs =
     let q = c .before .before .before in
     let t = limited (q .run-bits .result) (c .before .cost .given .0 .0) (q .run-bits .ensures .1) (c .before .cost .given .1) in
     (omega arith, omega arith)
@@ -76,7 +76,7 @@ loop-again c =
     let v = k .before .next .given in
     let u = c .before .before .before .cost .given in
     let w = c .command-size .ensures .0 in
-    let p = c .before .plus in
+    let p = c .before .capped-sum in
     let z : l .j + v .0 .1 .0 - l .j ≡ v .0 .1 .0 = omega arith in
     let s : q .run-bits .result ≡ costOf (v .0 .0) (take (v .0 .1 .0) (drop (l .j) (a .payload .now))) = rw z at (q .run-bits .ensures .0) in
     let b = bounds k in (
@@ -131,7 +131,7 @@ loop-again-3 c =
     let l = g .before .before .loop in
     let a = g .before .before .before .before .before .args in
     let v = k .before .next2 .given in
-    let p = c .plus2 in
+    let p = c .capped-sum2 in
     let r = eci-room k in (
       omega arith,
       omega arith,
@@ -183,7 +183,7 @@ returns-6 c =
 pub check-script-spec : {M : Type 1} → statement M
 check-script-spec =
     tie.close (tie.spec Inv-loop μ-loop loop-holds (λ c κs. omega arith) (λ c. c .match .keys1) (λ c. omega arith) returns
-    (λ c. omega arith) (λ c. omega arith) (λ c. omega arith) (λ c. omega arith) run-bits-requires (λ c. c .match2 .keys1) plus-requires
+    (λ c. omega arith) (λ c. omega arith) (λ c. omega arith) (λ c. omega arith) run-bits-requires (λ c. c .match2 .keys1) capped-sum-requires
     (λ c κs. search needs) (λ c. omega arith) (λ c. omega arith) loop-again (λ c. c .match2 .keys2) (λ c κs. search needs)
     (λ c. omega arith) (λ c. omega arith) loop-again-2 (λ c. c .match .keys2) (λ c κs. search needs) (λ c κs. omega arith)
     (λ c. omega arith) (λ c. omega arith) loop-again-3 (λ c. c .match .keys3) returns-2 returns-3 returns-4 returns-5 returns-6)

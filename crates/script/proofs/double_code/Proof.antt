@@ -7,11 +7,11 @@ use Rattle.script.proofs.double_code.Tie as tie
 
 returns : tie.Need-returns
 unfolding doubleCode
-returns c = simp (lt-ltb _ _ (c .before .before .if1 .taken), c .minus2 .ensures, c .before .minus .ensures)
+returns c = simp (lt-ltb _ _ (c .before .before .if1 .taken), c .saturating-sub2 .ensures, c .before .saturating-sub .ensures)
 
 returns-2 : tie.Need-returns-2
 unfolding doubleCode
-returns-2 c = simp (le-ltb _ _ (c .before .if1 .left), c .minus3 .ensures)
+returns-2 c = simp (le-ltb _ _ (c .before .if1 .left), c .saturating-sub3 .ensures)
 
 pub double-code-spec : {M : Type 1} → statement M
 double-code-spec =

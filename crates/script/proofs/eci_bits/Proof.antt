@@ -1,7 +1,7 @@
 -- `eci_bits` meets its contract. Assumes nothing.
 use native.Mathlib.Omega.{arith}
 use borrow.Author.Tests.{lt-ltb, le-ltb}
-use Rattle.script.specs.Writer.{eciLength}
+use Rattle.script.specs.Lengths.{eciLength}
 use Rattle.script.proofs.eci_bits.Statement.{statement}
 use Rattle.script.proofs.eci_bits.Tie as tie
 

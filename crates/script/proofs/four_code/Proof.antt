@@ -1,22 +1,29 @@
 -- `four_code` meets its contract. Assumes nothing.
-use Rattle.script.proofs.Codes.{four-short, four-at}
+use Rattle.script.specs.Writer.{fourCode}
 use borrow.Author.Needs.{needs}
 use Rattle.script.proofs.four_code.Statement.{statement}
 use Rattle.script.proofs.four_code.Tie as tie
 
 returns : tie.Need-returns
-returns c = four-short (c .before .before .args .run .now) (c .if1 .taken)
-
-returns-2 : tie.Need-returns-2
-returns-2 c =
+unfolding fourCode
+returns c =
     let d = c .before .before .before in
     let e = d .before .before .before in
     let f = e .before .before .before in
-    rw (c .minus4 .ensures, c .before .wide4 .ensures .0, d .minus3 .ensures, d .before .wide3 .ensures .0, e .minus2 .ensures, e .before .wide2 .ensures .0, f .minus .ensures, f .before .wide .ensures .0) (four-at (f .before .before .before .before .before .args .run .now) (f .before .before .before .if1 .left))
+    rw (
+      c .saturating-sub4 .ensures,
+      c .before .wide4 .ensures .0,
+      d .saturating-sub3 .ensures,
+      d .before .wide3 .ensures .0,
+      e .saturating-sub2 .ensures,
+      e .before .wide2 .ensures .0,
+      f .saturating-sub .ensures,
+      f .before .wide .ensures .0,
+    )
 
 pub four-code-spec : {M : Type 1} → statement M
 four-code-spec =
-    tie.close (tie.spec returns (λ c. search needs) (λ c κs. search needs) (λ c κs. search needs) (λ c. search needs)
+    tie.close (tie.spec (λ c. search needs) (λ c κs. search needs) (λ c κs. search needs) (λ c. search needs)
     (λ c. search needs) (λ c κs. search needs) (λ c κs. search needs) (λ c. search needs) (λ c. search needs) (λ c. search needs)
     (λ c κs. search needs) (λ c κs. search needs) (λ c. search needs) (λ c. search needs) (λ c. search needs) (λ c κs. search needs)
-    (λ c κs. search needs) (λ c. search needs) returns-2)
+    (λ c κs. search needs) (λ c. search needs) returns)

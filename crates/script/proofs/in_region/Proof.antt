@@ -14,9 +14,9 @@ returns c =
     let p = d .before .before .before in
     let a = p .before .args in
     let e = p .pair-code .ensures in
-    let h = rw (d .high .ensures .1, e) at (c .before .if2 .taken) in
+    let h = rw (d .high-byte .ensures .1, e) at (c .before .if2 .taken) in
     let l = rw (e, d .before .before .region-size .ensures) at (d .before .if1 .taken) in
-    rw (c .low .ensures .1, e, lt-ltb (pairCode (a .one) (a .a) (a .b)) (regionSize (a .one)) l, eq-eqb (highOf (a .one) (pairCode (a .one) (a .a) (a .b))) (a .a) h)
+    rw (c .low-byte .ensures .1, e, lt-ltb (pairCode (a .one) (a .a) (a .b)) (regionSize (a .one)) l, eq-eqb (highOf (a .one) (pairCode (a .one) (a .a) (a .b))) (a .a) h)
 
 returns-2 : tie.Need-returns-2
 unfolding inRegion
@@ -26,7 +26,7 @@ returns-2 c =
     let a = p .before .args in
     let e = p .pair-code .ensures in
     let l = rw (e, d .before .before .region-size .ensures) at (d .before .if1 .taken) in
-    rw (lt-ltb (pairCode (a .one) (a .a) (a .b)) (regionSize (a .one)) l, ne-eqb (highOf (a .one) (pairCode (a .one) (a .a) (a .b))) (a .a) (λ q. c .if2 .left (d .high .ensures .1 ∙ ap (highOf (a .one)) e ∙ q)))
+    rw (lt-ltb (pairCode (a .one) (a .a) (a .b)) (regionSize (a .one)) l, ne-eqb (highOf (a .one) (pairCode (a .one) (a .a) (a .b))) (a .a) (λ q. c .if2 .left (d .high-byte .ensures .1 ∙ ap (highOf (a .one)) e ∙ q)))
 
 returns-3 : tie.Need-returns-3
 unfolding inRegion

@@ -1,7 +1,7 @@
 -- `step` meets its contract. Assumes nothing.
 use native.Mathlib.Omega.{arith}
 use borrow.Author.Tests.{eq-eqb, ne-eqb}
-use Rattle.script.specs.Glyphs.{stepOf}
+use Rattle.script.specs.Characters.{stepOf}
 use Rattle.script.proofs.step.Statement.{statement}
 use Rattle.script.proofs.step.Tie as tie
 

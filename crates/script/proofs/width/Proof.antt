@@ -1,7 +1,7 @@
 -- `width` meets its contract. Assumes nothing.
 use native.Mathlib.Omega.{arith}
 use borrow.Author.Tests.{eq-eqb, ne-eqb}
-use Rattle.script.specs.Glyphs.{widthOf}
+use Rattle.script.specs.Characters.{widthOf}
 use Rattle.script.proofs.width.Statement.{statement}
 use Rattle.script.proofs.width.Tie as tie
 

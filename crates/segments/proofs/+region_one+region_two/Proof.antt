@@ -7,7 +7,7 @@ use borrow.Author.Needs.{needs}
 use borrow.Fn.Kinds.{In}
 use borrow.Fn.PlainCycle.{Measures, is, falls, and}
 use lib.ListN.{length}
-use Rattle.segments.specs.Passes.{countOf}
+use Rattle.segments.specs.Positions.{countOf}
 use Rattle.segments.proofs.Regions.{ran-end, ran-small, ran-cut, ran-lacks, ran-room, ran-on}
 use Rattle.segments.proofs.region_one.Reads as region-one
 use Rattle.segments.proofs.region_one.Kinds as region-one-kinds

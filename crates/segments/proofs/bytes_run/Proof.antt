@@ -7,7 +7,7 @@ use Prim.Native.Nat.{_≤_, _*_, _-_, _+_}
 use lib.ListN.{length}
 use Rattle.bits.proofs.Words.{WordAt, word-read, word-cut}
 use Rattle.segments.proofs.Turns.{bytes-run-cut, bytes-run-done, bytes-run-more}
-use Rattle.segments.specs.Passes.{bytesRunAt}
+use Rattle.segments.specs.Positions.{bytesRunAt}
 use Rattle.segments.proofs.bytes_run.Statement.{statement}
 use Rattle.segments.proofs.bytes_run.Tie as tie
 

@@ -8,7 +8,7 @@ use lib.ListN.{length}
 use lib.Seq.{sets}
 use Rattle.bits.proofs.Words.{WordAt, word-read, word-cut}
 use Rattle.segments.specs.Segments.{firstByte, secondByte}
-use Rattle.segments.specs.Passes.{doubleByteAt}
+use Rattle.segments.specs.Positions.{doubleByteAt}
 use Rattle.segments.proofs.Turns.{double-cut, double-end, double-lacks, double-pair}
 use Rattle.segments.proofs.double_byte.Statement.{statement}
 use Rattle.segments.proofs.double_byte.Tie as tie

@@ -7,7 +7,7 @@ use Prim.Native.Nat.{ℕ, _≤_, _<_, _*_, _-_, _+_}
 use lib.ListN.{length}
 use Rattle.bits.proofs.Words.{WordAt, word-read, word-cut}
 use Rattle.segments.proofs.Turns.{numeric-cut, numeric-lacks, numeric-first, groups-cut, groups-more, groups-lack, groups-large, groups-end}
-use Rattle.segments.specs.Passes.{numericAt, groupsAt}
+use Rattle.segments.specs.Positions.{numericAt, groupsAt}
 use Rattle.segments.proofs.numeric.Statement.{statement}
 use Rattle.segments.proofs.numeric.Tie as tie
 

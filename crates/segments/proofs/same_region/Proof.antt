@@ -8,7 +8,7 @@ use lib.ListN.{length}
 use lib.Seq.{sets}
 use Rattle.bits.proofs.Words.{WordAt, word-read, word-cut}
 use Rattle.segments.specs.Segments.{highOf, lowOf}
-use Rattle.segments.specs.Passes.{regionAt}
+use Rattle.segments.specs.Positions.{regionAt}
 use Rattle.segments.proofs.Turns.{region-cut, region-end, region-switch, region-lacks, region-pair}
 use Rattle.segments.proofs.same_region.Statement.{statement}
 use Rattle.segments.proofs.same_region.Tie as tie
@@ -64,7 +64,7 @@ returns-4 c =
     l .inv .5 ∙ region-lacks (a .s .now) (l .at) (l .n) (l .out) (k .before .got .given .0 .0) (a .one) (word k) (c .before .before .before .if1 .left) (c .before .before .if2 .left) (omega arith)
 
 put-pair-requires : tie.Need-put-pair-requires Inv-loop μ-loop
-put-pair-requires c κs = (omega arith, c .before .high .ensures .0, c .low .ensures .0)
+put-pair-requires c κs = (omega arith, c .before .high-byte .ensures .0, c .low-byte .ensures .0)
 
 loop-less : tie.Need-loop-less Inv-loop μ-loop
 loop-less c = let m = word (c .before .before .before .before .before .before .before .before .before .before) .room in omega arith
@@ -72,7 +72,7 @@ loop-less c = let m = word (c .before .before .before .before .before .before .b
 loop-again : tie.Need-loop-again Inv-loop μ-loop
 loop-again c =
     let before = c .before .before .before .before .before .before in
-    let high = c .before .before .before .before .high in
+    let high = c .before .before .before .before .high-byte in
     let e = before in
     let k = e .before .before .before .before in
     let w = k .before .got .given .0 .0 in
@@ -81,7 +81,7 @@ loop-again c =
     let r = word k in
     let p = c .before .before .put-pair in
     let x : p .last .0 ≡ sets (l .out) (l .n) (highOf (a .one) w ∷ lowOf (a .one) w ∷ []) =
-    p .ensures ∙ ap₂ (λ (x y : ℕ). sets (l .out) (l .n) (x ∷ y ∷ [])) (high .ensures .1) (c .before .before .before .low .ensures .1) in (
+    p .ensures ∙ ap₂ (λ (x y : ℕ). sets (l .out) (l .n) (x ∷ y ∷ [])) (high .ensures .1) (c .before .before .before .low-byte .ensures .1) in (
       p .kept .0 ∙ l .inv .0,
       omega arith,
       omega arith,

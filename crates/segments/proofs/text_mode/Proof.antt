@@ -9,7 +9,7 @@ use lib.ListN.{length, set}
 use Rattle.segments.specs.Segments.{charOf}
 use Rattle.bits.proofs.Words.{WordAt, word-read, word-cut}
 use Rattle.segments.proofs.Turns.{text-cut, text-end, text-switch, text-byte}
-use Rattle.segments.specs.Passes.{textAt}
+use Rattle.segments.specs.Positions.{textAt}
 use Rattle.segments.proofs.text_mode.Statement.{statement}
 use Rattle.segments.proofs.text_mode.Tie as tie
 

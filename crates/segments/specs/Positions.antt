@@ -104,10 +104,10 @@ abbrev pub Reached : ℕ → ℕ → List ℕ → List ℕ → List Segment → 
 Reached n m o c gs r x y = (r ≡ Done (n + length (payloadOf gs)) (m + length (scriptOf gs))) × (x ≡ sets o n (payloadOf gs)) × (y ≡ sets c m (scriptOf gs))
 
 -- a pass with these segments and this end to come
-abbrev pub PassedTo : ℕ → ℕ → List ℕ → List ℕ → List Segment → Ending → Count → List ℕ → List ℕ → Type 0
-PassedTo n m o c gs endMark r x y = Reached n m o c gs r x y
-PassedTo n m o c gs fewBits r x y = Reached n m o c gs r x y
-PassedTo n m o c gs (broken bad) r x y = r ≡ counted bad
+abbrev pub ParsesTo : ℕ → ℕ → List ℕ → List ℕ → List Segment → Ending → Count → List ℕ → List ℕ → Type 0
+ParsesTo n m o c gs endMark r x y = Reached n m o c gs r x y
+ParsesTo n m o c gs fewBits r x y = Reached n m o c gs r x y
+ParsesTo n m o c gs (broken bad) r x y = r ≡ counted bad
 
-abbrev pub Passed : ℕ → ℕ → List ℕ → List ℕ → Parsed → Count → List ℕ → List ℕ → Type 0
-Passed n m o c z r x y = PassedTo n m o c (z .segments) (z .end) r x y
+abbrev pub Parses : ℕ → ℕ → List ℕ → List ℕ → Parsed → Count → List ℕ → List ℕ → Type 0
+Parses n m o c z r x y = ParsesTo n m o c (z .segments) (z .end) r x y

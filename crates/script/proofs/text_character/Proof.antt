@@ -1,27 +1,27 @@
--- `text_glyph` meets its contract. Assumes nothing.
+-- `text_character` meets its contract. Assumes nothing.
 use mathlib.Core.Path.{sym, _∙_}
-use Rattle.script.specs.Glyphs.{textGlyph}
+use Rattle.script.specs.Characters.{textCharacter}
 use borrow.Author.Needs.{needs}
-use Rattle.script.proofs.text_glyph.Statement.{statement}
-use Rattle.script.proofs.text_glyph.Tie as tie
+use Rattle.script.proofs.text_character.Statement.{statement}
+use Rattle.script.proofs.text_character.Tie as tie
 
 returns : tie.Need-returns
-unfolding textGlyph
+unfolding textCharacter
 returns c = rw (sym (c .before .before .in-subset .ensures) ∙ c .before .if1 .taken, c .code .ensures)
 
 returns-2 : tie.Need-returns-2
-unfolding textGlyph
+unfolding textCharacter
 returns-2 c =
     let d = c .before .before in
     rw (sym (d .before .before .in-subset .ensures) ∙ d .before .if1 .left, sym (d .in-subset2 .ensures) ∙ c .before .if2 .taken, c .code2 .ensures)
 
 returns-3 : tie.Need-returns-3
-unfolding textGlyph
+unfolding textCharacter
 returns-3 c =
     let d = c .before in
     rw (sym (d .before .before .in-subset .ensures) ∙ d .before .if1 .left, sym (d .in-subset2 .ensures) ∙ c .if2 .left)
 
-pub text-glyph-spec : {M : Type 1} → statement M
-text-glyph-spec =
+pub text-character-spec : {M : Type 1} → statement M
+text-character-spec =
     tie.close (tie.spec (λ c κs. search needs) (λ c κs. search needs) returns (λ c κs. search needs) (λ c κs. search needs) returns-2
     returns-3)

@@ -1,10 +1,10 @@
--- `plus` meets its contract. Assumes nothing.
+-- `capped_sum` meets its contract. Assumes nothing.
 use Prim.Native.Nat.{_+_}
 use native.Mathlib.Omega.{arith}
 use borrow.Author.Tests.{lt-ltb, le-ltb}
 use borrow.Author.Needs.{needs}
-use Rattle.script.proofs.plus.Statement.{statement}
-use Rattle.script.proofs.plus.Tie as tie
+use Rattle.script.proofs.capped_sum.Statement.{statement}
+use Rattle.script.proofs.capped_sum.Tie as tie
 
 returns : tie.Need-returns
 returns c =
@@ -16,5 +16,5 @@ returns-2 c =
     let a = c .before .args in
     (rw (le-ltb (a .x + a .y) 31089 (c .if1 .left)), omega arith)
 
-pub plus-spec : {M : Type 1} → statement M
-plus-spec = tie.close (tie.spec (λ c. search needs) (λ c. search needs) returns returns-2)
+pub capped-sum-spec : {M : Type 1} → statement M
+capped-sum-spec = tie.close (tie.spec (λ c. search needs) (λ c. search needs) returns returns-2)

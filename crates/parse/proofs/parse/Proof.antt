@@ -1,4 +1,4 @@
--- `pass` meets its contract. Assumes nothing.
+-- `parse` meets its contract. Assumes nothing.
 use mathlib.Core.Path.{_≡_, _∙_, refl}
 use mathlib.Core.List.{List}
 use native.Mathlib.Omega.{arith}
@@ -10,15 +10,15 @@ use Rattle.bits.proofs.Words.{WordAt, word-read, word-few}
 use Rattle.bits.proofs.Inside.{read-inside}
 use Rattle.segments.specs.declared.Count.{Count}
 use Rattle.segments.specs.Segments.{cut, lacking, segmentOf, parse, segmentsOf}
-use Rattle.segments.specs.Passes.{Passed}
-use Rattle.segments.proofs.Steps.{step-room, pass-few, pass-end, pass-stop, pass-on}
-use Rattle.parse.proofs.pass.Statement.{statement}
-use Rattle.parse.proofs.pass.Tie as tie
+use Rattle.segments.specs.Positions.{Parses}
+use Rattle.segments.proofs.Steps.{step-room, parse-few, parse-end, parse-stop, parse-on}
+use Rattle.parse.proofs.parse.Statement.{statement}
+use Rattle.parse.proofs.parse.Tie as tie
 
 abbrev Inv-loop : tie.InvT-loop
 Inv-loop s out₀ script₀ at₀ n₀ m₀ out script at n m =
     (length out ≡ length out₀) × (length script ≡ length script₀) × (at ≤ 8 * length s) × (n ≤ at) × (m ≤ at)
-    × ((f : ℕ) × (8 * length s - at < f) × ((r : Count) (x y : List ℕ) → Passed n m out script (parse f (drop at (bitsOf s))) r x y → Passed 0 0 out₀ script₀ (segmentsOf s) r x y))
+    × ((f : ℕ) × (8 * length s - at < f) × ((r : Count) (x y : List ℕ) → Parses n m out script (parse f (drop at (bitsOf s))) r x y → Parses 0 0 out₀ script₀ (segmentsOf s) r x y))
 
 abbrev μ-loop : tie.MeasureT-loop
 μ-loop s out₀ script₀ at₀ n₀ m₀ out script at n m = 8 * length s - at
@@ -31,7 +31,7 @@ returns c =
     let b = c .before .before in
     let l = b .before .loop in
     let a = b .before .before .before .before .before .args in
-    l .inv .5 .2 _ _ _ (pass-few (a .s .now) (l .at) (l .n) (l .m) (l .out) (l .script) (l .inv .5 .0) (omega arith) (word-few 4 (l .at) (a .s .now) (b .mode .result) (b .mode .ensures ∙ read-inside (a .s .now) (l .at) 4 (omega arith) (omega arith) (omega arith)) (c .enum-told .given .1)))
+    l .inv .5 .2 _ _ _ (parse-few (a .s .now) (l .at) (l .n) (l .m) (l .out) (l .script) (l .inv .5 .0) (omega arith) (word-few 4 (l .at) (a .s .now) (b .mode .result) (b .mode .ensures ∙ read-inside (a .s .now) (l .at) 4 (omega arith) (omega arith) (omega arith)) (c .enum-told .given .1)))
 
 -- what was read, where a word was read
 word : (c : tie.After-known-told Inv-loop μ-loop)
@@ -48,7 +48,7 @@ returns-2 c =
     let k = c .before in
     let l = k .before .before .before .before .loop in
     let a = k .before .before .before .before .before .before .before .before .args in
-    l .inv .5 .2 _ _ _ (pass-end (a .s .now) (l .at) (l .n) (l .m) (l .out) (l .script) (k .before .got .given .0 .0) (word k) (l .inv .5 .0) (omega arith) (c .if1 .taken))
+    l .inv .5 .2 _ _ _ (parse-end (a .s .now) (l .at) (l .n) (l .m) (l .out) (l .script) (k .before .got .given .0 .0) (word k) (l .inv .5 .0) (omega arith) (c .if1 .taken))
 
 segment-requires : tie.Need-segment-requires Inv-loop μ-loop
 segment-requires c κs =
@@ -96,7 +96,7 @@ loop-again c =
       (
         l .inv .5 .0 - 1,
         omega arith,
-        λ t x y h. l .inv .5 .2 t x y (pass-on (a .s .now) (l .at) (l .n) (l .m) (l .out) (l .script) (k .before .got .given .0 .0) w (l .inv .5 .0) (omega arith) (e .if1 .left) (q .result) (q .last .1 .1 .1 .0) (q .last .1 .1 .1 .1 .0) (q .ensures) (v .0 .0) (v .0 .1 .0) (v .0 .1 .1 .0) (v .1) t x y h),
+        λ t x y h. l .inv .5 .2 t x y (parse-on (a .s .now) (l .at) (l .n) (l .m) (l .out) (l .script) (k .before .got .given .0 .0) w (l .inv .5 .0) (omega arith) (e .if1 .left) (q .result) (q .last .1 .1 .1 .0) (q .last .1 .1 .1 .1 .0) (q .ensures) (v .0 .0) (v .0 .1 .0) (v .0 .1 .1 .0) (v .1) t x y h),
       ),
     )
 
@@ -121,7 +121,7 @@ returns-3 c =
     let l = k .before .before .before .before .loop in
     let a = k .before .before .before .before .before .before .before .before .args in
     let q = g .segment in
-    l .inv .5 .2 _ _ _ (pass-stop (a .s .now) (l .at) (l .n) (l .m) (l .out) (l .script) (k .before .got .given .0 .0) (word k) (l .inv .5 .0) (omega arith) (e .if1 .left) (q .result) (q .last .1 .1 .1 .0) (q .last .1 .1 .1 .1 .0) (q .ensures) cut (c .enum-told2 .given .1))
+    l .inv .5 .2 _ _ _ (parse-stop (a .s .now) (l .at) (l .n) (l .m) (l .out) (l .script) (k .before .got .given .0 .0) (word k) (l .inv .5 .0) (omega arith) (e .if1 .left) (q .result) (q .last .1 .1 .1 .0) (q .last .1 .1 .1 .1 .0) (q .ensures) cut (c .enum-told2 .given .1))
 
 same-length-7 : tie.Need-same-length-7 Inv-loop μ-loop
 same-length-7 c =
@@ -144,10 +144,10 @@ returns-4 c =
     let l = k .before .before .before .before .loop in
     let a = k .before .before .before .before .before .before .before .before .args in
     let q = g .segment in
-    l .inv .5 .2 _ _ _ (pass-stop (a .s .now) (l .at) (l .n) (l .m) (l .out) (l .script) (k .before .got .given .0 .0) (word k) (l .inv .5 .0) (omega arith) (e .if1 .left) (q .result) (q .last .1 .1 .1 .0) (q .last .1 .1 .1 .1 .0) (q .ensures) lacking (c .enum-told3 .given .1))
+    l .inv .5 .2 _ _ _ (parse-stop (a .s .now) (l .at) (l .n) (l .m) (l .out) (l .script) (k .before .got .given .0 .0) (word k) (l .inv .5 .0) (omega arith) (e .if1 .left) (q .result) (q .last .1 .1 .1 .0) (q .last .1 .1 .1 .1 .0) (q .ensures) lacking (c .enum-told3 .given .1))
 
-pub pass-spec : {M : Type 1} → statement M
-pass-spec =
+pub parse-spec : {M : Type 1} → statement M
+parse-spec =
     tie.close (tie.spec Inv-loop μ-loop loop-holds (λ c κs. search needs) (λ c. c .match .keys1) (λ c. c .match .keys2)
     (λ c. c .before .before .before .loop .inv .0) (λ c. c .before .before .before .loop .inv .1) returns
     (λ c. c .before .before .before .before .before .loop .inv .0) (λ c. c .before .before .before .before .before .loop .inv .1)

@@ -5,11 +5,12 @@ use mathlib.Core.List.{List, _∷_}
 use Prim.Native.Nat.{ℕ, _+_, _*_, _≤_, _<_}
 use lib.Dec.{eqb}
 use lib.ListN.{length, drop}
-use Rattle.script.specs.declared.Glyph.{Glyph}
-use Rattle.script.specs.declared.Glyph.the-variants.{Same, Other, Lacking}
+use Rattle.script.specs.declared.Character.{Character}
+use Rattle.script.specs.declared.Character.the-variants.{Same, Other, Lacking}
 use Rattle.script.specs.declared.Cost.{Cost}
 use Rattle.script.specs.declared.Cost.the-variants.{Takes, Lacks}
-use Rattle.script.specs.Writer.{all, allPairs, codeOf, inSubset, inText, pairCode, inRegion, inRegions, doubleCode, inDouble, textWords, regionWords, doubleWords, modeHas, modeLength}
+use Rattle.script.specs.Writer.{all, allPairs, codeOf, inSubset, inText, pairCode, inRegion, inRegions, doubleCode, inDouble, textWords, regionWords, doubleWords, modeHas}
+use Rattle.script.specs.Lengths.{modeLength}
 
 -- the modes 2, 4, 5 and 6: words of one width, one for each byte or pair, a switch before some, and an end
 unfoldable pub wordsOf : ℕ → Bool → List ℕ → List ℕ
@@ -32,20 +33,20 @@ unfoldable pub endOf : ℕ → ℕ
 endOf mode = cond (eqb mode 2) 63 (cond (eqb mode 6) 32767 4095)
 
 -- a character's word in the present subset or region, or in the other one
-unfoldable pub textGlyph : Bool → ℕ → Glyph
-textGlyph f b = cond (inSubset f b) (Same (codeOf f b)) (cond (inSubset (not f) b) (Other (codeOf (not f) b)) Lacking)
+unfoldable pub textCharacter : Bool → ℕ → Character
+textCharacter f b = cond (inSubset f b) (Same (codeOf f b)) (cond (inSubset (not f) b) (Other (codeOf (not f) b)) Lacking)
 
-unfoldable pub regionGlyph : Bool → ℕ → ℕ → Glyph
-regionGlyph f a b = cond (inRegion f a b) (Same (pairCode f a b)) (cond (inRegion (not f) a b) (Other (pairCode (not f) a b)) Lacking)
+unfoldable pub regionCharacter : Bool → ℕ → ℕ → Character
+regionCharacter f a b = cond (inRegion f a b) (Same (pairCode f a b)) (cond (inRegion (not f) a b) (Other (pairCode (not f) a b)) Lacking)
 
-unfoldable pub doubleGlyph : ℕ → ℕ → Glyph
-doubleGlyph a b = cond (inDouble a b) (Same (doubleCode a b)) Lacking
+unfoldable pub doubleCharacter : ℕ → ℕ → Character
+doubleCharacter a b = cond (inDouble a b) (Same (doubleCode a b)) Lacking
 
 -- what the first character of a run says of its words
-abbrev pub Glyphed : ℕ → Bool → List ℕ → Glyph → Type 0
-Glyphed mode f bs (Same w) = (wordsOf mode f bs ≡ w ∷ wordsOf mode f (drop (stepOf mode) bs)) × (hasAll mode bs ≡ hasAll mode (drop (stepOf mode) bs)) × (stepOf mode ≤ length bs)
-Glyphed mode f bs (Other w) = (wordsOf mode f bs ≡ switchOf mode ∷ w ∷ wordsOf mode (not f) (drop (stepOf mode) bs)) × (hasAll mode bs ≡ hasAll mode (drop (stepOf mode) bs)) × (stepOf mode ≤ length bs)
-Glyphed mode f bs Lacking = hasAll mode bs ≡ false
+abbrev pub CharacterIs : ℕ → Bool → List ℕ → Character → Type 0
+CharacterIs mode f bs (Same w) = (wordsOf mode f bs ≡ w ∷ wordsOf mode f (drop (stepOf mode) bs)) × (hasAll mode bs ≡ hasAll mode (drop (stepOf mode) bs)) × (stepOf mode ≤ length bs)
+CharacterIs mode f bs (Other w) = (wordsOf mode f bs ≡ switchOf mode ∷ w ∷ wordsOf mode (not f) (drop (stepOf mode) bs)) × (hasAll mode bs ≡ hasAll mode (drop (stepOf mode) bs)) × (stepOf mode ≤ length bs)
+CharacterIs mode f bs Lacking = hasAll mode bs ≡ false
 
 -- the subset or region in which a run begins
 unfoldable pub beginsIn : ℕ → Bool

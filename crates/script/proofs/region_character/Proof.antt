@@ -1,27 +1,27 @@
--- `region_glyph` meets its contract. Assumes nothing.
+-- `region_character` meets its contract. Assumes nothing.
 use mathlib.Core.Path.{sym, _∙_}
-use Rattle.script.specs.Glyphs.{regionGlyph}
+use Rattle.script.specs.Characters.{regionCharacter}
 use borrow.Author.Needs.{needs}
-use Rattle.script.proofs.region_glyph.Statement.{statement}
-use Rattle.script.proofs.region_glyph.Tie as tie
+use Rattle.script.proofs.region_character.Statement.{statement}
+use Rattle.script.proofs.region_character.Tie as tie
 
 returns : tie.Need-returns
-unfolding regionGlyph
+unfolding regionCharacter
 returns c = rw (sym (c .before .before .in-region .ensures) ∙ c .before .if1 .taken, c .pair-code .ensures)
 
 returns-2 : tie.Need-returns-2
-unfolding regionGlyph
+unfolding regionCharacter
 returns-2 c =
     let d = c .before .before in
     rw (sym (d .before .before .in-region .ensures) ∙ d .before .if1 .left, sym (d .in-region2 .ensures) ∙ c .before .if2 .taken, c .pair-code2 .ensures)
 
 returns-3 : tie.Need-returns-3
-unfolding regionGlyph
+unfolding regionCharacter
 returns-3 c =
     let d = c .before in
     rw (sym (d .before .before .in-region .ensures) ∙ d .before .if1 .left, sym (d .in-region2 .ensures) ∙ c .if2 .left)
 
-pub region-glyph-spec : {M : Type 1} → statement M
-region-glyph-spec =
+pub region-character-spec : {M : Type 1} → statement M
+region-character-spec =
     tie.close (tie.spec (λ c κs. search needs) (λ c κs. search needs) returns (λ c κs. search needs) (λ c κs. search needs) returns-2
     returns-3)
