@@ -2,8 +2,8 @@
 use mathlib.Core.List.{List, [], _∷_, _++_, map}
 use Prim.Native.Nat.{ℕ, zero, suc, _+_, _-_, _/_, _%_}
 use lib.Bits.{bitXor}
-use Rattle.bits.specs.Bits.{bitsOf, firstWords}
-use lib.ListN.{length, getD, set, replicate}
+use Rattle.bits.specs.Bits.{bitsOf, firstWords, storeAt}
+use lib.ListN.{length, getD, replicate}
 
 -- Masks (6.1): 1 where the module is inverted.
 
@@ -55,12 +55,6 @@ starts total start (suc k) = steps start ((total + 12 - start) / 13) ++ starts t
 -- the stream place of each codeword
 unfoldable pub order : ℕ → List ℕ
 order total = starts total 0 13
-
--- the i-th codeword is stored at the i-th place
-unfoldable pub storeAt : List ℕ → List ℕ → List ℕ → List ℕ
-storeAt [] cs s = s
-storeAt (p ∷ ps) [] s = s
-storeAt (p ∷ ps) (c ∷ cs) s = storeAt ps cs (set s p c)
 
 -- the stream of the codewords of a square, and the codewords of a stream
 unfoldable pub toStream : List ℕ → List ℕ
