@@ -2,7 +2,7 @@
 -- bit 33.
 use mathlib.Core.Bool.{Bool, cond, not, _&&_, true, false}
 use mathlib.Core.List.{List, [], _∷_, map}
-use Prim.Native.Nat.{ℕ, zero, suc, _+_, _-_, _*_, _/_, _%_, _^_}
+use Prim.Native.Nat.{ℕ, zero, suc, _+_, _-_, _*_, _/_, _%_}
 use lib.Dec.{ltb, leb, eqb}
 use lib.Bits.{bitXor}
 use lib.Count.{ones}
