@@ -63,9 +63,6 @@ toStream cs = storeAt (order (length cs)) cs (replicate (length cs) 0)
 unfoldable pub fromStream : List ℕ → List ℕ
 fromStream s = map (λ p. getD s p 0) (order (length s))
 
--- the stream of a square, and the square of a stream
-unfoldable pub streamIn : ℕ → (ℕ → ℕ) → List ℕ → List ℕ → List ℕ
-streamIn total m ks sq = toStream (codewordsOf total (dataBits m 0 ks sq))
-
+-- the square of a stream
 unfoldable pub squareOf : (ℕ → ℕ) → List ℕ → List ℕ → List ℕ
 squareOf m ks s = placed m 0 ks (bitsOf (fromStream s))

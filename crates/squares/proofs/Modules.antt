@@ -10,7 +10,8 @@ use lib.Seq.{take-at}
 use Rattle.symbol.specs.Version.{sideOf}
 use Rattle.symbol.specs.Layout.{layoutOf}
 use Rattle.blocks.specs.Blocks.{totalOf}
-use Rattle.codewords.specs.Codewords.{maskBit, codewordsOf, dataBits, streamIn}
+use Rattle.codewords.specs.Codewords.{maskBit, codewordsOf, dataBits}
+use Rattle.codewords.specs.Inner.{streamIn}
 use Rattle.codewords.proofs.Bits.{length-codewords}
 use Rattle.codewords.proofs.Interleave.{length-stream}
 use Rattle.codewords.proofs.Small.{Below}

@@ -13,7 +13,8 @@ use Rattle.information.specs.Information.{isInfo, infoBits, infoFlips}
 use Rattle.blocks.specs.Blocks.{totalOf, shapesOf, hasBlocks, rowHolds, rowOf, dataModules, totalSize, totalData, cut, Shape}
 use Rattle.blocks.proofs.Rows.{Sound, total-small}
 use Rattle.blocks.proofs.Theorems.{shapes-total, shapes-sound}
-use Rattle.codewords.specs.Codewords.{maskBit, streamIn}
+use Rattle.codewords.specs.Codewords.{maskBit}
+use Rattle.codewords.specs.Inner.{streamIn}
 use Rattle.codewords.proofs.Back.{written-stream}
 use Rattle.reed_solomon.specs.Block.{distance}
 use Rattle.blockwise.specs.Blockwise.{firstRefused, countOf, corrected, correctedData, streamOf, differences, blockAt, parityAt}

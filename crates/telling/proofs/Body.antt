@@ -17,7 +17,8 @@ use Rattle.symbol.proofs.Theorems.{layout-length}
 use Rattle.blocks.specs.Blocks.{totalOf, rowOf, rowLength, dataModules, Shape, shapes, shapesOf, totalSize, cut, joined, dataParts}
 use Rattle.blocks.proofs.Rows.{Sound, total-shapes}
 use Rattle.blocks.proofs.Theorems.{shapes-sound}
-use Rattle.codewords.specs.Codewords.{maskBit, dataBits, codewordsOf, toStream, streamIn}
+use Rattle.codewords.specs.Codewords.{maskBit, dataBits, codewordsOf, toStream}
+use Rattle.codewords.specs.Inner.{streamIn}
 use Rattle.placement.specs.Walk.{Legible}
 use Rattle.small_marks.proofs.Open.{open-enough}
 use Rattle.codewords.proofs.Placement.{data-front, length-data}
