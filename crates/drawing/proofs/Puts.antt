@@ -16,6 +16,7 @@ use Rattle.bits.proofs.Reading.{length-bits, bit-lt, length-left}
 use Rattle.bits.proofs.Window.{window-none, window-more, window-read}
 use Rattle.bits.proofs.Bytes.{low-value, take-small}
 use Rattle.blocks.specs.Blocks.{dataModules}
+use Rattle.blocks.proofs.Rows.{module-hit, module-miss}
 use Rattle.codewords.specs.Codewords.{placed}
 use Rattle.placement.specs.Walk.{eightOf, run, behind, bytesOf, Skipped}
 use Rattle.drawing.specs.Puts.{patternOf, getD₀, Drawn, Placing, PutBit, PutEight, Blank, Puts, PutsAll}
