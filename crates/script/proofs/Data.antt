@@ -1,7 +1,7 @@
 -- The data bytes of segments: as many as asked for, and their bits are those of the segments with zeros behind.
 use mathlib.Core.Path.{_≡_, ap, _∙_, sym}
 use mathlib.Core.Bool.{Bool, true, false, cond}
-use mathlib.Core.List.{List, [], _∷_, _++_}
+use mathlib.Core.List.{List, [], _∷_, _++_, flatMap}
 use Prim.Native.Nat.{ℕ, zero, suc, _-_, _*_, _/_, _%_, _^_, _<_, _≤_}
 use native.Mathlib.Omega.{arith}
 use lib.Dec.{eqb, ltb}
@@ -28,7 +28,7 @@ append-small [] ys h g = g
 append-small (x ∷ xs) ys h g = small-cons x 2 (xs ++ ys) (h 0) (append-small xs ys (λ i. h (suc i)) g)
 
 words-small : (w : ℕ) (vs : List ℕ) → Small (wordBits w vs)
-unfolding wordBits
+unfolding wordBits flatMap
 words-small w [] = λ i. omega arith
 words-small w (v ∷ vs) = append-small (lowBits w v) (wordBits w vs) (low-small w v) (words-small w vs)
 
