@@ -1,6 +1,6 @@
 -- SPECIFICATION 10.9 and 10.10: Read a square, and Read with known version, level, mask. The first refusal that applies is given, each
 -- tested over the whole input.
-use mathlib.Core.Bool.{Bool, true, false, cond, _&&_}
+use mathlib.Core.Bool.{Bool, true, false, cond}
 use mathlib.Core.List.{List, [], _∷_, map}
 use Prim.Native.Nat.{ℕ, _*_}
 use lib.Dec.{leb, eqb}
