@@ -1,13 +1,13 @@
 -- Bits written behind others: the bits before, then those of a number, as the bits of four bytes.
 use mathlib.Core.Path.{_≡_, ap, _∙_, sym}
-use mathlib.Core.List.{List, [], _∷_, _++_, append-nil}
+use mathlib.Core.List.{List, [], _∷_, _++_, append-nil, flatMap}
 use Prim.Native.Nat.{ℕ, zero, suc, _+_, _-_, _*_, _/_, _%_, _^_, _<_, _≤_}
 use native.Mathlib.Nat.{mod-lt, suc-mul, mul-le-mul-right, mul-assoc, add-mul}
 use native.Mathlib.Omega.{arith}
 use lib.ListN.{length, getD, take, drop, length-append}
 use lib.Pow.{shr-shr, shl-shr, shl-exact, shl-lt, shr-lt, high, split, pow-pos, pow-add}
 use lib.Seq.{sets, sets-eq, take-at, take-append-le, length-take-le}
-use Rattle.bits.specs.Bits.{lowBits, bitsOf}
+use Rattle.bits.specs.Bits.{lowBits, bitsOf, wordBits}
 use Rattle.bits.specs.Four.{fourOf}
 use Rattle.bits.proofs.Words.{length-low}
 use Rattle.bits.proofs.Bytes.{low-add}
@@ -27,7 +27,7 @@ low-mod : (n x : ℕ) → lowBits n (x % 2 ^ n) ≡ lowBits n x
 low-mod n x = sym (low-add n n (x / 2 ^ n) (x % 2 ^ n) (omega arith)) ∙ ap (lowBits n) (split x n)
 
 pub four-bits : (x : ℕ) → bitsOf (fourOf x) ≡ lowBits 32 x
-unfolding bitsOf fourOf
+unfolding wordBits flatMap fourOf
 four-bits x =
     sym
     (low-split 8 24 x
@@ -63,7 +63,7 @@ front old r n v rest h l =
 
 inside : (s : List ℕ) (f r n v : ℕ) → r < 8 → n ≤ 24 → f + 4 ≤ length s
     → take (8 * f + (r + n)) (bitsOf (sets s f (fourOf (joined (getD s f 0) r n v)))) ≡ take (8 * f + r) (bitsOf s) ++ lowBits n v
-unfolding bitsOf fourOf lowBits
+unfolding wordBits flatMap fourOf lowBits
 inside [] f r n v h l k = absurd (omega arith)
 inside (a ∷ []) zero r n v h l k = absurd (omega arith)
 inside (a ∷ b ∷ []) zero r n v h l k = absurd (omega arith)

@@ -1,13 +1,13 @@
 -- Bytes from bits and back: the bytes that bits come to have these bits, and the bits of bytes come to the bytes.
 use mathlib.Core.Path.{_≡_, refl, ap, _∙_, sym}
-use mathlib.Core.List.{List, [], _∷_}
+use mathlib.Core.List.{List, [], _∷_, flatMap}
 use Prim.Native.Nat.{ℕ, zero, suc, _+_, _-_, _*_, _/_, _%_, _^_, _<_, _≤_}
 use native.Mathlib.Nat.{pow-succ', add-mul, mul-assoc, add-assoc, mod-eq-of-lt, mul-add-div-right, add-mul-mod-self-right, add-comm}
 use native.Mathlib.Omega.{arith}
 use lib.ListN.{length, getD, take, drop, take-append-drop, length-drop}
 use lib.Pow.{pow-add, pow-pos, high}
 use lib.Seq.{getD-drop, length-take-le}
-use Rattle.bits.specs.Bits.{lowBits, bitsOf, value, words}
+use Rattle.bits.specs.Bits.{lowBits, bitsOf, value, words, wordBits}
 use Rattle.bits.proofs.Words.{words-none, words-more, word-back}
 
 -- bits behind a number
@@ -67,7 +67,7 @@ take-small (suc n) (b ∷ bs) h zero = h 0
 take-small (suc n) (b ∷ bs) h (suc i) = take-small n bs (λ j. h (suc j)) i
 
 pub bits-words : (k : ℕ) (bs : List ℕ) → length bs ≡ 8 * k → ((i : ℕ) → getD bs i 0 < 2) → bitsOf (words 8 bs) ≡ bs
-unfolding bitsOf
+unfolding wordBits flatMap
 bits-words zero [] e h = rw (words-none 8 [] (omega arith))
 bits-words zero (b ∷ bs) e h = absurd (omega arith)
 bits-words (suc k) bs e h =
@@ -76,6 +76,6 @@ bits-words (suc k) bs e h =
     rw (words-more 8 bs (omega arith) (omega arith), b, bits-words k (drop 8 bs) (rw length-drop (omega arith)) (λ i. rw getD-drop (h (8 + i)))) (take-append-drop 8 bs)
 
 pub words-bits : (s : List ℕ) → ((i : ℕ) → getD s i 0 < 256) → words 8 (bitsOf s) ≡ s
-unfolding bitsOf
+unfolding wordBits flatMap
 words-bits [] h = words-none 8 [] (omega arith)
 words-bits (b ∷ s) h = word-back 8 b (bitsOf s) (omega arith) (h 0) ∙ rw (words-bits s (λ i. h (suc i)))

@@ -1,6 +1,6 @@
 -- Laws of bits that are read: the bit at a position, how many are left, and how large a number of n bits is.
 use mathlib.Core.Path.{_≡_, refl}
-use mathlib.Core.List.{List, [], _∷_}
+use mathlib.Core.List.{List, [], _∷_, flatMap}
 use Prim.Native.Nat.{ℕ, zero, suc, _+_, _-_, _*_, _/_, _%_, _^_, _<_, _≤_}
 use native.Mathlib.Nat.{zero-div, zero-mod, add-zero, zero-add, lt-of-lt-of-le, pow-suc}
 use native.Mathlib.Omega.{arith}
@@ -9,15 +9,15 @@ use lib.Pow.{pow-mono}
 use lib.Seq.{getD-drop}
 use borrow.Author.Tests.{lt-leb}
 use Rattle.bits.specs.declared.Word.the-variants.{Cut}
-use Rattle.bits.specs.Bits.{lowBits, bitsOf, value, readBits}
+use Rattle.bits.specs.Bits.{lowBits, bitsOf, value, readBits, wordBits}
 
 pub length-bits : (s : List ℕ) → length (bitsOf s) ≡ 8 * length s
-unfolding bitsOf lowBits
+unfolding wordBits flatMap lowBits
 length-bits [] = refl
 length-bits (b ∷ s) = let h = length-bits s in omega arith
 
 pub bit-at : (s : List ℕ) (i : ℕ) → getD (bitsOf s) i 0 ≡ getD s (i / 8) 0 / 2 ^ (7 - i % 8) % 2
-unfolding bitsOf lowBits
+unfolding wordBits flatMap lowBits
 bit-at [] i = rw (zero-div, zero-mod)
 bit-at (b ∷ s) zero = refl
 bit-at (b ∷ s) (suc zero) = refl

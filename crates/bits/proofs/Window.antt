@@ -1,6 +1,6 @@
 -- Bits read by bytes: the bytes that hold some bits, as one number, shifted and cut.
 use mathlib.Core.Path.{_≡_, refl, _∙_, sym}
-use mathlib.Core.List.{List, [], _∷_, _++_}
+use mathlib.Core.List.{List, [], _∷_, _++_, flatMap}
 use Prim.Native.Nat.{ℕ, zero, suc, _+_, _-_, _*_, _/_, _%_, _^_, _<_, _≤_}
 use native.Mathlib.Nat.{mod-eq-of-lt, lt-of-lt-of-le, one-mul}
 use native.Mathlib.Omega.{arith}
@@ -9,7 +9,7 @@ use lib.ListN.{length, getD, take, drop, length-drop}
 use lib.Pow.{high, low, pow-mono, shl-exact}
 use lib.Seq.{take-add, drop-drop, length-take-le, getD-drop, take-at, drop-at}
 use Rattle.bits.specs.declared.Word.the-variants.{Value}
-use Rattle.bits.specs.Bits.{lowBits, bitsOf, value, readBits}
+use Rattle.bits.specs.Bits.{lowBits, bitsOf, value, readBits, wordBits}
 use Rattle.bits.proofs.Reading.{length-left, bit-lt}
 use Rattle.bits.proofs.Words.{length-low, value-low}
 use Rattle.bits.proofs.Bytes.{value-add, value-small, take-small}
@@ -26,7 +26,7 @@ cut-out x m z hm hz =
 
 -- the bits of the byte i
 byte-bits : (s : List ℕ) (i : ℕ) → i < length s → take 8 (drop (8 * i) (bitsOf s)) ≡ lowBits 8 (getD s i 0)
-unfolding bitsOf
+unfolding wordBits flatMap
 byte-bits [] i h = absurd (omega arith)
 byte-bits (b ∷ s) zero h = take-at (lowBits 8 b) (bitsOf s) 8 (length-low 8 b)
 byte-bits (b ∷ s) (suc i) h =

@@ -1,7 +1,7 @@
 -- Laws of words: what `read_bits` says of the words from a position on, and words that are written and read back.
 use mathlib.Core.Path.{_≡_, refl, ap, _∙_}
 use mathlib.Core.Bool.{Bool, true, false}
-use mathlib.Core.List.{List, [], _∷_, _++_, append-assoc}
+use mathlib.Core.List.{List, [], _∷_, _++_, append-assoc, flatMap}
 use Prim.Native.Nat.{ℕ, zero, suc, _+_, _*_, _/_, _%_, _^_, _<_, _≤_}
 use native.Mathlib.Nat.{div-eq-of-lt, div-eq-sub-div, mod-one, pow-succ', add-mul, mul-assoc, add-assoc, mod-eq-of-lt, zero-mul, zero-add, mul-suc, add-zero}
 use native.Mathlib.Numerals.{add-one, one-add}
@@ -13,15 +13,15 @@ use lib.Seq.{sets, drop-drop, take-at, drop-at}
 use lib.Pow.{mod-pow-add}
 use Rattle.bits.specs.declared.Word.{Word}
 use Rattle.bits.specs.declared.Word.the-variants.{Value, Cut}
-use Rattle.bits.specs.Bits.{lowBits, bitsOf, value, readBits, firstWords, words, wordBits}
+use Rattle.bits.specs.Bits.{lowBits, bitsOf, value, readBits, firstWords, words, wordBits, groups}
 use Rattle.bits.proofs.Reading.{length-left, value-lt}
 
 pub words-none : (w : ℕ) (bs : List ℕ) → length bs < w → words w bs ≡ []
-unfolding words firstWords
+unfolding words firstWords groups
 words-none w bs h = rw (div-eq-of-lt h)
 
 pub words-more : (w : ℕ) (bs : List ℕ) → 0 < w → w ≤ length bs → words w bs ≡ value 0 (take w bs) ∷ words w (drop w bs)
-unfolding words firstWords
+unfolding words firstWords groups
 words-more w bs p h = rw (div-eq-sub-div p h, add-one, length-drop)
 
 -- a word v of w bits stands at the position `at` of the bytes s
@@ -92,7 +92,7 @@ pub low-back : (n v : ℕ) → v < 2 ^ n → value 0 (lowBits n v) ≡ v
 low-back n v h = value-low n 0 v ∙ rw (zero-mul, zero-add) (mod-eq-of-lt h)
 
 pub length-words : (w : ℕ) (vs : List ℕ) → length (wordBits w vs) ≡ w * length vs
-unfolding wordBits
+unfolding wordBits flatMap
 length-words w [] = omega arith
 length-words w (v ∷ vs) = length-append (lowBits w v) (wordBits w vs) ∙ rw (length-low, length-words w vs, mul-suc) (omega arith)
 
@@ -103,7 +103,7 @@ word-back w v rest p h =
     ∙ rw (take-at (lowBits w v) rest w (length-low w v), drop-at (lowBits w v) rest w (length-low w v), low-back w v h)
 
 pub words-back : (w : ℕ) (vs rest : List ℕ) → 0 < w → ((i : ℕ) → getD vs i 0 < 2 ^ w) → words w (wordBits w vs ++ rest) ≡ vs ++ words w rest
-unfolding wordBits
+unfolding wordBits flatMap
 words-back w [] rest p h = refl
 words-back w (v ∷ vs) rest p h =
     ap (words w) (append-assoc (lowBits w v) (wordBits w vs) rest)

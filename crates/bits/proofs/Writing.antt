@@ -1,7 +1,7 @@
 -- Laws of writing: a flipped bit of a byte is a changed bit of the list, and what a turn of `write_bits` does.
 use mathlib.Core.Path.{_≡_, refl, ap, _∙_, sym}
 use mathlib.Core.Logic.{⊎-elim}
-use mathlib.Core.List.{List, [], _∷_, _++_}
+use mathlib.Core.List.{List, [], _∷_, _++_, flatMap}
 use Prim.Native.Nat.{ℕ, zero, suc, _+_, _-_, _*_, _/_, _%_, _^_, _<_, _≤_}
 use native.Mathlib.Nat.{mul-mod-left, div-eq-of-lt, pow-suc, div-self, le-of-suc-le-suc, one-mul, not-suc-le-zero, eq-or-lt-of-le}
 use native.Mathlib.Omega.{arith}
@@ -9,7 +9,7 @@ use lib.ListN.{length, getD, set}
 use lib.Seq.{sets, set-append-left, set-getD}
 use lib.Bits.{bitXor, xor-shr, xor-mod, xor-zero-r}
 use lib.Pow.{pow-add, shl-shr, pow-lt, pow-pos, shl-exact}
-use Rattle.bits.specs.Bits.{lowBits, bitsOf}
+use Rattle.bits.specs.Bits.{lowBits, bitsOf, wordBits}
 use Rattle.bits.proofs.Reading.{bit-at}
 
 -- bit m of x ^ y
@@ -65,7 +65,7 @@ flip (suc n) k x b h l f = ⊎-elim here (λ q. there q (flip n k x b q l f)) (e
 
 flips : (s : List ℕ) (i j b : ℕ) → i < length s → j < 8 → b < 2 → (getD s i 0 / 2 ^ (7 - j) % 2 ≡ b → ⊥)
     → bitsOf (set s i (bitXor (getD s i 0) (2 ^ (7 - j)))) ≡ set (bitsOf s) (8 * i + j) b
-unfolding bitsOf lowBits
+unfolding wordBits flatMap lowBits
 flips [] i j b h g l f = absurd (not-suc-le-zero h)
 flips (x ∷ s) zero j b h g l f =
     let z : 8 * 0 + j ≡ 8 - 1 - (7 - j) = omega arith in

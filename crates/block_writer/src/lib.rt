@@ -5,14 +5,15 @@ ghost use mathlib.Core.List.{_++_};
 ghost use Prim.Native.Nat.{_+_, _≤_, _<_};
 ghost use lib.Dec.{T};
 ghost use lib.ListN.{length, drop};
-ghost use Rattle.blocks.specs.Blocks.{batchHolds, rowLength, rowHolds, batch, shapes, totalData};
+ghost use Rattle.blocks.specs.Blocks.{batch, shapes, totalSize, totalData, rowHolds};
+ghost use Rattle.blocks.specs.Inner.{Sound};
 ghost use Rattle.blockwise.specs.Blockwise.{streamOf};
 ghost use Rattle.blockwise.specs.Inner.{blocksIn, writing, poured, Room};
 use blockwise::Batch;
 
 // The blocks of a batch, the first at `to`, of the data from `from` on. The table for their parity is made once for all of them.
 fn write_many(stream: &mut [u8], to: usize, data: &[u8], from: usize, b: Batch)
-    requires { ⌜ T (batchHolds (b .count) (b .info) (b .parity)) × Room writing (blocksIn b) to from (now «data») (now stream) ⌝ }
+    requires { ⌜ Sound (blocksIn b) × Room writing (blocksIn b) to from (now «data») (now stream) ⌝ }
     ensures { λ _. ⌜ now (stream .exit) ≡ poured writing (blocksIn b) to from (now («data» .entry)) (now (stream .entry)) ⌝ }
 {
     if b.count == 0 {
@@ -45,7 +46,7 @@ fn write_one(stream: &mut [u8], to: usize, data: &[u8], from: usize, b: Batch)
 
 // The blocks of a batch, the first at `to`, of the data from `from` on.
 fn write_batch(stream: &mut [u8], to: usize, data: &[u8], from: usize, b: Batch)
-    requires { ⌜ (b .info ≤ 255) × (b .parity ≤ 255) × T (batchHolds (b .count) (b .info) (b .parity))
+    requires { ⌜ (b .info ≤ 255) × (b .parity ≤ 255) × Sound (blocksIn b)
         × Room writing (blocksIn b) to from (now «data») (now stream) ⌝ }
     ensures { λ _. ⌜ now (stream .exit) ≡ poured writing (blocksIn b) to from (now («data» .entry)) (now (stream .entry)) ⌝ }
 {
@@ -58,10 +59,10 @@ fn write_batch(stream: &mut [u8], to: usize, data: &[u8], from: usize, b: Batch)
 
 // The stream of data codewords: each block's data followed by their parity.
 pub fn write_blocks(stream: &mut [u8], data: &[u8], row: &[u8])
-    requires { ⌜ (length (now row) ≡ 9) × T (rowHolds (now row) (rowLength (now row)))
-        × (rowLength (now row) ≤ length (now stream)) × (totalData (shapes (now row)) ≤ length (now «data»)) ⌝ }
-    ensures { λ _. let r = now (row .entry) in
-        ⌜ now (stream .exit) ≡ streamOf (shapes r) (now («data» .entry)) ++ drop (rowLength r) (now (stream .entry)) ⌝ }
+    requires { ⌜ (length (now row) ≡ 9) × T (rowHolds (shapes (now row)) (totalSize (shapes (now row))))
+        × (totalSize (shapes (now row)) ≤ length (now stream)) × (totalData (shapes (now row)) ≤ length (now «data»)) ⌝ }
+    ensures { λ _. let bs = shapes (now (row .entry)) in
+        ⌜ now (stream .exit) ≡ streamOf bs (now («data» .entry)) ++ drop (totalSize bs) (now (stream .entry)) ⌝ }
 {
     let mut n: usize = 0;
     let mut from: usize = 0;

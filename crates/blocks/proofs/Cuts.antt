@@ -1,6 +1,6 @@
 -- Blocks cut out of a stream and joined again.
 use mathlib.Core.Path.{_≡_, refl, ap, ap₂, _∙_}
-use mathlib.Core.List.{List, [], _∷_, _++_}
+use mathlib.Core.List.{List, [], _∷_, _++_, flatMap, zipWith}
 use Prim.Native.Nat.{ℕ, _+_, _-_, _≤_}
 use native.Mathlib.Omega.{arith}
 use lib.ListN.{length, take, drop, length-append, length-drop, take-append-drop}
@@ -16,7 +16,7 @@ Shaped (b ∷ bs) (w ∷ ws) = (length w ≡ size b) × Shaped bs ws
 
 -- blocks that were joined are cut out again
 pub cut-joined : (bs : List Shape) (ws : List (List ℕ)) → Shaped bs ws → cut bs (joined ws) ≡ ws
-unfolding cut joined
+unfolding cut joined flatMap
 cut-joined [] [] h = refl
 cut-joined [] (w ∷ ws) h = absurd h
 cut-joined (b ∷ bs) [] h = absurd h
@@ -29,13 +29,13 @@ cut-shaped (b ∷ bs) s h = (length-take-le (size b) s (omega arith), cut-shaped
 
 -- and blocks that were cut out are joined to the stream
 pub joined-cut : (bs : List Shape) (s : List ℕ) → length s ≡ totalSize bs → joined (cut bs s) ≡ s
-unfolding cut joined totalSize
+unfolding cut joined flatMap totalSize
 joined-cut [] [] e = refl
 joined-cut [] (x ∷ s) e = absurd (omega arith)
 joined-cut (b ∷ bs) s e = ap (λ (r : List ℕ). take (size b) s ++ r) (joined-cut bs (drop (size b) s) (omega (arith, length-drop (size b) s))) ∙ take-append-drop (size b) s
 
 pub length-joined : (bs : List Shape) (ws : List (List ℕ)) → Shaped bs ws → length (joined ws) ≡ totalSize bs
-unfolding totalSize joined
+unfolding totalSize joined flatMap
 length-joined [] [] h = refl
 length-joined [] (w ∷ ws) h = absurd h
 length-joined (b ∷ bs) [] h = absurd h
@@ -51,7 +51,7 @@ Begins (b ∷ bs) (d ∷ ds) [] = ⊥
 Begins (b ∷ bs) (d ∷ ds) (w ∷ ws) = (take (b .info) w ≡ d) × Begins bs ds ws
 
 pub data-back : (bs : List Shape) (d : List ℕ) (ws : List (List ℕ)) → length d ≡ totalData bs → Begins bs (cutData bs d) ws → dataParts bs ws ≡ d
-unfolding totalData cutData dataParts
+unfolding totalData cutData dataParts zipWith joined flatMap
 data-back [] [] [] e h = refl
 data-back [] (x ∷ d) [] e h = absurd (omega arith)
 data-back [] d (w ∷ ws) e h = absurd h

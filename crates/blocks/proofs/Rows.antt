@@ -1,7 +1,8 @@
 -- The rule holds at the row of each version and level: one test that antt computes over the table, carried to each row.
 use mathlib.Core.Path.{_≡_, refl, sym, ap, ap₂, subst, _∙_}
-use mathlib.Core.Bool.{Bool, true, false, _&&_, _||_}
-use mathlib.Core.List.{List, [], _∷_, _++_}
+use mathlib.Core.Bool.{Bool, true, false, cond, _&&_}
+use mathlib.Core.Logic.{_≢_}
+use mathlib.Core.List.{List, [], _∷_, _++_, foldr}
 use Prim.Native.Nat.{ℕ, zero, suc, _+_, _-_, _*_, _/_, _<_, _≤_}
 use native.Mathlib.Nat.{add-zero, le-of-suc-le-suc, not-suc-le-zero}
 use native.Mathlib.Omega.{arith}
@@ -10,16 +11,11 @@ use lib.ListN.{length, take, drop, getD, set, length-drop}
 use lib.Seq.{drop-drop, take-suc, getD-take, getD-drop, getD-set-same, getD-set-other, ext-getD, length-take-le}
 use native.Mathlib.Decide.{ℕ-discrete}
 use native.Mathlib.Numerals.{add-one}
-use borrow.Author.Tests.{eqb-true}
+use borrow.Author.Tests.{ne-eqb}
 use Rattle.symbol.proofs.Finite.{and-left, and-right, upTo, every}
 use Rattle.blocks.specs.Table.{blocks, totals}
-use Rattle.blocks.specs.Blocks.{totalOf, rowAt, rowOf, batchHolds, rowLength, rowHolds, Shape, size, batch, shapes, shapesOf, totalSize, dataModules}
-
-four : (a b c d : Bool) → T (a && (b && (c && d))) → T a × T b × T c × T d
-four a b c d t =
-    let u = and-right a (b && (c && d)) t in
-    let w = and-right b (c && d) u in
-    (and-left a (b && (c && d)) t, and-left b (c && d) u, and-left c d w, and-right c d w)
+use Rattle.blocks.specs.Blocks.{totalOf, rowAt, rowOf, Shape, size, batch, shapes, shapesOf, totalSize, blockHolds, rowHolds, dataModules}
+use Rattle.blocks.specs.Inner.{Sound, none, more}
 
 -- f holds of n rows of nine, counted from i
 everyRow : (ℕ → List ℕ → Bool) → ℕ → ℕ → List ℕ → Bool
@@ -38,18 +34,18 @@ from f (suc n) i xs t (suc k) h =
     subst (λ (m : ℕ). T (f m (take 9 (drop (9 * suc k) xs)))) g (subst (λ (l : List ℕ). T (f (suc i + k) (take 9 l))) e ih)
 
 test : ℕ → List ℕ → Bool
-test i r = rowHolds r (getD totals (i / 4) 0)
+test i r = rowHolds (shapes r) (getD totals (i / 4) 0)
 
 passes : T (everyRow test 336 0 blocks)
-unfolding everyRow test rowHolds batchHolds rowLength blocks totals
+unfolding everyRow test rowHolds blockHolds shapes batch totalSize blocks totals
 passes = tt
 
-pub row-holds : (v level : ℕ) → 1 ≤ v → v ≤ 84 → level ≤ 3 → T (rowHolds (rowOf v level) (totalOf v))
-unfolding rowOf rowAt totalOf test
+pub row-holds : (v level : ℕ) → 1 ≤ v → v ≤ 84 → level ≤ 3 → T (rowHolds (shapesOf v level) (totalOf v))
+unfolding shapesOf rowOf rowAt totalOf test
 row-holds v l lo hi le =
     let h : 4 * (v - 1) + l < 336 = omega arith in
     let q : (0 + (4 * (v - 1) + l)) / 4 ≡ v - 1 = omega arith in
-    subst (λ (m : ℕ). T (rowHolds (take 9 (drop (9 * (4 * (v - 1) + l)) blocks)) (getD totals m 0))) q (from test 336 0 blocks passes (4 * (v - 1) + l) h)
+    subst (λ (m : ℕ). T (rowHolds (shapes (take 9 (drop (9 * (4 * (v - 1) + l)) blocks))) (getD totals m 0))) q (from test 336 0 blocks passes (4 * (v - 1) + l) h)
 
 -- totals are small, those of the first versions still more so: tests that antt computes
 total-below : (n b : ℕ) → T (upTo (λ k. leb (getD totals k 0) b) n) → (v : ℕ) → 1 ≤ v → v ≤ n → totalOf v ≤ b
@@ -94,21 +90,23 @@ copied-more f r n x l e h k q = elim (ℕ-discrete k n) [
   | no y ↦ getD-set-other r n k x 0 y ∙ h k (omega arith)
 ]
 
--- one module
-pub module-one : (k : ℕ) → k ≡ 0 → 1 ≡ dataModules (k ∷ [])
+-- one module more
+pub module-hit : (k : ℕ) (us : List ℕ) → k ≡ 0 → dataModules (k ∷ us) ≡ suc (dataModules us)
 unfolding dataModules
-module-one k e = ap (λ (n : ℕ). dataModules (n ∷ [])) (sym e)
+module-hit k us e = rw e
 
-pub module-none : (k : ℕ) → (k ≡ 0 → ⊥) → 0 ≡ dataModules (k ∷ [])
+pub module-miss : (k : ℕ) (us : List ℕ) → k ≢ 0 → dataModules (k ∷ us) ≡ dataModules us
 unfolding dataModules
-module-none zero n = absurd (n refl)
-module-none (suc k) n = refl
+module-miss k us n = rw (ne-eqb k 0 n)
 
 pub modules-append : (us vs : List ℕ) → dataModules (us ++ vs) ≡ dataModules us + dataModules vs
 unfolding dataModules
 modules-append [] vs = omega arith
-modules-append (zero ∷ us) vs = let h = modules-append us vs in omega arith
-modules-append (suc k ∷ us) vs = modules-append us vs
+modules-append (k ∷ us) vs = rw (modules-append us vs) (by (eqb k 0))
+  where
+    by : (b : Bool) → cond b (suc (dataModules us + dataModules vs)) (dataModules us + dataModules vs) ≡ cond b (suc (dataModules us)) (dataModules us) + dataModules vs
+    by true = omega arith
+    by false = refl
 
 -- data modules of the first n kinds, counted one by one
 pub modules-more : (ks : List ℕ) (n i count x : ℕ) → n ≤ length ks → i < n → x ≡ dataModules (getD ks i 0 ∷ []) → count ≡ dataModules (take i ks) → count + x ≡ dataModules (take (i + 1) ks)
@@ -119,44 +117,30 @@ modules-more ks n i count x l h e q =
 pub modules-few : (ks : List ℕ) → dataModules ks ≤ length ks
 unfolding dataModules
 modules-few [] = omega arith
-modules-few (zero ∷ ks) = let h = modules-few ks in omega arith
-modules-few (suc k ∷ ks) = let h = modules-few ks in omega arith
+modules-few (k ∷ ks) = by (eqb k 0) (modules-few ks)
+  where
+    by : (b : Bool) → dataModules ks ≤ length ks → cond b (suc (dataModules ks)) (dataModules ks) ≤ suc (length ks)
+    by true h = omega arith
+    by false h = omega arith
 
 -- what the rule says of the blocks
+blocks-sound : (bs : List Shape) → T (foldr (λ (b : Shape) (r : Bool). blockHolds b && r) true bs) → Sound bs
+unfolding blockHolds
+blocks-sound [] t = none
+blocks-sound (b ∷ bs) t =
+    let h = and-left (blockHolds b) _ t in
+    let u = and-right (ltb 0 (b .parity)) _ h in
+    more {b = b} (omega (arith, ltb→lt (b .parity) (size b) (and-left (ltb (b .parity) (size b)) _ u))) (ltb→lt _ _ (and-left (ltb 0 (b .parity)) _ h))
+    (leb→le _ _ (and-right (ltb (b .parity) (size b)) _ u)) (blocks-sound bs (and-right (blockHolds b) _ t))
 
--- each block has data and parity, and at most 255 codewords
-pub data Sound : List Shape → Type 0 where
-  none : Sound []
-  more : {b : Shape} {bs : List Shape} → 0 < b .info → 0 < b .parity → size b ≤ 255 → Sound bs → Sound (b ∷ bs)
+module _ (bs : List Shape) (total : ℕ) (t : T (rowHolds bs total)) where
+  pub row-sound : Sound bs
+  unfolding rowHolds
+  row-sound = blocks-sound bs (and-left (foldr (λ (b : Shape) (r : Bool). blockHolds b && r) true bs) _ t)
 
-sound-append : {bs cs : List Shape} → Sound bs → Sound cs → Sound (bs ++ cs)
-sound-append none q = q
-sound-append (more a b c p) q = more a b c (sound-append p q)
-
-pub sound-batch : (n d p : ℕ) → T (batchHolds n d p) → Sound (batch n d p)
-unfolding batchHolds batch
-sound-batch zero d p t = none
-sound-batch (suc n) d p t = all (suc n)
-  where
-    u : T (ltb 0 p && (ltb p (d + p) && leb (d + p) 255))
-    u = some (eqb (suc n) 0) refl t
-      where
-        some : (b : Bool) → eqb (suc n) 0 ≡ b → T (b || (ltb 0 p && (ltb p (d + p) && leb (d + p) 255))) → T (ltb 0 p && (ltb p (d + p) && leb (d + p) 255))
-        some true e s = absurd (let z : suc n ≡ 0 = eqb-true (suc n) 0 e in omega arith)
-        some false e s = s
-
-    one : 0 < p
-    one = ltb→lt 0 p (and-left (ltb 0 p) (ltb p (d + p) && leb (d + p) 255) u)
-
-    two : T (ltb p (d + p) && leb (d + p) 255)
-    two = and-right (ltb 0 p) (ltb p (d + p) && leb (d + p) 255) u
-
-    three : d + p ≤ 255
-    three = leb→le (d + p) 255 (and-right (ltb p (d + p)) (leb (d + p) 255) two)
-
-    all : (m : ℕ) → Sound (batch m d p)
-    all zero = none
-    all (suc m) = more {b = record { info = d; parity = p }} (omega (arith, ltb→lt p (d + p) (and-left (ltb p (d + p)) (leb (d + p) 255) two))) one three (all m)
+  pub row-total : totalSize bs ≡ total
+  unfolding rowHolds
+  row-total = eqb→eq _ _ (and-right (foldr (λ (b : Shape) (r : Bool). blockHolds b && r) true bs) _ t)
 
 pub total-append : (bs cs : List Shape) → totalSize (bs ++ cs) ≡ totalSize bs + totalSize cs
 unfolding totalSize
@@ -168,36 +152,9 @@ unfolding totalSize batch
 total-batch zero d p = omega arith
 total-batch (suc n) d p = let e = total-batch n d p in omega arith
 
-pub total-shapes : (r : List ℕ) → totalSize (shapes r) ≡ rowLength r
-unfolding shapes rowLength
-total-shapes r =
-    total-append (batch (getD r 0 0) (getD r 1 0) (getD r 2 0)) _
-    ∙ ap₂ _+_ (total-batch (getD r 0 0) (getD r 1 0) (getD r 2 0))
-    (total-append (batch (getD r 3 0) (getD r 4 0) (getD r 5 0)) _ ∙ ap₂ _+_ (total-batch (getD r 3 0) (getD r 4 0) (getD r 5 0)) (total-batch (getD r 6 0) (getD r 7 0) (getD r 8 0)))
-    ∙ omega arith
-
--- the rule of a row says this of its batches, and of its blocks
-pub row-rules : (r : List ℕ) (total : ℕ) → T (rowHolds r total)
-    → T (batchHolds (getD r 0 0) (getD r 1 0) (getD r 2 0)) × T (batchHolds (getD r 3 0) (getD r 4 0) (getD r 5 0))
-    × T (batchHolds (getD r 6 0) (getD r 7 0) (getD r 8 0)) × (rowLength r ≡ total)
-unfolding rowHolds
-row-rules r total t =
-    let q = four (batchHolds (getD r 0 0) (getD r 1 0) (getD r 2 0)) (batchHolds (getD r 3 0) (getD r 4 0) (getD r 5 0))
-    (batchHolds (getD r 6 0) (getD r 7 0) (getD r 8 0)) (eqb (rowLength r) total) t in
-    (q .0, q .1, q .2, eqb→eq (rowLength r) total (q .3))
-
-pub row-sound : (r : List ℕ) (total : ℕ) → T (rowHolds r total) → Sound (shapes r)
-unfolding shapes
-row-sound r total t =
-    let q = row-rules r total t in
-    sound-append (sound-batch (getD r 0 0) (getD r 1 0) (getD r 2 0) (q .0))
-    (sound-append (sound-batch (getD r 3 0) (getD r 4 0) (getD r 5 0) (q .1)) (sound-batch (getD r 6 0) (getD r 7 0) (getD r 8 0) (q .2)))
-
 module _ (v level : ℕ) (lo : 1 ≤ v) (hi : v ≤ 84) (le : level ≤ 3) where
   pub shapes-total : totalSize (shapesOf v level) ≡ totalOf v
-  unfolding shapesOf
-  shapes-total = total-shapes (rowOf v level) ∙ row-rules (rowOf v level) (totalOf v) (row-holds v level lo hi le) .3
+  shapes-total = row-total (shapesOf v level) (totalOf v) (row-holds v level lo hi le)
 
   pub shapes-sound : Sound (shapesOf v level)
-  unfolding shapesOf
-  shapes-sound = row-sound (rowOf v level) (totalOf v) (row-holds v level lo hi le)
+  shapes-sound = row-sound (shapesOf v level) (totalOf v) (row-holds v level lo hi le)

@@ -4,12 +4,13 @@ use mathlib.Core.List.{List}
 use Prim.Native.Nat.{ℕ, _≤_}
 use lib.Dec.{T}
 use lib.ListN.{length}
-use Rattle.blocks.specs.Blocks.{totalOf, rowOf, rowHolds, Shape, shapesOf, totalSize, totalData, cut, joined, dataParts, cutData}
+use Rattle.blocks.specs.Blocks.{totalOf, rowHolds, Shape, shapesOf, totalSize, totalData, cut, joined, dataParts, cutData}
+use Rattle.blocks.specs.Inner.{Sound}
 use Rattle.blocks.proofs.Rows as rows
 use Rattle.blocks.proofs.Cuts as cuts
 
 -- No row of the 336 breaks the rule, so that no level of any version is answered 1 for its row.
-pub row-holds : (v level : ℕ) → 1 ≤ v → v ≤ 84 → level ≤ 3 → T (rowHolds (rowOf v level) (totalOf v))
+pub row-holds : (v level : ℕ) → 1 ≤ v → v ≤ 84 → level ≤ 3 → T (rowHolds (shapesOf v level) (totalOf v))
 row-holds = rows.row-holds
 
 -- The blocks of a version and level have the version's codewords in all ..
@@ -17,7 +18,7 @@ pub shapes-total : (v level : ℕ) → 1 ≤ v → v ≤ 84 → level ≤ 3 → 
 shapes-total = rows.shapes-total
 
 -- .. and each has data, parity, and at most 255 codewords.
-pub shapes-sound : (v level : ℕ) → 1 ≤ v → v ≤ 84 → level ≤ 3 → rows.Sound (shapesOf v level)
+pub shapes-sound : (v level : ℕ) → 1 ≤ v → v ≤ 84 → level ≤ 3 → Sound (shapesOf v level)
 shapes-sound = rows.shapes-sound
 
 -- Blocks that are joined to a stream are cut out of it again, and a stream that is cut is joined again.

@@ -1,5 +1,5 @@
 -- What the blocks of a row are answered with, and the stream that is left. Assumes nothing.
-use mathlib.Core.Path.{_≡_, refl, sym, ap, ap₂, _∙_}
+use mathlib.Core.Path.{_≡_, refl, sym, ap, _∙_}
 use mathlib.Core.Logic.{_⊎_, inl, inr}
 use mathlib.Core.List.{List, _++_}
 use Prim.Native.Nat.{ℕ, zero, suc, _≤_}
@@ -8,8 +8,8 @@ use lib.Dec.{T}
 use lib.ListN.{length, take, drop}
 use lib.Seq.{length-take-le}
 use Rattle.corrector.specs.Correct.{BlockOutcome}
-use Rattle.blocks.specs.Blocks.{rowLength, rowHolds, shapes, joined}
-use Rattle.blocks.proofs.Rows.{row-sound, total-shapes}
+use Rattle.blocks.specs.Blocks.{Shape, totalSize, rowHolds, joined}
+use Rattle.blocks.proofs.Rows.{row-sound}
 use Rattle.blockwise.specs.declared.Blocks.{Blocks}
 use Rattle.blockwise.specs.Blockwise.{firstRefused, countOf, blocksOf, corrected, leftOf, numberOf, correctionsOf}
 use Rattle.blockwise.specs.Inner.{Pass, Corrects}
@@ -28,23 +28,23 @@ unfolding correctionsOf
 told-count zero n e = refl
 told-count (suc k) n e = absurd (omega (arith, e))
 
-pub row-answered : (r s s′ : List ℕ) (x : Blocks) → T (rowHolds r (rowLength r)) → rowLength r ≤ length s → Corrects (shapes r) 0 s s′ x
-    → (numberOf x ≡ firstRefused (corrected (shapes r) (take (rowLength r) s)))
-    × (numberOf x ≡ 0 → (correctionsOf x ≡ countOf (corrected (shapes r) (take (rowLength r) s)))
-    × (s′ ≡ joined (blocksOf (corrected (shapes r) (take (rowLength r) s))) ++ drop (rowLength r) s))
-    × (s′ ≡ leftOf (shapes r) s)
-row-answered r s s′ x t h C =
-    let os = corrected (shapes r) s in
-    let f = corrected-front r s h in
-    let q = C .is ∙ passed-is (shapes r) 0 s (omega (arith, total-shapes r)) in
+pub row-answered : (bs : List Shape) (s s′ : List ℕ) (x : Blocks) → T (rowHolds bs (totalSize bs)) → totalSize bs ≤ length s → Corrects bs 0 s s′ x
+    → (numberOf x ≡ firstRefused (corrected bs (take (totalSize bs) s)))
+    × (numberOf x ≡ 0 → (correctionsOf x ≡ countOf (corrected bs (take (totalSize bs) s)))
+    × (s′ ≡ joined (blocksOf (corrected bs (take (totalSize bs) s))) ++ drop (totalSize bs) s))
+    × (s′ ≡ leftOf bs s)
+row-answered bs s s′ x t h C =
+    let os = corrected bs s in
+    let f = corrected-front bs s h in
+    let q = C .is ∙ passed-is bs 0 s (omega arith) in
     let answer : x ≡ told (firstRefused os) (countOf os) = ap (λ (p : Pass). p .answer) q in
-    let left : s′ ≡ leftOf (shapes r) s = ap (λ (p : Pass). p .stream) q in
-    let z = zero-or-six (shapes r) (row-sound r (rowLength r) t) (take (rowLength r) s) (length-take-le (rowLength r) s h ∙ sym (total-shapes r)) in
+    let left : s′ ≡ leftOf bs s = ap (λ (p : Pass). p .stream) q in
+    let z = zero-or-six bs (row-sound bs (totalSize bs) t) (take (totalSize bs) s) (length-take-le (totalSize bs) s h) in
     let n : numberOf x ≡ firstRefused os = ap numberOf answer ∙ told-number (firstRefused os) (countOf os) (rw f at z) in (
       n ∙ ap firstRefused (sym f),
       λ e. (
         ap correctionsOf answer ∙ told-count (firstRefused os) (countOf os) (sym n ∙ e) ∙ ap countOf (sym f),
-        left ∙ left-accepted (shapes r) s (sym n ∙ e) ∙ ap₂ (λ (l : List BlockOutcome) (k : ℕ). joined (blocksOf l) ++ drop k s) (sym f) (total-shapes r),
+        left ∙ left-accepted bs s (sym n ∙ e) ∙ ap (λ (l : List BlockOutcome). joined (blocksOf l) ++ drop (totalSize bs) s) (sym f),
       ),
       left,
     )

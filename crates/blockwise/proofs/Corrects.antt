@@ -3,7 +3,7 @@ use mathlib.Core.Path.{_≡_, refl, sym, ap, ap₂, _∙_}
 use mathlib.Core.Logic.{_⊎_, inl, inr, _≢_}
 use mathlib.Core.Bool.{Bool, true, false, cond}
 use mathlib.Core.Option.{Option, none, some}
-use mathlib.Core.List.{List, [], _∷_, _++_, append-assoc}
+use mathlib.Core.List.{List, [], _∷_, _++_, append-assoc, flatMap, zipWith}
 use Prim.Native.Nat.{ℕ, zero, suc, _+_, _-_, _≤_, zero-le}
 use native.Mathlib.Nat.{add-zero, add-assoc}
 use native.Mathlib.Omega.{arith}
@@ -42,14 +42,14 @@ block-facts p w = go (unfit p w) (nearest 0x163 1 p w) refl
 -- ---- all blocks
 
 pub blocks-shaped : (bs : List Shape) (ws : List (List ℕ)) → Shaped bs ws → Shaped bs (blocksOf (outcomes bs ws))
-unfolding outcomes blocksOf
+unfolding outcomes blocksOf zipWith
 blocks-shaped [] [] h = tt
 blocks-shaped [] (w ∷ ws) h = absurd h
 blocks-shaped (b ∷ bs) [] h = absurd h
 blocks-shaped (b ∷ bs) (w ∷ ws) h = (block-facts (b .parity) w .0 ∙ h .0, blocks-shaped bs ws (h .1))
 
 pub count-le : (bs : List Shape) (s : List ℕ) → countOf (corrected bs s) ≤ totalSize bs
-unfolding outcomes cut countOf totalSize
+unfolding outcomes cut countOf totalSize zipWith
 count-le [] s = zero-le
 count-le (b ∷ bs) s =
     omega (arith, block-facts (b .parity) (take (size b) s) .1, length-take (size b) s, count-le bs (drop (size b) s))
@@ -74,7 +74,7 @@ first-zero (suc n) r e = absurd (omega (arith, ap (λ (t : Bool). cond t r (suc 
 
 pub left-behind : (bs cs : List Shape) (s : List ℕ) → firstRefused (corrected bs s) ≡ 0
     → leftOf (bs ++ cs) s ≡ joined (blocksOf (corrected bs s)) ++ leftOf cs (drop (totalSize bs) s)
-unfolding leftOf outcomes cut firstRefused blocksOf joined totalSize
+unfolding leftOf outcomes cut firstRefused blocksOf joined totalSize zipWith flatMap
 left-behind [] cs s e = refl
 left-behind (b ∷ bs) cs s e =
     let o = correctOf 0x163 1 (b .parity) (take (size b) s) in
@@ -143,7 +143,7 @@ pub passed-is : (bs : List Shape) (a : ℕ) (s : List ℕ) → a + totalSize bs 
       answer = told (firstRefused (corrected bs (drop a s))) (countOf (corrected bs (drop a s)));
       stream = take a s ++ leftOf bs (drop a s);
     }
-unfolding passed outcomes cut firstRefused countOf leftOf totalSize
+unfolding passed outcomes cut firstRefused countOf leftOf totalSize zipWith
 passed-is [] a s h = ap (λ (l : List ℕ). record { answer = Corrected 0; stream = l }) (sym (take-append-drop a s))
 passed-is (b ∷ bs) a s h =
     let o = outcomeAt b a s in

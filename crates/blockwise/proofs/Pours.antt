@@ -1,6 +1,6 @@
 -- Something of each block of one list put in its place in another: data gathered, and blocks written. Assumes nothing.
 use mathlib.Core.Path.{_≡_, refl, sym, ap, ap₂, subst, _∙_}
-use mathlib.Core.List.{List, [], _∷_, _++_}
+use mathlib.Core.List.{List, [], _∷_, _++_, flatMap, zipWith}
 use Prim.Native.Nat.{ℕ, _+_, _-_, _*_, _≤_, _<_}
 use native.Mathlib.Nat.{add-zero, add-assoc}
 use native.Mathlib.Omega.{arith}
@@ -10,8 +10,8 @@ use Rattle.reed_solomon.specs.Block.{parityOf}
 use Rattle.parity.specs.Encode.{withParity, writtenOf}
 use Rattle.remainder.specs.Words.{Prepared}
 use Rattle.reed_solomon.proofs.Search.{Bytes}
-use Rattle.blocks.specs.Blocks.{rowLength, Shape, size, batch, shapes, totalSize, totalData, cut, joined, dataParts, cutData}
-use Rattle.blocks.proofs.Rows.{Sound, total-shapes}
+use Rattle.blocks.specs.Blocks.{Shape, size, batch, totalSize, totalData, cut, joined, dataParts, cutData}
+use Rattle.blocks.specs.Inner.{Sound}
 use Rattle.blockwise.specs.Blockwise.{withParities, streamOf}
 use Rattle.blockwise.specs.declared.Batch.{Batch}
 use Rattle.blockwise.specs.Inner.{batchOf, blocksIn, behind, spliced, Way, gathering, writing, sum, poured, Room}
@@ -139,44 +139,46 @@ gathered-fills [] t h = tt
 gathered-fills (b ∷ bs) t h = (length-take-le (b .info) t (omega arith), gathered-fills bs (drop (size b) t) (omega (arith, length-drop (size b) t)))
 
 made-gathered : (bs : List Shape) (t : List ℕ) → made gathering bs t ≡ dataParts bs (cut bs t)
-unfolding made dataParts cut
+unfolding made dataParts cut zipWith joined flatMap
 made-gathered [] t = refl
 made-gathered (b ∷ bs) t = ap₂ _++_ (sym (take-take (b .info) (size b) t (omega arith))) (made-gathered bs (drop (size b) t))
 
 written-fills : (bs : List Shape) (t : List ℕ) → Coded bs (withParities bs (cutData bs t)) → Fills writing bs t
-unfolding withParities cutData
+unfolding withParities cutData zipWith
 written-fills [] t C = tt
 written-fills (b ∷ bs) t C = (C .0 .0, written-fills bs (drop (b .info) t) (C .1))
 
 made-written : (bs : List Shape) (t : List ℕ) → made writing bs t ≡ streamOf bs t
-unfolding made joined withParities cutData
+unfolding made joined withParities cutData flatMap zipWith
 made-written [] t = refl
 made-written (b ∷ bs) t = ap (λ (l : List ℕ). writing .makes b t ++ l) (made-written bs (drop (b .info) t))
 
 -- ---- the blocks of a row
 
-pub row-gathers : (r t s : List ℕ) → rowLength r ≤ length t → totalData (shapes r) ≤ length s → Room gathering (shapes r) 0 0 t s
-row-gathers r t s h l = record { into = omega (arith, sum-info (shapes r)); out = omega (arith, sum-size (shapes r), total-shapes r) }
+module _ (bs : List Shape) (t s : List ℕ) where
+  module _ (h : totalSize bs ≤ length t) (l : totalData bs ≤ length s) where
+    pub row-gathers : Room gathering bs 0 0 t s
+    row-gathers = record { into = omega (arith, sum-info bs); out = omega (arith, sum-size bs) }
 
-pub gathered-row : (r t s : List ℕ) (n : ℕ) → rowLength r ≤ length t → totalData (shapes r) ≤ length s → n ≡ 0 + sum (λ b. b .info) (shapes r)
-    → (n ≡ totalData (shapes r)) × (poured gathering (shapes r) 0 0 t s ≡ dataParts (shapes r) (cut (shapes r) t) ++ drop n s)
-unfolding spliced
-gathered-row r t s n h l e = (
-  omega (arith, sum-info (shapes r)),
-  poured-is gathering (shapes r) 0 0 t s (gathered-fills (shapes r) t (omega (arith, total-shapes r))) (omega (arith, sum-info (shapes r)))
-      ∙ ap₂ (λ (xs : List ℕ) (k : ℕ). xs ++ drop k s) (made-gathered (shapes r) t) (sym e),
-)
+    pub gathered-row : (n : ℕ) → n ≡ 0 + sum (λ b. b .info) bs
+        → (n ≡ totalData bs) × (poured gathering bs 0 0 t s ≡ dataParts bs (cut bs t) ++ drop n s)
+    unfolding spliced
+    gathered-row n e = (
+      omega (arith, sum-info bs),
+      poured-is gathering bs 0 0 t s (gathered-fills bs t h) (omega (arith, sum-info bs))
+          ∙ ap₂ (λ (xs : List ℕ) (k : ℕ). xs ++ drop k s) (made-gathered bs t) (sym e),
+    )
 
-pub row-writes : (r t s : List ℕ) → rowLength r ≤ length s → totalData (shapes r) ≤ length t → Room writing (shapes r) 0 0 t s
-row-writes r t s h l = record { into = omega (arith, sum-size (shapes r), total-shapes r); out = omega (arith, sum-info (shapes r)) }
+  module _ (h : totalSize bs ≤ length s) (l : totalData bs ≤ length t) where
+    pub row-writes : Room writing bs 0 0 t s
+    row-writes = record { into = omega (arith, sum-size bs); out = omega (arith, sum-info bs) }
 
-pub written-row : (r t s : List ℕ) → Sound (shapes r) → Bytes t → rowLength r ≤ length s → totalData (shapes r) ≤ length t
-    → poured writing (shapes r) 0 0 t s ≡ streamOf (shapes r) t ++ drop (rowLength r) s
-unfolding spliced
-written-row r t s S bytes h l =
-    let n : 0 + sum (λ b. size b) (shapes r) ≡ rowLength r = omega (arith, sum-size (shapes r), total-shapes r) in
-    poured-is writing (shapes r) 0 0 t s (written-fills (shapes r) t (encoded-coded (shapes r) t S bytes l .0)) (omega arith)
-    ∙ ap₂ (λ (xs : List ℕ) (k : ℕ). xs ++ drop k s) (made-written (shapes r) t) n
+    pub written-row : Sound bs → Bytes t → poured writing bs 0 0 t s ≡ streamOf bs t ++ drop (totalSize bs) s
+    unfolding spliced
+    written-row S bytes =
+        let n : 0 + sum (λ b. size b) bs ≡ totalSize bs = omega (arith, sum-size bs) in
+        poured-is writing bs 0 0 t s (written-fills bs t (encoded-coded bs t S bytes l .0)) (omega arith)
+        ∙ ap₂ (λ (xs : List ℕ) (k : ℕ). xs ++ drop k s) (made-written bs t) n
 
 -- ---- one block
 

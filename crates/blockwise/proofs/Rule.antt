@@ -3,33 +3,37 @@ use mathlib.Core.Path.{_≡_, refl, sym, ap, ap₂, _∙_}
 use mathlib.Core.List.{List, [], _∷_, _++_, append-nil}
 use Prim.Native.Nat.{ℕ, zero, suc, _+_, _-_, _*_, _≤_, _<_}
 use native.Mathlib.Omega.{arith}
-use lib.Dec.{T}
 use lib.ListN.{length, take, drop, getD, length-drop, take-append-drop}
 use lib.Seq.{take-append-le, drop-append-le, length-take-le}
-use Rattle.blocks.specs.Blocks.{batchHolds, rowLength, rowHolds, Shape, size, batch, shapes, totalSize, totalData, cut}
-use Rattle.blocks.proofs.Rows.{Sound, more, sound-batch, row-rules, total-shapes}
+use Rattle.blocks.specs.Blocks.{Shape, size, batch, shapes, totalSize, totalData, cut}
+use Rattle.blocks.specs.Inner.{Sound, none, more}
 use Rattle.blockwise.specs.Blockwise.{outcomes, corrected}
 use Rattle.blockwise.specs.declared.Batch.{Batch}
 use Rattle.blockwise.specs.Inner.{batchOf, blocksIn, behind, sum}
 
 -- ---- the rule
 
-pub batch-fit : (c d p : ℕ) → T (batchHolds c d p) → 0 < c → (0 < d) × (0 < p) × (d + p ≤ 255)
+pub batch-fit : (c d p : ℕ) → Sound (batch c d p) → 0 < c → (0 < d) × (0 < p) × (d + p ≤ 255)
 unfolding batch
-batch-fit zero d p t h = absurd (omega arith)
-batch-fit (suc c) d p t h = go (sound-batch (suc c) d p t)
-  where
-    go : Sound (batch (suc c) d p) → (0 < d) × (0 < p) × (d + p ≤ 255)
-    go (more i o s S) = (i, o, s)
+batch-fit zero d p S h = absurd (omega arith)
+batch-fit (suc c) d p (more i o s S) h = (i, o, s)
+
+sound-parts : (bs cs : List Shape) → Sound (bs ++ cs) → Sound bs × Sound cs
+sound-parts [] cs S = (none, S)
+sound-parts (b ∷ bs) cs (more i p s S) = let q = sound-parts bs cs S in (more i p s (q .0), q .1)
 
 module _ (r : List ℕ) where
-  pub row-batch : (total k : ℕ) → T (rowHolds r total) → k < 3 → (b : Batch) → b ≡ batchOf r k → T (batchHolds (b .count) (b .info) (b .parity))
-  row-batch total k t h b e = rw e (go k h)
+  pub row-batch : (k : ℕ) → Sound (shapes r) → k < 3 → (b : Batch) → b ≡ batchOf r k → Sound (blocksIn b)
+  unfolding shapes
+  row-batch k S h b e = rw e (go k h)
     where
-      go : (k : ℕ) → k < 3 → T (batchHolds (getD r (3 * k) 0) (getD r (3 * k + 1) 0) (getD r (3 * k + 2) 0))
-      go zero h = row-rules r total t .0
-      go (suc zero) h = row-rules r total t .1
-      go (suc (suc zero)) h = row-rules r total t .2
+      behind-first : Sound (blocksIn (batchOf r 1) ++ blocksIn (batchOf r 2))
+      behind-first = sound-parts (blocksIn (batchOf r 0)) _ S .1
+
+      go : (k : ℕ) → k < 3 → Sound (blocksIn (batchOf r k))
+      go zero h = sound-parts (blocksIn (batchOf r 0)) _ S .0
+      go (suc zero) h = sound-parts (blocksIn (batchOf r 1)) _ behind-first .0
+      go (suc (suc zero)) h = sound-parts (blocksIn (batchOf r 1)) _ behind-first .1
       go (suc (suc (suc k))) h = absurd (omega arith)
 
   -- ---- blocks in order
@@ -79,13 +83,11 @@ sum-batch f (suc n) d p = let e = sum-batch f n d p in omega arith
 
 pub sum-size : (bs : List Shape) → sum (λ b. size b) bs ≡ totalSize bs
 unfolding sum totalSize
-sum-size [] = refl
-sum-size (b ∷ bs) = ap (λ (n : ℕ). size b + n) (sum-size bs)
+sum-size bs = refl
 
 pub sum-info : (bs : List Shape) → sum (λ b. b .info) bs ≡ totalData bs
 unfolding sum totalData
-sum-info [] = refl
-sum-info (b ∷ bs) = ap (λ (n : ℕ). b .info + n) (sum-info bs)
+sum-info bs = refl
 
 pub data-shapes : (r : List ℕ) (a b c : Batch) → a ≡ batchOf r 0 → b ≡ batchOf r 1 → c ≡ batchOf r 2
     → a .count * a .info + (b .count * b .info + c .count * c .info) ≡ totalData (shapes r)
@@ -106,8 +108,8 @@ cut-front (b ∷ bs) t u h =
     ap₂ (λ (w : List ℕ) (ws : List (List ℕ)). w ∷ ws) (take-append-le (size b) t u (omega arith))
     (ap (cut bs) (drop-append-le (size b) t u (omega arith)) ∙ cut-front bs (drop (size b) t) u (omega (arith, length-drop (size b) t)))
 
-pub corrected-front : (r s : List ℕ) → rowLength r ≤ length s → corrected (shapes r) (take (rowLength r) s) ≡ corrected (shapes r) s
-corrected-front r s h =
-    ap (outcomes (shapes r))
-    (sym (cut-front (shapes r) (take (rowLength r) s) (drop (rowLength r) s) (omega (arith, total-shapes r, length-take-le (rowLength r) s h)))
-    ∙ ap (cut (shapes r)) (take-append-drop (rowLength r) s))
+pub corrected-front : (bs : List Shape) (s : List ℕ) → totalSize bs ≤ length s → corrected bs (take (totalSize bs) s) ≡ corrected bs s
+corrected-front bs s h =
+    ap (outcomes bs)
+    (sym (cut-front bs (take (totalSize bs) s) (drop (totalSize bs) s) (omega (arith, length-take-le (totalSize bs) s h)))
+    ∙ ap (cut bs) (take-append-drop (totalSize bs) s))

@@ -2,7 +2,7 @@
 use mathlib.Core.Path.{_≡_, refl, sym, ap, ap₂, _∙_}
 use mathlib.Core.Logic.{_⊎_, inl, inr}
 use mathlib.Core.Option.{Option, none, some}
-use mathlib.Core.List.{List, [], _∷_}
+use mathlib.Core.List.{List, [], _∷_, zipWith}
 use Prim.Native.Nat.{ℕ, zero, suc, _+_, _/_, _≤_, _<_}
 use native.Mathlib.Omega.{arith}
 use lib.ListN.{length}
@@ -16,7 +16,7 @@ use Rattle.reed_solomon.proofs.Fit.{fit}
 use Rattle.corrector.specs.Correct.{BlockOutcome, refusedBlock, settled, correctOf}
 use Rattle.corrector.proofs.Settle.{fit-settled}
 use Rattle.blocks.specs.Blocks.{Shape, size}
-use Rattle.blocks.proofs.Rows.{Sound, more}
+use Rattle.blocks.specs.Inner.{Sound, more}
 use Rattle.blocks.proofs.Cuts.{Shaped}
 use Rattle.blockwise.specs.Blockwise.{outcomes, firstRefused, countOf, blocksOf, differences, blockAt, parityAt}
 use Rattle.blockwise.proofs.Corrects.{first, settled-number}
@@ -43,7 +43,7 @@ six : (w : List ℕ) (o : Option (List ℕ)) → first (settled w o .number) 6 �
 six w o = elim (settled-number w o) [ inl z ↦ ap (λ (n : ℕ). first n 6) z | inr z ↦ ap (λ (n : ℕ). first n 6) z ]
 
 pub lost-refused : (bs : List Shape) (ws : List (List ℕ)) → Sound bs → Shaped bs ws → Lost bs ws → firstRefused (outcomes bs ws) ≡ 6
-unfolding outcomes firstRefused settled refusedBlock
+unfolding outcomes firstRefused settled refusedBlock zipWith
 lost-refused [] ws S h (j, l, e) = absurd (omega arith)
 lost-refused (b ∷ bs) [] S h x = absurd h
 lost-refused (b ∷ bs) (w ∷ ws) (more i p s S) h (zero, l, e) =
@@ -54,7 +54,7 @@ lost-refused (b ∷ bs) (w ∷ ws) (more i p s S) h (suc j, l, e) =
 
 pub each-settled : (bs : List Shape) (ws vs : List (List ℕ)) → Sound bs → Shaped bs ws → Each bs ws vs
     → (firstRefused (outcomes bs ws) ≡ 0) × (blocksOf (outcomes bs ws) ≡ vs) × (countOf (outcomes bs ws) ≡ differences ws vs)
-unfolding outcomes firstRefused blocksOf countOf differences settled
+unfolding outcomes firstRefused blocksOf countOf differences settled zipWith
 each-settled [] [] [] S h E = (refl, refl, refl)
 each-settled [] [] (v ∷ vs) S h E = absurd (omega (arith, E .number))
 each-settled [] (w ∷ ws) vs S h E = absurd h

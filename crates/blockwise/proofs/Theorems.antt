@@ -13,8 +13,9 @@ use borrow.Author.Tests.{ne-eqb}
 use Rattle.reed_solomon.specs.Block.{distance, nearest}
 use Rattle.reed_solomon.proofs.Search.{Bytes}
 use Rattle.corrector.specs.Correct.{correctOf}
-use Rattle.blocks.specs.Blocks.{rowLength, rowHolds, Shape, size, totalSize, totalData, cut, joined, dataParts, cutData}
-use Rattle.blocks.proofs.Rows.{Sound, row-rules}
+use Rattle.blocks.specs.Blocks.{rowHolds, Shape, size, totalSize, totalData, cut, joined, dataParts, cutData}
+use Rattle.blocks.specs.Inner.{Sound}
+use Rattle.blocks.proofs.Rows.{row-total}
 use Rattle.blocks.proofs.Cuts.{Shaped, cut-shaped, cut-joined, length-joined, data-back}
 use Rattle.blockwise.specs.Blockwise.{firstRefused, countOf, blocksOf, corrected, leftOf, correctedData, withParities, streamOf, differences, blockAt, parityAt}
 use Rattle.blockwise.proofs.Corrects.{block-facts, blocks-shaped, joined-size, left-behind}
@@ -22,9 +23,9 @@ use Rattle.blockwise.proofs.Rule.{cut-front}
 use Rattle.blockwise.proofs.Settle.{Coded, lost-refused, each-settled, either, coded-shaped, coded-each}
 use Rattle.blockwise.proofs.Written.{encoded-coded, joined-bytes}
 
--- The length of a row that holds the rule for a total is that total, so that the row holds it for its own length.
-pub row-holds-own : (r : List ℕ) (total : ℕ) → T (rowHolds r total) → (rowLength r ≡ total) × T (rowHolds r (rowLength r))
-row-holds-own r total t = let e = row-rules r total t .3 in (e, rw e t)
+-- The length of blocks that hold the rule of a row for a total is that total, so that they hold it for their own length.
+pub row-holds-own : (bs : List Shape) (total : ℕ) → T (rowHolds bs total) → (totalSize bs ≡ total) × T (rowHolds bs (totalSize bs))
+row-holds-own bs total t = let e = row-total bs total t in (e, rw e t)
 
 -- The stream that is left where no block is refused: each block as it was corrected, and what is behind them as it was.
 pub left-accepted : (bs : List Shape) (s : List ℕ) → firstRefused (corrected bs s) ≡ 0

@@ -1,6 +1,6 @@
 -- The blocks that are written: codewords that begin with their data. Assumes nothing.
 use mathlib.Core.Path.{_≡_, sym, ap, ap₂, subst, _∙_}
-use mathlib.Core.List.{List, [], _∷_}
+use mathlib.Core.List.{List, [], _∷_, flatMap, zipWith}
 use Prim.Native.Nat.{ℕ, _+_, _≤_}
 use native.Mathlib.Omega.{arith}
 use lib.Dec.{T}
@@ -13,7 +13,7 @@ use Rattle.parity.specs.Encode.{withParity}
 use Rattle.parity.proofs.Followed.{append-bytes, take-bytes}
 use Rattle.parity.proofs.Theorems.{has-parity, parity-makes-codeword}
 use Rattle.blocks.specs.Blocks.{Shape, size, totalData, joined, cutData}
-use Rattle.blocks.proofs.Rows.{Sound, more}
+use Rattle.blocks.specs.Inner.{Sound, more}
 use Rattle.blocks.proofs.Cuts.{Begins}
 use Rattle.blockwise.specs.Blockwise.{withParities}
 use Rattle.blockwise.proofs.Settle.{Coded}
@@ -38,7 +38,7 @@ block-written b d small bytes l =
 -- all of them
 pub encoded-coded : (bs : List Shape) (ds : List ℕ) → Sound bs → Bytes ds → totalData bs ≤ length ds
     → Coded bs (withParities bs (cutData bs ds)) × Begins bs (cutData bs ds) (withParities bs (cutData bs ds))
-unfolding withParities cutData totalData
+unfolding withParities cutData totalData zipWith
 encoded-coded [] ds S bytes h = (tt, tt)
 encoded-coded (b ∷ bs) ds (more i p s S) bytes h =
     let w = block-written b (take (b .info) ds) s (take-bytes (b .info) ds bytes) (length-take-le (b .info) ds (omega arith)) in
@@ -46,7 +46,7 @@ encoded-coded (b ∷ bs) ds (more i p s S) bytes h =
     ((w .0, r .0), (w .1, r .1))
 
 pub joined-bytes : (bs : List Shape) (vs : List (List ℕ)) → Coded bs vs → Bytes (joined vs)
-unfolding joined
+unfolding joined flatMap
 joined-bytes [] [] C i = omega arith
 joined-bytes [] (v ∷ vs) C i = absurd C
 joined-bytes (b ∷ bs) [] C i = absurd C

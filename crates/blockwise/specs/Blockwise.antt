@@ -1,7 +1,7 @@
 -- SPECIFICATION 7.5 and 11.3: each block of a stream corrected by itself, first to last, and each block of data given its parity. The
 -- field is that of 163 hex, the first root α^1.
 use mathlib.Core.Bool.{cond}
-use mathlib.Core.List.{List, [], _∷_, _++_, map}
+use mathlib.Core.List.{List, [], _∷_, _++_, map, foldr, zipWith}
 use Prim.Native.Nat.{ℕ, _+_}
 use lib.Dec.{eqb}
 use lib.ListN.{take, drop, getD}
@@ -14,24 +14,19 @@ use Rattle.blockwise.specs.declared.Blocks.the-variants.{Corrected, Refu
 
 -- what Correct a block gives for each block, in order
 unfoldable pub outcomes : List Shape → List (List ℕ) → List BlockOutcome
-outcomes [] ws = []
-outcomes (b ∷ bs) [] = []
-outcomes (b ∷ bs) (w ∷ ws) = correctOf 0x163 1 (b .parity) w ∷ outcomes bs ws
+outcomes bs ws = zipWith (λ b w. correctOf 0x163 1 (b .parity) w) bs ws
 
 -- the refusal of the first block that is refused, or 0
 unfoldable pub firstRefused : List BlockOutcome → ℕ
-firstRefused [] = 0
-firstRefused (o ∷ os) = cond (eqb (o .number) 0) (firstRefused os) (o .number)
+firstRefused os = foldr (λ o n. cond (eqb (o .number) 0) n (o .number)) 0 os
 
 -- the corrections of all blocks
 unfoldable pub countOf : List BlockOutcome → ℕ
-countOf [] = 0
-countOf (o ∷ os) = o .count + countOf os
+countOf os = foldr (λ o n. o .count + n) 0 os
 
 -- the blocks as they are left
 unfoldable pub blocksOf : List BlockOutcome → List (List ℕ)
-blocksOf [] = []
-blocksOf (o ∷ os) = o .block ∷ blocksOf os
+blocksOf os = map (λ o. o .block) os
 
 -- the blocks of a stream, corrected
 abbrev pub corrected : List Shape → List ℕ → List BlockOutcome
@@ -50,9 +45,7 @@ correctedData bs stream = dataParts bs (blocksOf (corrected bs stream))
 
 -- each data part followed by its parity
 unfoldable pub withParities : List Shape → List (List ℕ) → List (List ℕ)
-withParities [] ds = []
-withParities (b ∷ bs) [] = []
-withParities (b ∷ bs) (d ∷ ds) = withParity d (parityOf 0x163 1 (b .parity) d) ∷ withParities bs ds
+withParities bs ds = zipWith (λ b d. withParity d (parityOf 0x163 1 (b .parity) d)) bs ds
 
 -- the stream of data codewords: cut into data parts, each followed by its parity, and joined
 abbrev pub streamOf : List Shape → List ℕ → List ℕ
@@ -69,9 +62,7 @@ correctionsOf Refused = 0
 
 -- in how many places two lists of blocks differ
 unfoldable pub differences : List (List ℕ) → List (List ℕ) → ℕ
-differences [] vs = 0
-differences (w ∷ ws) [] = 0
-differences (w ∷ ws) (v ∷ vs) = distance w v + differences ws vs
+differences ws vs = foldr _+_ 0 (zipWith distance ws vs)
 
 -- block j, and its parity
 abbrev pub blockAt : List (List ℕ) → ℕ → List ℕ

@@ -1,7 +1,7 @@
 -- What inner functions say of each other, and those of `block_writer`. Nobody has to believe it: the contracts of `correct_blocks`,
 -- `data_length`, `gather_data` and `write_blocks` do not cite it.
 use mathlib.Core.Path.{_≡_}
-use mathlib.Core.List.{List, [], _∷_, _++_}
+use mathlib.Core.List.{List, [], _∷_, _++_, foldr}
 use Prim.Native.Nat.{ℕ, zero, suc, _+_, _*_, _≤_}
 use lib.ListN.{length, take, drop, getD}
 use Rattle.reed_solomon.specs.Block.{parityOf}
@@ -99,8 +99,7 @@ writing = record {
 }
 
 unfoldable pub sum : (Shape → ℕ) → List Shape → ℕ
-sum f [] = 0
-sum f (b ∷ bs) = f b + sum f bs
+sum f bs = foldr (λ b n. f b + n) 0 bs
 
 -- the blocks of t from f on, put into s from a on
 unfoldable pub poured : Way → List Shape → ℕ → ℕ → List ℕ → List ℕ → List ℕ

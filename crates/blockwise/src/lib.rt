@@ -7,7 +7,7 @@ ghost use Prim.Native.Nat.{_+_, _≤_, _<_};
 ghost use lib.Dec.{T};
 ghost use lib.ListN.{length, take, drop};
 ghost use Rattle.remainder.specs.Words.{Prepared};
-ghost use Rattle.blocks.specs.Blocks.{rowLength, rowHolds, batch, shapes, totalSize, totalData, cut, joined, dataParts};
+ghost use Rattle.blocks.specs.Blocks.{batch, shapes, totalSize, totalData, rowHolds, cut, joined, dataParts};
 ghost use Rattle.blockwise.specs.Blockwise.{corrected, firstRefused, countOf, blocksOf, leftOf, numberOf, correctionsOf};
 ghost use Rattle.blockwise.specs.Inner.{Reads, blocksIn, spliced, answerOf, Corrects, gathering, poured, Room};
 use corrector::Correction;
@@ -115,10 +115,11 @@ fn correct_batch(stream: &mut [u8], from: usize, b: Batch) -> Blocks
 
 // All blocks of the stream, first to last, each set to its codeword in reach; the first that has none ends it.
 pub fn correct_blocks(stream: &mut [u8], row: &[u8]) -> Blocks
-    requires { ⌜ (length (now row) ≡ 9) × T (rowHolds (now row) (rowLength (now row))) × (rowLength (now row) ≤ length (now stream)) ⌝ }
+    requires { ⌜ (length (now row) ≡ 9) × T (rowHolds (shapes (now row)) (totalSize (shapes (now row))))
+        × (totalSize (shapes (now row)) ≤ length (now stream)) ⌝ }
     ensures { λ r.
         let bs = shapes (now (row .entry)) in
-        let n = rowLength (now (row .entry)) in
+        let n = totalSize bs in
         let s = now (stream .entry) in
         ⌜ (numberOf r ≡ firstRefused (corrected bs (take n s)))
         × (numberOf r ≡ 0 → (correctionsOf r ≡ countOf (corrected bs (take n s)))
@@ -182,7 +183,7 @@ pub fn data_length(row: &[u8]) -> usize
 
 // The data parts of all blocks of the stream, joined in block order at the front of out; the answer is their number.
 pub fn gather_data(out: &mut [u8], stream: &[u8], row: &[u8]) -> usize
-    requires { ⌜ (length (now row) ≡ 9) × (rowLength (now row) ≤ length (now stream)) × (totalData (shapes (now row)) ≤ length (now out)) ⌝ }
+    requires { ⌜ (length (now row) ≡ 9) × (totalSize (shapes (now row)) ≤ length (now stream)) × (totalData (shapes (now row)) ≤ length (now out)) ⌝ }
     ensures { λ r.
         let bs = shapes (now (row .entry)) in
         ⌜ (r ≡ totalData bs) × (now (out .exit) ≡ dataParts bs (cut bs (now (stream .entry))) ++ drop r (now (out .entry))) ⌝ }

@@ -10,8 +10,10 @@ use Rattle.information.specs.Information.{infoWritten}
 use Rattle.information.proofs.Flips.{info-length, info-else}
 use Rattle.blocks.specs.Blocks.{dataModules}
 use Rattle.bits.specs.Bits.{bitsOf}
-use Rattle.codewords.specs.Codewords.{maskBit, codewordsOf, dataBits, placed, order, fromStream, toStream, streamIn, squareOf}
-use Rattle.codewords.proofs.Bits.{Bytes, length-bits, codewords-back}
+use Rattle.bits.proofs.Reading.{length-bits}
+use Rattle.codewords.specs.Codewords.{maskBit, codewordsOf, dataBits, placed, order, fromStream, toStream, squareOf}
+use Rattle.codewords.specs.Inner.{streamIn}
+use Rattle.codewords.proofs.Bits.{Bytes, codewords-back}
 use Rattle.codewords.proofs.Interleave.{interleave-back, length-interleaved}
 use Rattle.codewords.proofs.Placement.{data-placed, length-placed, data-agree}
 
@@ -30,7 +32,7 @@ length-square m ks s = length-placed m 0 ks (bitsOf (fromStream s))
 -- any square with the data modules of the square of s
 pub stream-back : (m : ℕ → ℕ) (ks s sq : List ℕ) → ((i : ℕ) → getD s i 0 < 256) → 8 * length s ≤ dataModules ks → length sq ≡ length ks
     → ((p : ℕ) → p < length ks → getD ks p 0 ≡ 0 → getD sq p 0 ≡ getD (squareOf m ks s) p 0) → streamIn (length s) m ks sq ≡ s
-unfolding streamIn squareOf
+unfolding squareOf
 stream-back m ks s sq b h l a =
     let ds = bitsOf (fromStream s) in
     let R = dataBits m 0 ks (placed m 0 ks ds) in

@@ -8,7 +8,8 @@ use native.Mathlib.Decide.{ℕ-discrete}
 use native.Mathlib.Numerals.{add-one}
 use lib.ListN.{length, getD, set, take, drop, replicate, length-set, length-replicate, length-map, length-append, take-append-drop}
 use lib.Seq.{getD-set-same, getD-set-other, ext-getD, drop-cons, take-set-lt, drop-set-lt, take-suc-set, length-take-le, getD-take, take-all}
-use Rattle.codewords.specs.Codewords.{steps, starts, order, storeAt, toStream, fromStream}
+use Rattle.bits.specs.Bits.{storeAt}
+use Rattle.codewords.specs.Codewords.{steps, starts, order, toStream, fromStream}
 use Rattle.codewords.specs.Inner.{Storing, Collecting, ToStream, FromStream}
 
 -- p is one of ps

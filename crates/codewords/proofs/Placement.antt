@@ -1,5 +1,5 @@
 -- Data bits into the data modules of a square and out of them.
-use mathlib.Core.Path.{_≡_, refl, ap, ap₂, _∙_}
+use mathlib.Core.Path.{_≡_, refl, sym, ap, ap₂, _∙_}
 use mathlib.Core.List.{List, [], _∷_}
 use Prim.Native.Nat.{ℕ, zero, suc, _<_, _≤_}
 use native.Mathlib.Nat.{le-of-suc-le-suc}
@@ -8,6 +8,7 @@ use lib.ListN.{length, getD, take}
 use lib.Bits.{bitXor, xor-self, xor-zero-r}
 use Rattle.information.proofs.Xor.{xor-assoc}
 use Rattle.blocks.specs.Blocks.{dataModules}
+use Rattle.blocks.proofs.Rows.{module-miss}
 use Rattle.codewords.specs.Codewords.{dataBits, placed}
 
 xor-twice : (a b : ℕ) → bitXor (bitXor a b) b ≡ a
@@ -23,7 +24,7 @@ module _ (m : ℕ → ℕ) where
   data-placed i (zero ∷ ks) (d ∷ ds) h = ap₂ _∷_ (xor-twice d (m i)) (data-placed (suc i) ks ds (le-of-suc-le-suc h))
   data-placed i (suc zero ∷ ks) ds h = data-placed (suc i) ks ds h
   data-placed i (suc (suc zero) ∷ ks) ds h = data-placed (suc i) ks ds h
-  data-placed i (suc (suc (suc k)) ∷ ks) ds h = data-placed (suc i) ks ds h
+  data-placed i (suc (suc (suc k)) ∷ ks) ds h = data-placed (suc i) ks ds (rw (module-miss (suc (suc (suc k))) ks (λ z. omega arith)) at h)
 
   pub length-placed : (i : ℕ) (ks ds : List ℕ) → length (placed m i ks ds) ≡ length ks
   unfolding placed
@@ -51,7 +52,7 @@ module _ (m : ℕ → ℕ) where
   length-data i [] (b ∷ sq) = refl
   length-data i (k ∷ ks) [] = refl
   length-data i (zero ∷ ks) (b ∷ sq) = ap suc (length-data (suc i) ks sq)
-  length-data i (suc k ∷ ks) (b ∷ sq) = length-data (suc i) ks sq
+  length-data i (suc k ∷ ks) (b ∷ sq) = length-data (suc i) ks sq ∙ sym (module-miss (suc k) (take (length sq) ks) (λ z. omega arith))
 
   -- kinds beyond the square do not matter
   pub data-front : (i : ℕ) (ks sq : List ℕ) → dataBits m i ks sq ≡ dataBits m i (take (length sq) ks) sq

@@ -1,17 +1,17 @@
 -- Bits stay bits and bytes stay bytes on the way from a square to its stream and back.
-use mathlib.Core.Path.{_≡_, sym, ap, subst, _∙_}
+use mathlib.Core.Path.{sym, ap, subst, _∙_}
 use mathlib.Core.List.{List, [], _∷_}
-use Prim.Native.Nat.{ℕ, zero, suc, _+_, _*_, _/_, _%_, _^_, _-_, _<_}
-use native.Mathlib.Nat.{pow-suc, pow-le-pow-right, mod-lt}
+use Prim.Native.Nat.{ℕ, zero, suc, _+_, _-_, _<_}
 use native.Mathlib.Omega.{arith}
 use native.Mathlib.Decide.{decLt, ℕ-discrete}
 use lib.Bits.{xor-lt}
 use lib.Dec.{lit<}
-use lib.ListN.{length, getD, set, take, drop, replicate, length-take, getD-replicate, length-replicate, List·getD-eq-default}
-use lib.Seq.{getD-set-same, getD-set-other, set-out, getD-take, getD-drop}
-use Rattle.bits.specs.Bits.{bitsOf, value, firstWords}
-use Rattle.codewords.specs.Codewords.{codewordsOf, dataBits, placed, order, storeAt, toStream, fromStream, streamIn, squareOf}
-use Rattle.codewords.proofs.Bits.{bit-at}
+use lib.ListN.{length, getD, set, drop, replicate, getD-replicate, length-replicate, List·getD-eq-default}
+use lib.Seq.{getD-set-same, getD-set-other, set-out, getD-drop}
+use Rattle.bits.specs.Bits.{bitsOf, groups, firstWords, storeAt}
+use Rattle.codewords.specs.Codewords.{codewordsOf, dataBits, placed, order, toStream, fromStream, squareOf}
+use Rattle.codewords.specs.Inner.{streamIn}
+use Rattle.bits.proofs.Reading.{value-bound, bit-lt}
 
 -- every element of a list is below n
 abbrev pub Below : ℕ → List ℕ → Type 0
@@ -40,28 +40,13 @@ module _ (m : ℕ → ℕ) (small : (i : ℕ) → m i < 2) where
   placed-below i (suc (suc (suc k)) ∷ ks) ds h zero = omega arith
   placed-below i (suc (suc (suc k)) ∷ ks) ds h (suc j) = placed-below (suc i) ks ds h j
 
--- the number that bits say
-value-below : (n a : ℕ) (bs : List ℕ) → a < 2 ^ n → Below 2 bs → value a bs < 2 ^ (n + length bs)
-unfolding value
-value-below n a [] h b = subst (λ (k : ℕ). a < 2 ^ k) (let e : n ≡ n + 0 = omega arith in e) h
-value-below n a (x ∷ bs) h b =
-    let e : suc n + length bs ≡ n + suc (length bs) = omega arith in
-    subst (λ (k : ℕ). value (a * 2 + x) bs < 2 ^ k) e (value-below (suc n) (a * 2 + x) bs (omega (arith, b 0, pow-suc 2 n)) (λ i. b (suc i)))
-
-take-below : (n k : ℕ) (xs : List ℕ) → Below n xs → 0 < n → Below n (take k xs)
-take-below n k xs h p i = elim (decLt i k) [
-  | yes l ↦ subst (λ (x : ℕ). x < n) (sym (getD-take k xs i 0 l)) (h i)
-  | no l ↦ subst (λ (x : ℕ). x < n) (sym (List·getD-eq-default (take k xs) 0 (omega (arith, length-take k xs)))) p
-]
-
 drop-below : (n k : ℕ) (xs : List ℕ) → Below n xs → Below n (drop k xs)
 drop-below n k xs h i = subst (λ (x : ℕ). x < n) (sym (getD-drop k xs i 0)) (h (k + i))
 
 pub codewords-below : (n : ℕ) (bs : List ℕ) → Below 2 bs → Below 256 (codewordsOf n bs)
-unfolding firstWords
+unfolding firstWords groups
 codewords-below zero bs h j = omega arith
-codewords-below (suc n) bs h zero =
-    omega (arith, value-below 0 0 (take 8 bs) (lit< tt) (take-below 2 8 bs h (lit< tt)), pow-le-pow-right {n = 2} (lit< tt) {i = 0 + length (take 8 bs)} {j = 8} (omega (arith, length-take 8 bs)))
+codewords-below (suc n) bs h zero = value-bound bs 8 0 0 h (omega arith)
 codewords-below (suc n) bs h (suc j) = codewords-below n (drop 8 bs) (drop-below 2 8 bs h) j
 
 set-below : (n : ℕ) (xs : List ℕ) (p x : ℕ) → x < n → Below n xs → Below n (set xs p x)
@@ -87,15 +72,12 @@ zeros-below k i = elim (decLt i k) [
 
 -- the stream of a square of bits has bytes
 pub stream-below : (total : ℕ) (m : ℕ → ℕ) (ks sq : List ℕ) → ((i : ℕ) → m i < 2) → Below 2 sq → Below 256 (streamIn total m ks sq)
-unfolding streamIn toStream
+unfolding toStream
 stream-below total m ks sq small h =
     let cs = codewordsOf total (dataBits m 0 ks sq) in
     store-below 256 (order (length cs)) cs (replicate (length cs) 0) (codewords-below total (dataBits m 0 ks sq) (data-below m small 0 ks sq h)) (zeros-below (length cs))
 
-bits-below : (cs : List ℕ) → Below 2 (bitsOf cs)
-bits-below cs i = subst (λ (x : ℕ). x < 2) (sym (bit-at cs i)) (mod-lt (getD cs (i / 8) 0 / 2 ^ (7 - i % 8)) (lit< tt))
-
 -- the square of a stream has bits
 pub square-below : (m : ℕ → ℕ) (ks s : List ℕ) → ((i : ℕ) → m i < 2) → Below 2 (squareOf m ks s)
 unfolding squareOf
-square-below m ks s small = placed-below m small 0 ks (bitsOf (fromStream s)) (bits-below (fromStream s))
+square-below m ks s small = placed-below m small 0 ks (bitsOf (fromStream s)) (bit-lt (fromStream s))

@@ -2,8 +2,8 @@
 use mathlib.Core.List.{List, [], _∷_, _++_, map}
 use Prim.Native.Nat.{ℕ, zero, suc, _+_, _-_, _/_, _%_}
 use lib.Bits.{bitXor}
-use Rattle.bits.specs.Bits.{bitsOf, firstWords}
-use lib.ListN.{length, getD, set, replicate}
+use Rattle.bits.specs.Bits.{bitsOf, firstWords, storeAt}
+use lib.ListN.{length, getD, replicate}
 
 -- Masks (6.1): 1 where the module is inverted.
 
@@ -56,12 +56,6 @@ starts total start (suc k) = steps start ((total + 12 - start) / 13) ++ starts t
 unfoldable pub order : ℕ → List ℕ
 order total = starts total 0 13
 
--- the i-th codeword is stored at the i-th place
-unfoldable pub storeAt : List ℕ → List ℕ → List ℕ → List ℕ
-storeAt [] cs s = s
-storeAt (p ∷ ps) [] s = s
-storeAt (p ∷ ps) (c ∷ cs) s = storeAt ps cs (set s p c)
-
 -- the stream of the codewords of a square, and the codewords of a stream
 unfoldable pub toStream : List ℕ → List ℕ
 toStream cs = storeAt (order (length cs)) cs (replicate (length cs) 0)
@@ -69,9 +63,6 @@ toStream cs = storeAt (order (length cs)) cs (replicate (length cs) 0)
 unfoldable pub fromStream : List ℕ → List ℕ
 fromStream s = map (λ p. getD s p 0) (order (length s))
 
--- the stream of a square, and the square of a stream
-unfoldable pub streamIn : ℕ → (ℕ → ℕ) → List ℕ → List ℕ → List ℕ
-streamIn total m ks sq = toStream (codewordsOf total (dataBits m 0 ks sq))
-
+-- the square of a stream
 unfoldable pub squareOf : (ℕ → ℕ) → List ℕ → List ℕ → List ℕ
 squareOf m ks s = placed m 0 ks (bitsOf (fromStream s))

@@ -1,9 +1,14 @@
--- Records that only the contracts of inner functions cite. Nobody has to believe them: they say where a loop or a call stands.
+-- What only proofs and the contracts of inner functions cite. Nobody has to believe it: the records say where a loop or a call stands.
 use mathlib.Core.Path.{_≡_}
 use mathlib.Core.List.{List, _++_, map}
 use Prim.Native.Nat.{ℕ, _+_, _-_, _≤_}
 use lib.ListN.{length, getD, take, drop}
-use Rattle.codewords.specs.Codewords.{starts, storeAt, toStream, fromStream}
+use Rattle.bits.specs.Bits.{storeAt}
+use Rattle.codewords.specs.Codewords.{codewordsOf, dataBits, starts, toStream, fromStream}
+
+-- the stream of a square
+abbrev pub streamIn : ℕ → (ℕ → ℕ) → List ℕ → List ℕ → List ℕ
+streamIn total m ks sq = toStream (codewordsOf total (dataBits m 0 ks sq))
 
 -- the codewords from the i-th on go to the places ps
 pub record Storing (cs out ps : List ℕ) (i : ℕ) : Type 0 where

@@ -16,6 +16,7 @@ use Rattle.bits.proofs.Reading.{length-bits, bit-lt, length-left}
 use Rattle.bits.proofs.Window.{window-none, window-more, window-read}
 use Rattle.bits.proofs.Bytes.{low-value, take-small}
 use Rattle.blocks.specs.Blocks.{dataModules}
+use Rattle.blocks.proofs.Rows.{module-hit, module-miss}
 use Rattle.codewords.specs.Codewords.{placed}
 use Rattle.placement.specs.Walk.{eightOf, run, behind, bytesOf, Skipped}
 use Rattle.drawing.specs.Puts.{patternOf, getD₀, Drawn, Placing, PutBit, PutEight, Blank, Puts, PutsAll}
@@ -122,16 +123,6 @@ module _ (m : ℕ → ℕ) where
   place-miss c ks ds h z = ap (λ (us : List ℕ). placed m c us ds) (drop-cons ks c 0 h) ∙ miss c (getD ks c 0) (drop (suc c) ks) ds z
 
 -- data modules counted from a column on
-module-hit : (k : ℕ) (us : List ℕ) → k ≡ 0 → dataModules (k ∷ us) ≡ suc (dataModules us)
-unfolding dataModules
-module-hit zero us e = refl
-module-hit (suc k) us e = absurd (omega arith)
-
-module-miss : (k : ℕ) (us : List ℕ) → k ≢ 0 → dataModules (k ∷ us) ≡ dataModules us
-unfolding dataModules
-module-miss zero us e = absurd (e refl)
-module-miss (suc k) us e = refl
-
 modules-hits : (n c : ℕ) (ks : List ℕ) → c + n ≤ length ks → ((k : ℕ) → k < n → getD ks (c + k) 0 ≡ 0) → dataModules (drop c ks) ≡ n + dataModules (drop (c + n) ks)
 modules-hits zero c ks h z = let e : c ≡ c + 0 = omega arith in ap (λ (i : ℕ). dataModules (drop i ks)) e ∙ omega arith
 modules-hits (suc n) c ks h z =

@@ -7,7 +7,7 @@ use lib.ListN.{length, getD, take, drop, length-append, length-drop, drop-of-len
 use lib.Seq.{length-take-le, take-at, drop-at, take-all, drop-drop, drop-nil, getD-drop}
 use lib.Bits.{bitXor}
 use Rattle.blocks.specs.Blocks.{dataModules}
-use Rattle.blocks.proofs.Rows.{modules-append}
+use Rattle.blocks.proofs.Rows.{module-miss, modules-append}
 use Rattle.codewords.specs.Codewords.{placed}
 use Rattle.masks.specs.Columns.{Row}
 use Rattle.drawing.specs.Puts.{patternOf, getD₀, Drawn, Placing, Blank}
@@ -26,7 +26,7 @@ placed-append m i (zero ∷ us) vs [] = ap (λ (l : List ℕ). 0 ∷ l) (next m 
 placed-append m i (zero ∷ us) vs (d ∷ ds) = ap (λ (l : List ℕ). bitXor d (m i) ∷ l) (next m i us vs ds (placed-append m (suc i) us vs ds))
 placed-append m i (suc zero ∷ us) vs ds = ap (λ (l : List ℕ). 0 ∷ l) (next m i us vs ds (placed-append m (suc i) us vs ds))
 placed-append m i (suc (suc zero) ∷ us) vs ds = ap (λ (l : List ℕ). 0 ∷ l) (next m i us vs ds (placed-append m (suc i) us vs ds))
-placed-append m i (suc (suc (suc k)) ∷ us) vs ds = ap (λ (l : List ℕ). 1 ∷ l) (next m i us vs ds (placed-append m (suc i) us vs ds))
+placed-append m i (suc (suc (suc k)) ∷ us) vs ds = rw (module-miss (suc (suc (suc k))) us (λ z. omega arith)) (ap (λ (l : List ℕ). 1 ∷ l) (next m i us vs ds (placed-append m (suc i) us vs ds)))
 
 -- by another mask that is the same there
 placed-masks : (m n : ℕ → ℕ) (i j : ℕ) (us ds : List ℕ) → Agree us m n i j → placed m i us ds ≡ placed n j us ds

@@ -1,7 +1,7 @@
 -- Words that are left to write, and bits that are written one part after the other.
 use mathlib.Core.Path.{_≡_, refl, _∙_, sym, subst}
 use mathlib.Core.Bool.{Bool, true, false, not}
-use mathlib.Core.List.{List, [], _∷_, _++_, append-assoc, append-nil}
+use mathlib.Core.List.{List, [], _∷_, _++_, append-assoc, append-nil, flatMap}
 use Prim.Native.Nat.{ℕ, suc, _+_, _-_, _*_, _/_, _%_, _^_, _<_, _≤_}
 use native.Mathlib.Nat.{mul-suc, mul-zero, add-zero, mod-lt}
 use native.Mathlib.Numerals.{add-one}
@@ -36,7 +36,7 @@ module _ {w : ℕ} {s : List ℕ} {i : ℕ} {ws t : List ℕ} {a : ℕ} where
   word-room {u} {us} m d h = let k : a + (w * length us + w) ≡ i + w * length ws = rw mul-suc at (d .place) in omega arith
 
   pub word-done : {u : ℕ} {us : List ℕ} {t′ : List ℕ} {r : ℕ} → Doing w s i ws t a (u ∷ us) → Written t a (lowBits w u) r t′ → Doing w s i ws t′ r us
-  unfolding wordBits
+  unfolding wordBits flatMap
   word-done {u} {us} {t′} {r} d q =
       let k : a + (w * length us + w) ≡ i + w * length ws = rw mul-suc at (d .place) in
       let b : r ≡ a + w = q .behind ∙ rw length-low in
@@ -50,7 +50,7 @@ module _ {w : ℕ} {s : List ℕ} {i : ℕ} {ws t : List ℕ} {a : ℕ} where
   two-room {u} {v} {us} m d h = let k : a + (w * length us + w + w) ≡ i + w * length ws = rw (mul-suc, mul-suc) at (d .place) in omega arith
 
   pub two-done : {u v : ℕ} {us : List ℕ} {t′ : List ℕ} {r : ℕ} → Doing w s i ws t a (u ∷ v ∷ us) → Written t a (lowBits w u ++ lowBits w v) r t′ → Doing w s i ws t′ r us
-  unfolding wordBits
+  unfolding wordBits flatMap
   two-done {u} {v} {us} {t′} {r} d q =
       let k : a + (w * length us + w + w) ≡ i + w * length ws = rw (mul-suc, mul-suc) at (d .place) in
       let b : r ≡ a + (w + w) = q .behind ∙ rw (length-append, length-low, length-low) in
@@ -60,7 +60,7 @@ module _ {w : ℕ} {s : List ℕ} {i : ℕ} {ws t : List ℕ} {a : ℕ} where
       }
 
   pub all-done : Doing w s i ws t a [] → Written s i (wordBits w ws) a t
-  unfolding wordBits
+  unfolding wordBits flatMap
   all-done d =
       let k : a ≡ i + w * length ws = rw (mul-zero, add-zero) at (d .place) in
       record { behind = rw length-words k; bits = rw append-nil at (d .bits) }

@@ -1,13 +1,13 @@
 -- Bytes and bits that are set to zero from a place on.
 use mathlib.Core.Path.{_≡_, refl, ap, _∙_, sym}
-use mathlib.Core.List.{List, [], _∷_, _++_, append-nil, append-assoc}
+use mathlib.Core.List.{List, [], _∷_, _++_, append-nil, append-assoc, flatMap}
 use Prim.Native.Nat.{ℕ, zero, suc, _+_, _-_, _*_, _/_, _%_, _<_, _≤_}
 use native.Mathlib.Nat.{zero-div, zero-mod}
 use native.Mathlib.Numerals.{add-one}
 use native.Mathlib.Omega.{arith}
 use lib.ListN.{length, getD, take, drop, set, replicate, length-append, length-replicate, drop-of-length-le, replicate-append-replicate, take-append-drop}
 use lib.Seq.{set-at, drop-cons, length-take-le, take-nil, append-snoc}
-use Rattle.bits.specs.Bits.{lowBits, bitsOf}
+use Rattle.bits.specs.Bits.{lowBits, bitsOf, wordBits}
 
 -- the bytes s with zeros from the place f to the place i
 pub cleared : List ℕ → ℕ → ℕ → List ℕ
@@ -33,12 +33,12 @@ clear-end s f i h =
     rw (drop-of-length-le s l, append-nil, h)
 
 bits-append : (xs ys : List ℕ) → bitsOf (xs ++ ys) ≡ bitsOf xs ++ bitsOf ys
-unfolding bitsOf
+unfolding wordBits flatMap
 bits-append [] ys = refl
 bits-append (x ∷ xs) ys = rw (bits-append xs ys) (sym (append-assoc (lowBits 8 x) (bitsOf xs) (bitsOf ys)))
 
 bits-take : (s : List ℕ) (f : ℕ) → bitsOf (take f s) ≡ take (8 * f) (bitsOf s)
-unfolding bitsOf lowBits
+unfolding wordBits flatMap lowBits
 bits-take s zero = refl
 bits-take [] (suc f) = sym (take-nil (8 * suc f))
 bits-take (x ∷ s) (suc f) =
@@ -51,7 +51,7 @@ zero-low zero = refl
 zero-low (suc n) = rw (zero-div, zero-mod, zero-low n)
 
 zero-bits : (n : ℕ) → bitsOf (replicate n 0) ≡ replicate (8 * n) 0
-unfolding bitsOf lowBits
+unfolding wordBits flatMap lowBits
 zero-bits zero = refl
 zero-bits (suc n) =
     let e : 8 * suc n ≡ suc (suc (suc (suc (suc (suc (suc (suc (8 * n)))))))) = omega arith in

@@ -9,8 +9,9 @@ use native.Mathlib.Omega.{arith}
 use lib.Dec.{lit<}
 use lib.Pow.{pow-mono}
 use lib.ListN.{set}
-use Rattle.information.specs.Information.{positionRow, positionColumn, infoPosition, numberFrom, bitOf, bitsWritten, copyWritten}
-use Rattle.information.specs.Inner.{ArmWritten}
+use Rattle.information.specs.Information.{positionRow, positionColumn, infoPosition, copyWritten}
+use Rattle.information.specs.Inner.{ArmWritten, numberFrom, bitOf, bitsWritten}
+use Rattle.information.proofs.Read.{copy-written}
 use Rattle.information.proofs.Distinct.{row-lt, place-lt}
 
 module _ (s n : ℕ) (big : 23 ≤ s) (hi : s ≤ 189) (h : n < 34) {r : ℕ} (d : r ≡ positionRow n) where
@@ -55,5 +56,5 @@ pub arm-next : {s : ℕ} {second : Bool} {w a b c : ℕ} {g g' g'' : List ℕ} �
 arm-next x y = record { is = λ h e. y .is h (x .is h e) }
 
 pub arms-all : {s : ℕ} {second : Bool} {w : ℕ} {g g' : List ℕ} → ArmWritten s second w 0 34 g g' → g' ≡ copyWritten s second w g
-unfolding bitsWritten copyWritten
-arms-all {g = g} x = x .is g refl
+unfolding bitsWritten
+arms-all {s} {second} {w} {g} x = x .is g refl ∙ sym (copy-written s second w g)

@@ -14,9 +14,10 @@ use lib.Count.{ones}
 use Rattle.symbol.specs.Version.{sideOf}
 use Rattle.symbol.specs.Layout.{layoutOf}
 use Rattle.symbol.proofs.Theorems.{layout-length}
-use Rattle.information.specs.Information.{wordAt, wordDistance, nearestWord, infoPosition, copyOf, bitOf, bitsWritten, copyWritten, infoWritten, infoFlips}
+use Rattle.information.specs.Information.{wordAt, wordDistance, nearestWord, infoPosition, copyOf, copyWritten, infoWritten, infoFlips}
+use Rattle.information.specs.Inner.{bitOf, bitsWritten}
 use Rattle.information.proofs.Apart.{few-flips}
-use Rattle.information.proofs.Read.{differing, distance-is, written-length, written-else, round, round-first}
+use Rattle.information.proofs.Read.{copy-is, copy-written, copy-length, copy-else, differing, distance-is, round, round-first}
 use Rattle.information.proofs.Distinct.{place-same, place-other}
 use Rattle.information.proofs.Kind.{info-kind}
 
@@ -91,7 +92,7 @@ pub flips-distance : (v k : ℕ) (g h : List ℕ) → 1 ≤ v → length g ≡ s
     → ((i : ℕ) → getD g i 0 < 2) → ((i : ℕ) → getD h i 0 < 2)
     → copyOf (sideOf v) false g ≡ wordAt v k → copyOf (sideOf v) true g ≡ wordAt v k
     → wordDistance v (copyOf (sideOf v) false h) (copyOf (sideOf v) true h) k ≤ infoFlips (layoutOf v) g h
-unfolding copyOf wordDistance
+unfolding wordDistance
 flips-distance v k g h lo lg lh p q a b =
     let d : wordDistance v (copyOf (sideOf v) false h) (copyOf (sideOf v) true h) k
     ≡ differing (λ n. getD g (infoPosition (sideOf v) false n) 0) (λ n. getD h (infoPosition (sideOf v) false n) 0) 34
@@ -103,8 +104,9 @@ flips-distance v k g h lo lg lh p q a b =
     copies : (second : Bool) → ones (bitXor (copyOf (sideOf v) second g) (copyOf (sideOf v) second h))
         ≡ differing (λ n. getD g (infoPosition (sideOf v) second n) 0) (λ n. getD h (infoPosition (sideOf v) second n) 0) 34
     copies second =
-        distance-is (λ n. getD g (infoPosition (sideOf v) second n) 0) (λ n. getD h (infoPosition (sideOf v) second n) 0)
-        (λ n. p (infoPosition (sideOf v) second n)) (λ n. q (infoPosition (sideOf v) second n)) 34
+        rw (copy-is (sideOf v) second g, copy-is (sideOf v) second h)
+        (distance-is (λ n. getD g (infoPosition (sideOf v) second n) 0) (λ n. getD h (infoPosition (sideOf v) second n) 0)
+        (λ n. p (infoPosition (sideOf v) second n)) (λ n. q (infoPosition (sideOf v) second n)) 34)
 
 -- with at most 8 that differ, word k is the nearest
 pub flips-nearest : (v k : ℕ) (g h : List ℕ) → 1 ≤ v → v ≤ 84 → k < 16 → length g ≡ sideOf v * sideOf v → length h ≡ sideOf v * sideOf v
@@ -141,21 +143,21 @@ module _ (v : ℕ) (lo : 1 ≤ v) (w : ℕ) (g : List ℕ) (room : sideOf v * si
   write-then-first = round-first (sideOf v) big-side w w g room word
 
   pub write-then-second : copyOf (sideOf v) true (infoWritten (sideOf v) w g) ≡ w
-  unfolding infoWritten copyWritten
-  write-then-second = round (sideOf v) big-side true w (copyWritten (sideOf v) false w g) (omega (arith, written-length (sideOf v) big-side false w g 34)) word
+  unfolding infoWritten
+  write-then-second = round (sideOf v) big-side true w (copyWritten (sideOf v) false w g) (omega (arith, copy-length (sideOf v) big-side false w g)) word
 
 pub info-length : (s w : ℕ) (g : List ℕ) → 23 ≤ s → length (infoWritten s w g) ≡ length g
-unfolding infoWritten copyWritten
-info-length s w g big = written-length s big true w (copyWritten s false w g) 34 ∙ written-length s big false w g 34
+unfolding infoWritten
+info-length s w g big = copy-length s big true w (copyWritten s false w g) ∙ copy-length s big false w g
 
 pub info-bits : (s w : ℕ) (g : List ℕ) → ((i : ℕ) → getD g i 0 < 2) → (i : ℕ) → getD (infoWritten s w g) i 0 < 2
-unfolding infoWritten copyWritten
-info-bits s w g h = written-bits s true w 34 (copyWritten s false w g) (written-bits s false w 34 g h)
+unfolding infoWritten
+info-bits s w g h = rw (copy-written s true, copy-written s false) (written-bits s true w 34 (bitsWritten s false w 34 g) (written-bits s false w 34 g h))
 
 -- a place that is no information module keeps its module
 pub info-else : (v w : ℕ) (g : List ℕ) → 1 ≤ v → (p : ℕ) → (getD (layoutOf v) p 0 ≡ 1 → ⊥) → getD (infoWritten (sideOf v) w g) p 0 ≡ getD g p 0
-unfolding infoWritten copyWritten
+unfolding infoWritten
 info-else v w g lo p ne =
     let big : 23 ≤ 2 * v + 21 = omega arith in
-    written-else (sideOf v) big true w (copyWritten (sideOf v) false w g) 34 p (λ k l e. ne (ap (λ (i : ℕ). getD (layoutOf v) i 0) e ∙ info-kind v lo true k l))
-    ∙ written-else (sideOf v) big false w g 34 p (λ k l e. ne (ap (λ (i : ℕ). getD (layoutOf v) i 0) e ∙ info-kind v lo false k l))
+    copy-else (sideOf v) big true w (copyWritten (sideOf v) false w g) p (λ k l e. ne (ap (λ (i : ℕ). getD (layoutOf v) i 0) e ∙ info-kind v lo true k l))
+    ∙ copy-else (sideOf v) big false w g p (λ k l e. ne (ap (λ (i : ℕ). getD (layoutOf v) i 0) e ∙ info-kind v lo false k l))

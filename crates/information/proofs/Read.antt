@@ -12,8 +12,20 @@ use lib.Pow.{shr-shr}
 use lib.ListN.{length, getD, set, length-set}
 use lib.Seq.{getD-set-same, getD-set-other}
 use borrow.Author.Tests.{eqb-true, eqb-false}
-use Rattle.information.specs.Information.{infoPosition, numberFrom, copyOf, bitOf, bitsWritten, copyWritten}
+use Rattle.bits.specs.Bits.{lowBits, value, storeAt}
+use Rattle.symbol.specs.Layout.{each}
+use Rattle.information.specs.Information.{infoPosition, positions, copyOf, copyWritten}
+use Rattle.information.specs.Inner.{numberFrom, bitOf, bitsWritten}
 use Rattle.information.proofs.Distinct.{place-lt, place-same, place-other}
+
+-- what a copy says, and what is written into one, turn by turn
+pub copy-is : (s : ℕ) (b : Bool) (g : List ℕ) → copyOf s b g ≡ numberFrom (λ n. getD g (infoPosition s b n) 0) 34
+unfolding copyOf positions each value numberFrom
+copy-is s b g = refl
+
+pub copy-written : (s : ℕ) (b : Bool) (w : ℕ) (g : List ℕ) → copyWritten s b w g ≡ bitsWritten s b w 34 g
+unfolding copyWritten positions each lowBits storeAt bitsWritten bitOf
+copy-written s b w g = refl
 
 pub number-same : (f h : ℕ → ℕ) (n : ℕ) → ((k : ℕ) → k < n → f k ≡ h k) → numberFrom f n ≡ numberFrom h n
 unfolding numberFrom
@@ -31,18 +43,18 @@ number-bits w (suc n) h l =
     rw (ih, e, d, ← s) (omega arith)
 
 module _ (s : ℕ) (big : 23 ≤ s) (b : Bool) (w : ℕ) (g : List ℕ) where
-  pub written-length : (n : ℕ) → length (bitsWritten s b w n g) ≡ length g
+  written-length : (n : ℕ) → length (bitsWritten s b w n g) ≡ length g
   unfolding bitsWritten
   written-length zero = refl
   written-length (suc n) = length-set (bitsWritten s b w n g) (infoPosition s b n) (bitOf w n) ∙ written-length n
 
-  pub written-else : (n p : ℕ) → ((k : ℕ) → k < n → p ≡ infoPosition s b k → ⊥) → getD (bitsWritten s b w n g) p 0 ≡ getD g p 0
+  written-else : (n p : ℕ) → ((k : ℕ) → k < n → p ≡ infoPosition s b k → ⊥) → getD (bitsWritten s b w n g) p 0 ≡ getD g p 0
   unfolding bitsWritten
   written-else zero p ne = refl
   written-else (suc n) p ne =
       getD-set-other (bitsWritten s b w n g) (infoPosition s b n) p (bitOf w n) 0 (ne n (omega arith)) ∙ written-else n p (λ k l. ne k (omega arith))
 
-  pub written-at : (n k : ℕ) → n ≤ 34 → k < n → s * s ≤ length g → getD (bitsWritten s b w n g) (infoPosition s b k) 0 ≡ bitOf w k
+  written-at : (n k : ℕ) → n ≤ 34 → k < n → s * s ≤ length g → getD (bitsWritten s b w n g) (infoPosition s b k) 0 ≡ bitOf w k
   unfolding bitsWritten
   written-at zero k h l room = absurd (not-suc-le-zero l)
   written-at (suc n) k h l room = by (eqb k n) refl (λ m. written-at n k (omega arith) m room)
@@ -55,20 +67,26 @@ module _ (s : ℕ) (big : 23 ≤ s) (b : Bool) (w : ℕ) (g : List ℕ) where
           getD-set-other (bitsWritten s b w n g) (infoPosition s b n) (infoPosition s b k) (bitOf w n) 0 (λ q. eqb-false k n e (place-same s big b k n (omega arith) h q))
           ∙ ih (omega (arith, eqb-false k n e))
 
+  pub copy-length : length (copyWritten s b w g) ≡ length g
+  copy-length = rw copy-written (written-length 34)
+
+  pub copy-else : (p : ℕ) → ((k : ℕ) → k < 34 → p ≡ infoPosition s b k → ⊥) → getD (copyWritten s b w g) p 0 ≡ getD g p 0
+  copy-else = rw copy-written (written-else 34)
+
   -- a copy that was written is read
   pub round : s * s ≤ length g → w < 2 ^ 34 → copyOf s b (copyWritten s b w g) ≡ w
-  unfolding copyOf copyWritten
-  round room h =
+  round room h = rw (copy-is, copy-written) (
       number-same (λ n. getD (bitsWritten s b w 34 g) (infoPosition s b n) 0) (bitOf w) 34 (λ k l. written-at 34 k (omega arith) l room)
       ∙ number-bits w 34 h (omega arith)
-      ∙ (let z : w / 1 ≡ w = omega arith in z)
+      ∙ (let z : w / 1 ≡ w = omega arith in z))
 
 -- the second copy leaves the first
 pub round-first : (s : ℕ) (big : 23 ≤ s) (w u : ℕ) (g : List ℕ) → s * s ≤ length g → w < 2 ^ 34 → copyOf s false (copyWritten s true u (copyWritten s false w g)) ≡ w
-unfolding copyOf copyWritten
 round-first s big w u g room h =
-    number-same (λ n. getD (bitsWritten s true u 34 (bitsWritten s false w 34 g)) (infoPosition s false n) 0) (λ n. getD (bitsWritten s false w 34 g) (infoPosition s false n) 0) 34
-    (λ k l. written-else s big true u (bitsWritten s false w 34 g) 34 (infoPosition s false k) (λ m q e. place-other s big k m l q e))
+    copy-is s false (copyWritten s true u (copyWritten s false w g))
+    ∙ number-same (λ n. getD (copyWritten s true u (copyWritten s false w g)) (infoPosition s false n) 0) (λ n. getD (copyWritten s false w g) (infoPosition s false n) 0) 34
+    (λ k l. copy-else s big true u (copyWritten s false w g) (infoPosition s false k) (λ m q e. place-other s big k m l q e))
+    ∙ sym (copy-is s false (copyWritten s false w g))
     ∙ round s big false w g room h
 
 -- how many of f 0, .. f (n − 1) differ from those of h

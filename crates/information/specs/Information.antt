@@ -1,13 +1,15 @@
 -- SPECIFICATION 5, 10.3 and 10.4 (han_xin.rs: `info_positions`, `gf16_mul`, `info_bits`, `nearest_info`). A word has 34 bits, the first in
 -- bit 33.
 use mathlib.Core.Bool.{Bool, cond, not, _&&_, true, false}
-use mathlib.Core.List.{List, [], _∷_}
-use Prim.Native.Nat.{ℕ, zero, suc, _+_, _-_, _*_, _/_, _%_, _^_}
+use mathlib.Core.List.{List, [], _∷_, map}
+use Prim.Native.Nat.{ℕ, zero, suc, _+_, _-_, _*_, _/_, _%_}
 use lib.Dec.{ltb, leb, eqb}
 use lib.Bits.{bitXor}
 use lib.Count.{ones}
-use lib.ListN.{getD, set}
+use lib.ListN.{getD}
+use Rattle.bits.specs.Bits.{value, lowBits, storeAt}
 use Rattle.symbol.specs.Version.{isVersion}
+use Rattle.symbol.specs.Layout.{each}
 use Rattle.information.specs.declared.InfoBits.{InfoBits}
 use Rattle.information.specs.declared.InfoBits.the-variants as bits
 use Rattle.information.specs.declared.NearestInfo.{NearestInfo}
@@ -117,27 +119,16 @@ positionColumn s n = cond (ltb n 9) n (cond (ltb n 17) 8 (cond (ltb n 26) (s - 9
 unfoldable pub infoPosition : ℕ → Bool → ℕ → ℕ
 infoPosition s second n = cond second (s * s - 1 - (positionRow n * s + positionColumn s n)) (positionRow n * s + positionColumn s n)
 
--- the number with the bits f 0, .. f (n − 1), the first the highest
-unfoldable pub numberFrom : (ℕ → ℕ) → ℕ → ℕ
-numberFrom f zero = 0
-numberFrom f (suc n) = numberFrom f n * 2 + f n
+unfoldable pub positions : ℕ → Bool → List ℕ
+positions s second = each 34 (λ n. infoPosition s second n ∷ [])
 
 -- a copy that is read out of a square
 unfoldable pub copyOf : ℕ → Bool → List ℕ → ℕ
-copyOf s second g = numberFrom (λ n. getD g (infoPosition s second n) 0) 34
-
--- bit n of a word, the first of 34 the highest
-unfoldable pub bitOf : ℕ → ℕ → ℕ
-bitOf w n = w / 2 ^ (33 - n) % 2
-
--- the first n bits of a word written into a copy
-unfoldable pub bitsWritten : ℕ → Bool → ℕ → ℕ → List ℕ → List ℕ
-bitsWritten s second w zero g = g
-bitsWritten s second w (suc n) g = set (bitsWritten s second w n g) (infoPosition s second n) (bitOf w n)
+copyOf s second g = value 0 (map (λ p. getD g p 0) (positions s second))
 
 -- a word written into a copy, and into both
 unfoldable pub copyWritten : ℕ → Bool → ℕ → List ℕ → List ℕ
-copyWritten s second w g = bitsWritten s second w 34 g
+copyWritten s second w g = storeAt (positions s second) (lowBits 34 w) g
 
 unfoldable pub infoWritten : ℕ → ℕ → List ℕ → List ℕ
 infoWritten s w g = copyWritten s true w (copyWritten s false w g)

@@ -2,8 +2,9 @@
 use mathlib.Core.Path.{_≡_}
 use mathlib.Core.Bool.{Bool}
 use mathlib.Core.List.{List, [], _∷_}
-use Prim.Native.Nat.{ℕ, _<_}
-use Rattle.information.specs.Information.{bitsWritten}
+use Prim.Native.Nat.{ℕ, zero, suc, _+_, _-_, _*_, _/_, _%_, _^_, _<_}
+use lib.ListN.{set}
+use Rattle.information.specs.Information.{infoPosition}
 use Rattle.information.specs.declared.Best.{Best}
 
 -- by which bits word k of a version differs from its word 0: the same for every version, since the code is linear
@@ -16,6 +17,20 @@ pub record Found (d : ℕ → ℕ) (k : ℕ) (b : Best) : Type 0 where
   pub word-is : b .word ≡ k
   pub at : b .distance ≡ d k
   pub small : b .word < 16
+
+-- the number with the bits f 0, .. f (n − 1), the first the highest
+unfoldable pub numberFrom : (ℕ → ℕ) → ℕ → ℕ
+numberFrom f zero = 0
+numberFrom f (suc n) = numberFrom f n * 2 + f n
+
+-- bit n of a word, the first of 34 the highest
+unfoldable pub bitOf : ℕ → ℕ → ℕ
+bitOf w n = w / 2 ^ (33 - n) % 2
+
+-- the first n bits of a word written into a copy
+unfoldable pub bitsWritten : ℕ → Bool → ℕ → ℕ → List ℕ → List ℕ
+bitsWritten s second w zero g = g
+bitsWritten s second w (suc n) g = set (bitsWritten s second w n g) (infoPosition s second n) (bitOf w n)
 
 -- bits from to below `to` of a word were written into a copy that held those before
 pub record ArmWritten (s : ℕ) (second : Bool) (w from to : ℕ) (g g' : List ℕ) : Type 0 where

@@ -7,8 +7,8 @@ ghost use lib.Dec.{ltb};
 ghost use lib.Bits.{bitXor};
 ghost use lib.Count.{ones};
 ghost use lib.ListN.{length, getD};
-ghost use Rattle.information.specs.Information.{timesX, plusIfOdd, gf16Mul, generatorTimes, remainder, wordOf, wordDistance, leastOf, nearestWord, positionRow, positionColumn, infoPosition, numberFrom, copyOf, bitOf, copyWritten, infoWritten, isInfo, infoOf, infoAnswer, nearestOf, nearestAnswer};
-ghost use Rattle.information.specs.Inner.{Found, ArmWritten};
+ghost use Rattle.information.specs.Information.{timesX, plusIfOdd, gf16Mul, generatorTimes, remainder, wordOf, wordDistance, leastOf, nearestWord, positionRow, positionColumn, infoPosition, copyOf, copyWritten, infoWritten, isInfo, infoOf, infoAnswer, nearestOf, nearestAnswer};
+ghost use Rattle.information.specs.Inner.{Found, ArmWritten, numberFrom, bitOf};
 use symbol::Version;
 
 // What operation Information word answers.

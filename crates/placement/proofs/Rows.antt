@@ -9,7 +9,7 @@ use lib.ListN.{length, getD, take, drop, length-append, length-drop, take-append
 use lib.Pow.{pow-pos}
 use lib.Seq.{length-take-le, take-all, drop-drop, getD-drop, getD-take}
 use lib.Bits.{bitXor}
-use Rattle.bits.specs.Bits.{lowBits, firstWords}
+use Rattle.bits.specs.Bits.{lowBits, firstWords, groups}
 use Rattle.bits.proofs.Words.{length-low}
 use Rattle.bits.proofs.Bytes.{take-small}
 use Rattle.codewords.specs.Codewords.{maskAt, maskBit, codewordsOf, dataBits}
@@ -153,7 +153,7 @@ module _ {total : ℕ} {all out out′ row : List ℕ} {r s : Run} (m : ℕ → 
       row-turn (λ c q d. e c q) (ap (rowBits (rowIn i side ks) (rowIn i side sq) row) a) (bits-none (λ k. getD row k 0) (rowIn i side ks) (rowIn i side sq) (s .column) (omega (arith, part-length (i * side) side sq h, part-length (i * side) side ks (omega arith))))
 
 pub rows-done : {total : ℕ} {all out : List ℕ} {r : Run} (m : ℕ → ℕ) (ks sq : List ℕ) (i : ℕ) → length sq ≤ i → Pending r → Walk total all out (bitsFrom m ks sq i) r → out ≡ codewordsOf total all
-unfolding firstWords
+unfolding firstWords groups
 rows-done {total} {all} {out} {r} m ks sq i h p k =
     let w = k .words in
     let z : length (lowBits (r .bits) (r .value) ++ bitsFrom m ks sq i) ≡ r .bits =

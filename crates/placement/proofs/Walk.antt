@@ -13,7 +13,7 @@ use lib.Arith.{digits-lt}
 use lib.Pow.{pow-pos, pow-add, shl-lt, shr-shr, split, high, low, field, mod-mod-pow}
 use lib.Seq.{take-at, drop-at, drop-cons, take-suc-set}
 use lib.Bits.{bitXor, xor-lt}
-use Rattle.bits.specs.Bits.{lowBits, value, firstWords}
+use Rattle.bits.specs.Bits.{lowBits, value, firstWords, groups}
 use Rattle.bits.proofs.Words.{length-low, low-back}
 use Rattle.bits.proofs.Bytes.{value-add, value-small, low-value}
 use Rattle.codewords.specs.Codewords.{codewordsOf, dataBits}
@@ -126,7 +126,7 @@ module _ {total : ℕ} {all out : List ℕ} {n : ℕ} where
 
   -- a codeword is stored where there is room, and nothing changes where there is none
   words-next : {out′ : List ℕ} {n′ : ℕ} (y : ℕ) (tail : List ℕ) → y < 256 → Stored n y out out′ n′ → Words total all out (lowBits 8 y ++ tail) n → Words total all out′ tail n′
-  unfolding firstWords
+  unfolding firstWords groups
   words-next {out′} {n′} y tail small s w = elim (decLt n total) [
     | yes h ↦ (let l : n < length out = omega (arith, w .size) in
         let k = s .room l in

@@ -21,7 +21,7 @@ use Rattle.blocks.specs.Blocks.{hasBlocks}
 use Rattle.squares.specs.Receipt.{refusalReceipt}
 use Rattle.squares.specs.Read.{Reading, readingOf, refused, firstRefusal, unless, areModules, distanceIn, readRefusal, knownRefusal, bodyOf, withReceipt, readOf, readKnownOf, nearestIn}
 use Rattle.squares.proofs.Refusals.{true-unless, unless-true, unless-false, first-skips, first-takes, first-left, first-none, eqb-fact}
-use Rattle.squares.proofs.Modules.{modules-below}
+use Rattle.squares.proofs.Modules.{modules-below, nearest-bits}
 use Rattle.squares.proofs.Marks.{ranges, version-is}
 use Rattle.squares.proofs.Starts.{in-body, no-receipt, in-refusal, side-range, side-back, level-range, mask-range}
 use Rattle.receipts.specs.declared.Mark.{Mark}
@@ -138,7 +138,8 @@ pub in-square : (v side : ℕ) (sq : List ℕ) → 1 ≤ v → v ≤ 84 → side
     → (23 ≤ side) × (side ≤ 189) × (side * side ≤ length sq) × ((i : ℕ) → getD sq i 0 < 2)
 in-square v side sq low high es h b = (omega arith, omega arith, omega (arith, ap (λ (x : ℕ). x * x) es), b)
 
-module _ (v side a b : ℕ) (sq : List ℕ) (es : side ≡ sideOf v) (ea : a ≡ copyOf side false sq) (eb : b ≡ copyOf side true sq) (r : NearestInfo) where
+module _ (v side a b : ℕ) (sq : List ℕ) (bits : (i : ℕ) → getD sq i 0 < 2) (es : side ≡ sideOf v) (ea : a ≡ copyOf side false sq) (eb : b ≡ copyOf side true sq)
+    (r : NearestInfo) where
   first-is : a ≡ copyOf (sideOf v) false sq
   first-is = ea ∙ ap (λ (x : ℕ). copyOf x false sq) es
 
@@ -146,8 +147,7 @@ module _ (v side a b : ℕ) (sq : List ℕ) (es : side ≡ sideOf v) (ea : a ≡
   second-is = eb ∙ ap (λ (x : ℕ). copyOf x true sq) es
 
   nearest-is : (l k d : ℕ) → r ≡ Nearest l k d → nearestAnswer r ≡ nearestOf v a b → record { number = 0; level = l; mask = k; distance = d } ≡ nearestIn v sq
-  unfolding nearestIn
-  nearest-is l k d e f = sym (ap nearestAnswer e) ∙ f ∙ (λ i. nearestOf v (first-is i) (second-is i))
+  nearest-is l k d e f = sym (ap nearestAnswer e) ∙ f ∙ (λ i. nearestOf v (first-is i) (second-is i)) ∙ sym (nearest-bits v sq bits)
 
   pub nearest-mark : (l k d : ℕ) → r ≡ Nearest l k d → nearestAnswer r ≡ nearestOf v a b
       → near.Nearest v sq (record { version = v; level = l; mask = k; distance = d })

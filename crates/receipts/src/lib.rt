@@ -2,7 +2,7 @@
 ghost use mathlib.Core.Path.{_≡_};
 ghost use Prim.Native.Nat.{_%_, _<_, _≤_};
 ghost use lib.ListN.{length};
-ghost use Rattle.blocks.specs.Blocks.{rowLength, shapes, totalData, cut, dataParts};
+ghost use Rattle.blocks.specs.Blocks.{shapes, totalSize, totalData, cut, dataParts};
 ghost use Rattle.segments.specs.FromData.{fromData};
 ghost use Rattle.receipts.specs.Inner.{receiptIn, Small, Refuses, Answers, Tells};
 ghost use Rattle.squares.specs.Receipt.{receiptOf, refusalReceipt};
@@ -138,7 +138,7 @@ fn tell_data(
     payload: &mut [u8],
     script: &mut [u8],
 ) -> Told
-    requires { ⌜ (length (now row) ≡ 9) × (rowLength (now row) ≤ length (now stream)) × (totalData (shapes (now row)) ≤ length (now «data»)) × (totalData (shapes (now row)) ≤ 3886) × (count < 65536) ⌝ }
+    requires { ⌜ (length (now row) ≡ 9) × (totalSize (shapes (now row)) ≤ length (now stream)) × (totalData (shapes (now row)) ≤ length (now «data»)) × (totalData (shapes (now row)) ≤ 3886) × (count < 65536) ⌝ }
     ensures { λ r. ⌜ Tells count (fromData (dataParts (shapes (now (row .entry))) (cut (shapes (now (row .entry))) (now (stream .entry)))) (now (payload .entry)) (now (script .entry))) r (now (payload .exit)) (now (script .exit)) ⌝ }
 {
     let n = blockwise::gather_data(data, stream, row);
@@ -157,7 +157,7 @@ pub fn tell_segments(
     payload: &mut [u8],
     script: &mut [u8],
 ) -> Told
-    requires { ⌜ (length (now row) ≡ 9) × (rowLength (now row) ≤ length (now stream)) × (totalData (shapes (now row)) ≤ 3886) × (count < 65536) ⌝ }
+    requires { ⌜ (length (now row) ≡ 9) × (totalSize (shapes (now row)) ≤ length (now stream)) × (totalData (shapes (now row)) ≤ 3886) × (count < 65536) ⌝ }
     ensures { λ r. ⌜ Tells count (fromData (dataParts (shapes (now (row .entry))) (cut (shapes (now (row .entry))) (now (stream .entry)))) (now (payload .entry)) (now (script .entry))) r (now (payload .exit)) (now (script .exit)) ⌝ }
 {
     if blockwise::data_length(row) <= 155 {

@@ -28,7 +28,7 @@ append-small [] ys h g = g
 append-small (x ∷ xs) ys h g = small-cons x 2 (xs ++ ys) (h 0) (append-small xs ys (λ i. h (suc i)) g)
 
 words-small : (w : ℕ) (vs : List ℕ) → Small (wordBits w vs)
-unfolding wordBits
+unfolding wordBits flatMap
 words-small w [] = λ i. omega arith
 words-small w (v ∷ vs) = append-small (lowBits w v) (wordBits w vs) (low-small w v) (words-small w vs)
 

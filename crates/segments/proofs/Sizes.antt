@@ -10,7 +10,7 @@ use lib.Dec.{ltb, eqb}
 use lib.ListN.{length, getD, take, drop, length-append, length-drop}
 use lib.Pow.{pow-pos}
 use lib.Seq.{getD-drop}
-use Rattle.bits.specs.Bits.{value, firstWords, words}
+use Rattle.bits.specs.Bits.{value, firstWords, words, groups}
 use Rattle.bits.proofs.Reading.{value-bound}
 use Rattle.segments.specs.Script.{Segment, run, eci, bytesOf, commandOf, payloadOf, scriptOf}
 use Rattle.segments.specs.Segments.{cut, lacking, Result, failed, got, andThen, before, inBits, digits, groupsOf, numericOf, charOf, textOf, bytesRun, bytesMode, highOf, lowOf, regionSize, regionOf, firstByte, secondByte, doubleByteOf, fourBytes, fourByteOf, eciValue, eciOf, bytesOfMode, segmentOf, Ending, endMark, fewBits, broken, Parsed, ended, following, parse}
@@ -26,12 +26,12 @@ drop-small n bs h = λ i. rw getD-drop (h (n + i))
 -- ---- words
 
 first-length : (w k : ℕ) (bs : List ℕ) → length (firstWords w k bs) ≡ k
-unfolding firstWords
+unfolding firstWords groups
 first-length w zero bs = refl
 first-length w (suc k) bs = ap suc (first-length w k (drop w bs))
 
 first-small : (w k : ℕ) (bs : List ℕ) → Small bs → (i : ℕ) → getD (firstWords w k bs) i 0 < 2 ^ w
-unfolding firstWords
+unfolding firstWords groups
 first-small w zero bs h i = pow-pos w
 first-small w (suc k) bs h zero = rw zero-add at (value-bound bs w 0 0 h (omega arith))
 first-small w (suc k) bs h (suc i) = first-small w k (drop w bs) (drop-small w bs h) i

@@ -10,7 +10,8 @@ use lib.Dec.{T, leb, leb→le}
 use lib.ListN.{length, getD}
 use borrow.Author.Tests.{lt-ltb}
 use Rattle.symbol.specs.Version.{sideOf}
-use Rattle.symbol.specs.Layout.{finders, edge, ring, half, within, finderRow, finderAt, cornerAt, cornerKind, table, corners, plotAll, layoutOf}
+use Rattle.symbol.specs.Layout.{finders, edge, ring, half, within, finderRow, finderAt, cornerAt, each, corners, plotAll, layoutOf}
+use Rattle.symbol.specs.Inner.{cornerKind}
 use Rattle.symbol.proofs.Finite.{upTo, every}
 use Rattle.symbol.proofs.Places.{getD-table}
 use Rattle.symbol.proofs.CornerRows.{edge-mid, in-finder, in-separator, in-information, in-data-row, in-data-column, row-kind, near-upper, near-lower}
@@ -57,7 +58,7 @@ open-layout v h = record {
 
 -- The versions 1 to 3 have data modules for all their codewords: a test that antt computes.
 enough : T (upTo (λ v. leb (8 * totalOf (v + 1)) (dataModules (layoutOf (v + 1)))) 3)
-unfolding totalOf totals dataModules layoutOf plotAll corners table cornerAt ring edge finderAt finderRow finders half within
+unfolding totalOf totals dataModules layoutOf plotAll corners each cornerAt ring edge finderAt finderRow finders half within
 enough = tt
 
 pub open-enough : (v : ℕ) → 1 ≤ v → v ≤ 3 → 8 * totalOf v ≤ dataModules (layoutOf v)

@@ -18,7 +18,7 @@ use Rattle.field.proofs.Instances.{passes-163}
 use Rattle.reed_solomon.proofs.Nearest.{near-none, near-reach}
 use Rattle.reed_solomon.proofs.Theorems.{found-in-reach, in-reach-found, no-block-has-two}
 use Rattle.blocks.specs.Blocks.{Shape, shapesOf, totalSize, cut, dataParts}
-use Rattle.blocks.proofs.Rows.{Sound}
+use Rattle.blocks.specs.Inner.{Sound}
 use Rattle.blocks.proofs.Cuts.{Shaped, cut-shaped}
 use Rattle.blocks.proofs.Theorems.{shapes-total, shapes-sound}
 use Rattle.blockwise.specs.Blockwise.{firstRefused, countOf, blocksOf, corrected, correctedData, blockAt, parityAt}

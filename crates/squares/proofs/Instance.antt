@@ -11,10 +11,10 @@ use lib.Dec.{eqb}
 use lib.ListN.{getD, replicate}
 use Rattle.bits.specs.Bits.{lowBits, wordBits}
 use Rattle.symbol.specs.Version.{isVersion}
-use Rattle.symbol.specs.Layout.{layoutOf, plotAll, corners, table, cornerAt, ring, edge, finderAt, finderRow, half, within, finders}
+use Rattle.symbol.specs.Layout.{layoutOf, plotAll, corners, each, cornerAt, ring, edge, finderAt, finderRow, half, within, finders}
 use Rattle.information.specs.Information.{isInfo, infoFlips}
 use Rattle.blocks.specs.Table.{blocks, totals}
-use Rattle.blocks.specs.Blocks.{hasBlocks, rowHolds, batchHolds, rowLength, rowOf, rowAt, totalOf, dataModules, shapesOf, shapes, batch, totalData}
+use Rattle.blocks.specs.Blocks.{hasBlocks, rowHolds, blockHolds, rowOf, rowAt, totalOf, dataModules, shapesOf, shapes, batch, totalSize, totalData}
 use Rattle.segments.specs.Script.{runCommand}
 use Rattle.script.specs.Writer.{isDigit, modeHas, allHave, numericWords, modeBits, encodings}
 use Rattle.script.specs.Check.{allowed, segmentAt, commands, commandsOf}
@@ -39,7 +39,7 @@ abbrev mark : List ℕ
 mark = markOf 1 0 0 script payload
 
 blocked : hasBlocks 1 0 ≡ true
-unfolding hasBlocks rowHolds batchHolds rowLength rowOf rowAt totalOf dataModules blocks totals layoutOf plotAll corners table cornerAt ring edge finderAt finderRow half within finders
+unfolding hasBlocks rowHolds blockHolds shapesOf shapes batch totalSize rowOf rowAt totalOf dataModules blocks totals layoutOf plotAll corners each cornerAt ring edge finderAt finderRow half within finders
 blocked = refl
 
 accepted : writeRefusal 1 0 0 script payload before ≡ 0

@@ -26,6 +26,7 @@ use Rattle.script.specs.Inner.{Fits}
 use Rattle.squares.specs.Read.{firstRefusal, unless, levelIn, maskIn, distanceIn, nearestIn}
 use Rattle.squares.specs.Write.{Writing, roomOf, scriptRefusals, writeRefusal, markOf, writeOf}
 use Rattle.squares.proofs.Refusals.{true-unless, first-none, first-one, both-true, true-both, leb-fact, eqb-fact}
+use Rattle.squares.proofs.Modules.{nearest-bits}
 use Rattle.codewords.proofs.Masks.{mask-bit-lt}
 use Rattle.codewords.proofs.Small.{Below, square-below}
 
@@ -173,9 +174,10 @@ module _ (v l k : ℕ) (s p : List ℕ) (R : Ranges v l k) where
     versioned = version-is v (R .low) (R .high)
 
     found : nearestIn v h ≡ record { number = 0; level = l; mask = k; distance = wordDistance v (copy false) (copy true) (4 * l + k) }
-    unfolding nearestIn nearestOf
+    unfolding nearestOf
     found =
-        simp (versioned, near)
+        nearest-bits v h b
+        ∙ simp (versioned, near)
         (let a : (4 * l + k) / 4 ≡ l = omega (arith, R .mask) in
         let b : (4 * l + k) % 4 ≡ k = omega (arith, R .mask) in
         λ i. record { number = 0; level = a i; mask = b i; distance = wordDistance v (copy false) (copy true) (4 * l + k) })

@@ -1,7 +1,7 @@
 -- Modules are bits, the stream of a square has bytes and the version's length, and codewords in front of a buffer. Assumes nothing.
-use mathlib.Core.Path.{_≡_, refl, ap, _∙_}
-use mathlib.Core.Bool.{true}
-use mathlib.Core.List.{List, [], _∷_, _++_}
+use mathlib.Core.Path.{_≡_, refl, ap, ap₂, _∙_}
+use mathlib.Core.Bool.{true, false}
+use mathlib.Core.List.{List, [], _∷_, _++_, map}
 use Prim.Native.Nat.{ℕ, zero, suc, _<_}
 use native.Mathlib.Omega.{arith}
 use lib.Dec.{leb}
@@ -9,27 +9,21 @@ use lib.ListN.{length, take}
 use lib.Seq.{take-at}
 use Rattle.symbol.specs.Version.{sideOf}
 use Rattle.symbol.specs.Layout.{layoutOf}
+use Rattle.information.specs.Information.{copyOf, nearestOf}
 use Rattle.blocks.specs.Blocks.{totalOf}
-use Rattle.codewords.specs.Codewords.{maskBit, codewordsOf, dataBits, streamIn}
+use Rattle.codewords.specs.Codewords.{maskBit, codewordsOf, dataBits}
+use Rattle.codewords.specs.Inner.{streamIn}
 use Rattle.codewords.proofs.Bits.{length-codewords}
 use Rattle.codewords.proofs.Interleave.{length-stream}
 use Rattle.codewords.proofs.Small.{Below}
-use Rattle.squares.specs.Read.{areModules, streamFrom}
+use Rattle.squares.specs.Read.{areModules, moduleBit, nearestIn, streamFrom}
 use Rattle.squares.proofs.Refusals.{both-true, leb-fact, true-both}
-
-below-cons : (n x : ℕ) (xs : List ℕ) → x < n → Below n xs → Below n (x ∷ xs)
-below-cons n x xs h b zero = h
-below-cons n x xs h b (suc i) = b i
-
-below-none : (n : ℕ) → 0 < n → Below n []
-below-none n h i = h
 
 pub modules-below : (sq : List ℕ) → areModules sq ≡ true → Below 2 sq
 unfolding areModules
-modules-below [] e = below-none 2 (omega arith)
-modules-below (m ∷ ms) e =
-    let t = both-true (leb m 1) (areModules ms) e in
-    below-cons 2 m ms (omega (arith, leb-fact m 1 (t .0))) (modules-below ms (t .1))
+modules-below [] e i = omega arith
+modules-below (m ∷ ms) e zero = omega (arith, leb-fact m 1 (both-true (leb m 1) (areModules ms) e .0))
+modules-below (m ∷ ms) e (suc i) = modules-below ms (both-true (leb m 1) (areModules ms) e .1) i
 
 pub below-modules : (sq : List ℕ) → Below 2 sq → areModules sq ≡ true
 unfolding areModules
@@ -41,10 +35,29 @@ below-modules (m ∷ ms) b = true-both (leb m 1) (areModules ms) (one m (b 0)) (
     one (suc zero) h = refl
     one (suc (suc m)) h = absurd (omega arith)
 
+-- modules that are bits are read as they are
+pub bits-are : (sq : List ℕ) → Below 2 sq → map moduleBit sq ≡ sq
+bits-are [] b = refl
+bits-are (m ∷ ms) b = ap₂ _∷_ (one m (b 0)) (bits-are ms (λ i. b (suc i)))
+  where
+    one : (m : ℕ) → m < 2 → moduleBit m ≡ m
+    one zero h = refl
+    one (suc zero) h = refl
+    one (suc (suc m)) h = absurd (omega arith)
+
+module _ (v : ℕ) (sq : List ℕ) (b : Below 2 sq) where
+  pub stream-bits : (mask : ℕ) → streamFrom v mask sq ≡ streamIn (totalOf v) (maskBit (sideOf v) mask) (layoutOf v) sq
+  unfolding streamFrom
+  stream-bits mask = ap (streamIn (totalOf v) (maskBit (sideOf v) mask) (layoutOf v)) (bits-are sq b)
+
+  pub nearest-bits : nearestIn v sq ≡ nearestOf v (copyOf (sideOf v) false sq) (copyOf (sideOf v) true sq)
+  unfolding nearestIn
+  nearest-bits = ap (λ (g : List ℕ). nearestOf v (copyOf (sideOf v) false g) (copyOf (sideOf v) true g)) (bits-are sq b)
+
 pub stream-length : (v mask : ℕ) (sq : List ℕ) → length (streamFrom v mask sq) ≡ totalOf v
-unfolding streamFrom streamIn
+unfolding streamFrom
 stream-length v mask sq =
-    let bs = dataBits (maskBit (sideOf v) mask) 0 (layoutOf v) sq in
+    let bs = dataBits (maskBit (sideOf v) mask) 0 (layoutOf v) (map moduleBit sq) in
     length-stream (codewordsOf (totalOf v) bs) ∙ length-codewords (totalOf v) bs
 
 -- the codewords in front of a buffer

@@ -10,10 +10,12 @@ use lib.ListN.{length, drop}
 use Rattle.symbol.specs.Version.{sideOf, isSide, sideVersion}
 use Rattle.symbol.specs.Layout.{layoutOf}
 use Rattle.information.specs.Information.{isInfo, infoBits, infoFlips}
-use Rattle.blocks.specs.Blocks.{totalOf, shapesOf, hasBlocks, rowHolds, rowOf, dataModules, totalSize, totalData, cut, Shape}
-use Rattle.blocks.proofs.Rows.{Sound, total-small}
+use Rattle.blocks.specs.Blocks.{totalOf, shapesOf, hasBlocks, rowHolds, dataModules, totalSize, totalData, cut, Shape}
+use Rattle.blocks.specs.Inner.{Sound}
+use Rattle.blocks.proofs.Rows.{total-small}
 use Rattle.blocks.proofs.Theorems.{shapes-total, shapes-sound}
-use Rattle.codewords.specs.Codewords.{maskBit, streamIn}
+use Rattle.codewords.specs.Codewords.{maskBit}
+use Rattle.codewords.specs.Inner.{streamIn}
 use Rattle.codewords.proofs.Back.{written-stream}
 use Rattle.reed_solomon.specs.Block.{distance}
 use Rattle.blockwise.specs.Blockwise.{firstRefused, countOf, corrected, correctedData, streamOf, differences, blockAt, parityAt}
@@ -26,10 +28,10 @@ use Rattle.squares.specs.Read.{Reading, refused, firstRefusal, unless, a
 use Rattle.squares.specs.Write.{roomOf, markOf, writeOf}
 use Rattle.squares.specs.Promise.{blockCount, parityIn, changedAt, changed}
 use Rattle.squares.proofs.Refusals.{unless-true, first-skips, both-true, leb-fact}
-use Rattle.squares.proofs.Modules.{below-modules, stream-length}
+use Rattle.squares.proofs.Modules.{below-modules, stream-bits, stream-length}
 use Rattle.codewords.proofs.Small.{Below}
 use Rattle.squares.proofs.Data.{data-below}
-use Rattle.squares.proofs.Marks.{Ranges, Written, written, mark-length, info-is, side-is, side-version, level-is, mask-is, distance-le}
+use Rattle.squares.proofs.Marks.{Ranges, Written, written, mark-length, mark-below, info-is, side-is, side-version, level-is, mask-is, distance-le}
 
 -- the data codewords are no more than the codewords
 pub data-le : (bs : List Shape) → totalData bs ≤ totalSize bs
@@ -90,13 +92,14 @@ module _ (v l k : ℕ) (script payload before : List ℕ) (bytes : Below 256 scr
 
   -- the stream of the mark is that of the script
   pub mark-stream : streamFrom v k mark ≡ streamOf bs ds
-  unfolding streamFrom markOf hasBlocks
+  unfolding markOf hasBlocks
   mark-stream =
       let B = written-blocks bs sound ds ds-bytes ds-length in
       let e : length (streamOf bs ds) ≡ totalOf v = B .0 ∙ sized in
       let h : 8 * totalOf v ≤ dataModules (layoutOf v) =
-      leb-fact (8 * totalOf v) (dataModules (layoutOf v)) (both-true (rowHolds (rowOf v l) (totalOf v)) (leb (8 * totalOf v) (dataModules (layoutOf v))) (W .blocked) .1) in
-      subst (λ (t : ℕ). streamIn t (maskBit (sideOf v) k) (layoutOf v) mark ≡ streamOf bs ds) e
+      leb-fact (8 * totalOf v) (dataModules (layoutOf v)) (both-true (rowHolds bs (totalOf v)) (leb (8 * totalOf v) (dataModules (layoutOf v))) (W .blocked) .1) in
+      stream-bits v mark (mark-below v l k script payload R) k
+      ∙ subst (λ (t : ℕ). streamIn t (maskBit (sideOf v) k) (layoutOf v) mark ≡ streamOf bs ds) e
       (written-stream v k (infoBits v l k) (streamOf bs ds) (R .low) (B .1) (omega arith))
 
   module _ (square : List ℕ) (size : length square ≡ sideOf v * sideOf v) (modules : Below 2 square)

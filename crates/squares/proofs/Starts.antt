@@ -15,10 +15,10 @@ use Rattle.symbol.specs.Layout.{layoutOf, layoutRefusal, layoutWritten}
 use Rattle.symbol.proofs.Theorems.{layout-length}
 use Rattle.information.specs.declared.InfoBits.{InfoBits}
 use Rattle.information.specs.declared.InfoBits.the-variants.{Word, OutOfRange}
-use Rattle.information.specs.Information.{infoBits, isInfo, InfoAnswer, infoOf, infoAnswer, copyOf, nearestWord, wordDistance, NearestAnswer, nearestOf}
+use Rattle.information.specs.Information.{infoBits, isInfo, InfoAnswer, infoOf, infoAnswer, nearestWord, wordDistance, NearestAnswer, nearestOf}
 use Rattle.information.proofs.Apart.{nearest-le}
-use Rattle.blocks.specs.Blocks.{totalOf, rowOf, rowLength, rowHolds, shapes, totalData, dataModules, hasBlocks}
-use Rattle.blocks.proofs.Rows.{total-small, total-shapes}
+use Rattle.blocks.specs.Blocks.{totalOf, rowOf, rowHolds, shapes, shapesOf, totalSize, totalData, dataModules, hasBlocks}
+use Rattle.blocks.proofs.Rows.{total-small}
 use Rattle.blocks.proofs.Theorems.{row-holds}
 use Rattle.blockwise.proofs.Theorems.{row-holds-own}
 use Rattle.squares.specs.Read.{Reading, readingOf, refused, withReceipt, levelIn, maskIn, nearestIn}
@@ -66,14 +66,14 @@ and-false false = refl
 pub has-blocks : (v l : ℕ) → 1 ≤ v → v ≤ 84 → l ≤ 3 → 8 * totalOf v ≤ dataModules (layoutOf v) → hasBlocks v l ≡ true
 unfolding hasBlocks
 has-blocks v l low high level h =
-    true-both (rowHolds (rowOf v l) (totalOf v)) (leb (8 * totalOf v) (dataModules (layoutOf v)))
-    (is-true (rowHolds (rowOf v l) (totalOf v)) (row-holds v l low high level)) (le-leb (8 * totalOf v) (dataModules (layoutOf v)) h)
+    true-both (rowHolds (shapesOf v l) (totalOf v)) (leb (8 * totalOf v) (dataModules (layoutOf v)))
+    (is-true (rowHolds (shapesOf v l) (totalOf v)) (row-holds v l low high level)) (le-leb (8 * totalOf v) (dataModules (layoutOf v)) h)
 
 pub no-blocks : (v l : ℕ) → dataModules (layoutOf v) < 8 * totalOf v → hasBlocks v l ≡ false
 unfolding hasBlocks
 no-blocks v l h =
-    ap (λ (b : Bool). rowHolds (rowOf v l) (totalOf v) && b) (lt-leb (8 * totalOf v) (dataModules (layoutOf v)) h)
-    ∙ and-false (rowHolds (rowOf v l) (totalOf v))
+    ap (λ (b : Bool). rowHolds (shapesOf v l) (totalOf v) && b) (lt-leb (8 * totalOf v) (dataModules (layoutOf v)) h)
+    ∙ and-false (rowHolds (shapesOf v l) (totalOf v))
 
 -- ---- what a reading answers, by its first refusal
 
@@ -101,33 +101,28 @@ side-range side e =
     let q : cond (leb 23 side && (leb side 189 && eqb (side % 2) 1)) ((side - 21) / 2) 0 ≡ (side - 21) / 2 = ap (λ (t : Bool). cond t ((side - 21) / 2) 0) e in
     (omega arith, omega arith)
 
-abbrev found : ℕ → ℕ → ℕ → NearestAnswer
-found v a b = record { number = 0; level = nearestWord v a b / 4; mask = nearestWord v a b % 4; distance = wordDistance v a b (nearestWord v a b) }
-
 abbrev missing : NearestAnswer
 missing = record { number = 1; level = 0; mask = 0; distance = 0 }
 
+module _ (v a b : ℕ) where
+  abbrev found : NearestAnswer
+  found = record { number = 0; level = nearestWord v a b / 4; mask = nearestWord v a b % 4; distance = wordDistance v a b (nearestWord v a b) }
+
+  ranged : (nearestOf v a b .level ≤ 3) × (nearestOf v a b .mask ≤ 3)
+  unfolding nearestOf nearestWord
+  ranged = go (isVersion v)
+    where
+      go : (t : Bool) → (cond t found missing .level ≤ 3) × (cond t found missing .mask ≤ 3)
+      go true = (omega (arith, nearest-le (wordDistance v a b) 15), omega arith)
+      go false = (omega arith, omega arith)
+
 pub level-range : (v : ℕ) (sq : List ℕ) → levelIn v sq ≤ 3
-unfolding nearestIn nearestOf nearestWord
-level-range v sq = go (isVersion v)
-  where
-    a : ℕ
-    a = copyOf (sideOf v) false sq
-
-    b : ℕ
-    b = copyOf (sideOf v) true sq
-
-    go : (t : Bool) → cond t (found v a b) missing .level ≤ 3
-    go true = omega (arith, nearest-le (wordDistance v (copyOf (sideOf v) false sq) (copyOf (sideOf v) true sq)) 15)
-    go false = omega arith
+unfolding nearestIn
+level-range v sq = ranged v _ _ .0
 
 pub mask-range : (v : ℕ) (sq : List ℕ) → maskIn v sq ≤ 3
-unfolding nearestIn nearestOf
-mask-range v sq = go (isVersion v)
-  where
-    go : (t : Bool) → cond t (found v (copyOf (sideOf v) false sq) (copyOf (sideOf v) true sq)) missing .mask ≤ 3
-    go true = omega arith
-    go false = omega arith
+unfolding nearestIn
+mask-range v sq = ranged v _ _ .1
 
 pub side-back : (side : ℕ) → isSide side ≡ true → sideOf (sideVersion side) ≡ side
 unfolding sideVersion isSide
@@ -142,19 +137,20 @@ side-back side e =
 -- ---- r is the row of a version and level
 
 module _ (v l : ℕ) (low : 1 ≤ v) (high : v ≤ 84) (level : l ≤ 3) (r : List ℕ) (is : r ≡ rowOf v l) where
-  own : (rowLength r ≡ totalOf v) × T (rowHolds r (rowLength r))
-  own = row-holds-own r (totalOf v) (subst (λ (x : List ℕ). T (rowHolds x (totalOf v))) (sym is) (row-holds v l low high level))
+  own : (totalSize (shapes r) ≡ totalOf v) × T (rowHolds (shapes r) (totalSize (shapes r)))
+  unfolding shapesOf
+  own = row-holds-own (shapes r) (totalOf v) (subst (λ (x : List ℕ). T (rowHolds (shapes x) (totalOf v))) (sym is) (row-holds v l low high level))
 
   -- it has the version's codewords, and holds its rule ..
-  pub row-total : rowLength r ≡ totalOf v
+  pub row-total : totalSize (shapes r) ≡ totalOf v
   row-total = own .0
 
-  pub row-own : T (rowHolds r (rowLength r))
+  pub row-own : T (rowHolds (shapes r) (totalSize (shapes r)))
   row-own = own .1
 
   -- .. and no more codewords, and no more data codewords, than a buffer has bytes
-  pub row-small : rowLength r ≤ 3886
+  pub row-small : totalSize (shapes r) ≤ 3886
   row-small = omega (arith, row-total, total-small v low high)
 
   pub row-data : totalData (shapes r) ≤ 3886
-  row-data = omega (arith, data-le (shapes r), total-shapes r, row-small)
+  row-data = omega (arith, data-le (shapes r), row-small)

@@ -1,7 +1,7 @@
 -- SPECIFICATION 10.9 and 10.10: Read a square, and Read with known version, level, mask. The first refusal that applies is given, each
 -- tested over the whole input.
-use mathlib.Core.Bool.{Bool, true, false, cond, _&&_}
-use mathlib.Core.List.{List, [], _∷_}
+use mathlib.Core.Bool.{Bool, true, false, cond}
+use mathlib.Core.List.{List, [], _∷_, map}
 use Prim.Native.Nat.{ℕ, _*_}
 use lib.Dec.{leb, eqb}
 use lib.ListN.{length}
@@ -9,7 +9,8 @@ use Rattle.symbol.specs.Version.{sideOf, isSide, sideVersion}
 use Rattle.symbol.specs.Layout.{layoutOf}
 use Rattle.information.specs.Information.{isInfo, copyOf, NearestAnswer, nearestOf}
 use Rattle.blocks.specs.Blocks.{totalOf, shapesOf, hasBlocks, cut}
-use Rattle.codewords.specs.Codewords.{maskBit, streamIn}
+use Rattle.codewords.specs.Codewords.{maskBit, codewordsOf, dataBits, toStream}
+use Rattle.script.specs.Writer.{all}
 use Rattle.blockwise.specs.Blockwise.{firstRefused, countOf, corrected, correctedData}
 use Rattle.segments.specs.FromData.{DataOutcome, fromData}
 use Rattle.squares.specs.Receipt.{receiptOf, refusalReceipt}
@@ -40,12 +41,15 @@ unless test n = cond test 0 n
 
 -- no byte is above 1
 unfoldable pub areModules : List ℕ → Bool
-areModules [] = true
-areModules (m ∷ ms) = leb m 1 && areModules ms
+areModules sq = all (λ m. leb m 1) sq
+
+-- a module as a bit: 1 is dark, all else is light
+abbrev pub moduleBit : ℕ → ℕ
+moduleBit m = cond (eqb m 1) 1 0
 
 -- the nearest level and mask of a square of version v, and their distance
 unfoldable pub nearestIn : ℕ → List ℕ → NearestAnswer
-nearestIn v sq = nearestOf v (copyOf (sideOf v) false sq) (copyOf (sideOf v) true sq)
+nearestIn v sq = nearestOf v (copyOf (sideOf v) false (map moduleBit sq)) (copyOf (sideOf v) true (map moduleBit sq))
 
 abbrev pub levelIn : ℕ → List ℕ → ℕ
 levelIn v sq = nearestIn v sq .level
@@ -58,7 +62,7 @@ distanceIn v sq = nearestIn v sq .distance
 
 -- the stream of a square of version v under a mask
 unfoldable pub streamFrom : ℕ → ℕ → List ℕ → List ℕ
-streamFrom v mask sq = streamIn (totalOf v) (maskBit (sideOf v) mask) (layoutOf v) sq
+streamFrom v mask sq = toStream (codewordsOf (totalOf v) (dataBits (maskBit (sideOf v) mask) 0 (layoutOf v) (map moduleBit sq)))
 
 -- SPECIFICATION 11.3: the blocks of a square, for a version, level and mask
 unfoldable pub blocksIn : ℕ → ℕ → ℕ → List ℕ → List (List ℕ)

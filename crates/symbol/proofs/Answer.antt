@@ -9,8 +9,8 @@ use lib.ListN.{length, getD, drop, length-append, List·getD-append}
 use lib.Seq.{getD-append-add, ext-getD}
 use borrow.Author.Tests.{lt-ltb, le-ltb, le-leb, lt-leb, ne-eqb}
 use Rattle.symbol.specs.Version.{sideOf, isVersion}
-use Rattle.symbol.specs.Layout.{Plot, plotAll, corners, cornerKind, alignment, layoutOf, layoutRefusal, layoutWritten}
-use Rattle.symbol.specs.Inner.{Plotted, Stored, drawn}
+use Rattle.symbol.specs.Layout.{Plot, plotAll, corners, alignment, layoutOf, layoutRefusal, layoutWritten}
+use Rattle.symbol.specs.Inner.{Plotted, Stored, drawn, cornerKind}
 use Rattle.symbol.proofs.FirstPlot.{first, all-length, all-at, all-beyond}
 use Rattle.symbol.proofs.Places.{length-table}
 use Rattle.symbol.proofs.Stored.{stored-all}

@@ -11,8 +11,8 @@ use lib.Arith.{digits-div, digits-mod}
 use lib.Dec.{T, ltb, ltb→lt, lit<}
 use lib.ListN.{length, getD, set, length-set}
 use borrow.Author.Tests.{lt-ltb, le-ltb, ltb-true, ltb-false, ne-eqb}
-use Rattle.symbol.specs.Layout.{finders, edge, ring, half, within, finderRow, finderAt, cornerAt, cornerKind}
-use Rattle.symbol.specs.Inner.{Stored, RowRoom, Ends, UpTo, Beyond}
+use Rattle.symbol.specs.Layout.{finders, edge, ring, half, within, finderRow, finderAt, cornerAt}
+use Rattle.symbol.specs.Inner.{Stored, RowRoom, Ends, UpTo, Beyond, cornerKind}
 use Rattle.symbol.proofs.Coordinates.{square-le}
 use Rattle.symbol.proofs.Finite.{upTo, every}
 use Rattle.symbol.proofs.Stored.{stored-none, stored-next, stored-more, stored-as}

@@ -10,7 +10,8 @@ use lib.IntN.{ℤ, pos, _+ℤ_, _-ℤ_}
 use lib.ListN.{length, getD, set, List·getD-eq-default}
 use lib.Seq.{getD-set-same, getD-set-other, set-out}
 use Rattle.symbol.specs.Version.{sideOf}
-use Rattle.symbol.specs.Layout.{Plot, plot, placeAt, plotOne, plotAll, each, when, light, dark, odd, ring, finderAt, cornerAt, cornerKind, table, corners, threeAt, assistant, rowEnds, columnEnds, lineModule, lineLeft, lineDown, crossing, crossings, alignment, layoutOf, mOf, rowLine, columnLine, stepOf}
+use Rattle.symbol.specs.Layout.{Plot, plot, placeAt, plotOne, plotAll, each, when, light, dark, odd, ring, finderAt, cornerAt, corners, threeAt, assistant, rowEnds, columnEnds, lineModule, lineLeft, lineDown, crossing, crossings, alignment, layoutOf, mOf, rowLine, columnLine, stepOf}
+use Rattle.symbol.specs.Inner.{cornerKind, table}
 use Rattle.symbol.proofs.Places.{length-table, getD-table}
 
 -- each plot of a list has a kind up to 3

@@ -11,16 +11,17 @@ use lib.ListN.{length, getD, length-append, List·getD-append}
 use lib.Seq.{getD-at}
 use borrow.Author.Tests.{eqb-true, eqb-false}
 use Rattle.symbol.specs.Version.{sideOf}
-use Rattle.symbol.specs.Layout.{table, cornerAt, cornerKind, corners, alignment, layoutOf}
+use Rattle.symbol.specs.Layout.{each, cornerAt, corners, alignment, layoutOf}
+use Rattle.symbol.specs.Inner.{table, cornerKind}
 use Rattle.symbol.proofs.FirstPlot.{drawn-kept, all-length, all-at}
 
 pub length-table : (n : ℕ) (f : ℕ → ℕ) → length (table n f) ≡ n
-unfolding table
+unfolding each
 length-table zero f = refl
 length-table (suc n) f = length-append (table n f) (f n ∷ []) ∙ (let h : length (table n f) ≡ n = length-table n f in omega arith)
 
 pub getD-table : (n : ℕ) (f : ℕ → ℕ) (i : ℕ) → i < n → getD (table n f) i 0 ≡ f i
-unfolding table
+unfolding each
 getD-table zero f i h = absurd (not-suc-le-zero h)
 getD-table (suc n) f i h = by (eqb i n) refl (getD-table n f i)
   where

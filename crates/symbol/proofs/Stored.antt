@@ -6,8 +6,7 @@ use native.Mathlib.Omega.{arith}
 use native.Mathlib.Decide.{decLt, ℕ-discrete}
 use lib.ListN.{length, getD, set, drop, length-append, length-drop, length-set, List·getD-append}
 use lib.Seq.{getD-set-same, getD-set-other, getD-append-add, getD-drop, ext-getD}
-use Rattle.symbol.specs.Layout.{table}
-use Rattle.symbol.specs.Inner.{Stored}
+use Rattle.symbol.specs.Inner.{Stored, table}
 use Rattle.symbol.proofs.Places.{length-table, getD-table}
 
 pub stored-none : (f : ℕ → ℕ) (from : ℕ) (g : List ℕ) → Stored f from from g g

@@ -59,17 +59,14 @@ finderAt s r c = light + finderRow s (half c) r / 2 ^ (6 - within s c) % 2
 unfoldable pub cornerAt : ℕ → ℕ → ℕ → ℕ
 cornerAt s r c = cond (ltb (ring s r c) 7) (finderAt s r c) (cond (eqb (ring s r c) 7) light (cond (eqb (ring s r c) 8) information data-kind))
 
--- f 0, f 1, .. f (n − 1)
-unfoldable pub table : ℕ → (ℕ → ℕ) → List ℕ
-table zero f = []
-table (suc n) f = table n f ++ (f n ∷ [])
+-- f 0, f 1, .. f (n − 1), one behind the other
+unfoldable pub each : {A : Type 0} → ℕ → (ℕ → List A) → List A
+each zero f = []
+each (suc n) f = each n f ++ f n
 
 -- row by row
-abbrev pub cornerKind : ℕ → ℕ → ℕ
-cornerKind s i = cornerAt s (i / s) (i % s)
-
 unfoldable pub corners : ℕ → List ℕ
-corners s = table (s * s) (cornerKind s)
+corners s = each (s * s) (λ i. cornerAt s (i / s) (i % s) ∷ [])
 
 -- Plots (4.7). A coordinate may lie outside the square: it is a whole number of either sign.
 
@@ -91,11 +88,6 @@ pub data Plot : Type 0 where
 unfoldable pub plotAll : ℕ → List Plot → List ℕ → List ℕ
 plotAll s [] g = g
 plotAll s (plot x y kind ∷ ps) g = plotAll s ps (plotOne s x y kind g)
-
--- the plots of f 0, f 1, .. f (n − 1)
-unfoldable pub each : ℕ → (ℕ → List Plot) → List Plot
-each zero f = []
-each (suc n) f = each n f ++ f n
 
 abbrev pub when : Bool → List Plot → List Plot
 when b ps = cond b ps []

@@ -8,8 +8,8 @@ ghost use lib.IntN.{pos};
 ghost use lib.Signed.{mag};
 ghost use Rattle.symbol.specs.Version.{sideOf, sideRefusal, sideVersion, versionOf};
 ghost use Rattle.symbol.specs.Version as version;
-ghost use Rattle.symbol.specs.Layout.{finders, edge, finderRow, cornerKind, plot, each, when, stepOf, mOf, lineOf, rowLine, columnLine, odd, threeAt, assistant, rowEnds, columnEnds, lineModule, lineLeft, lineDown, crossing, crossings, alignment, layoutRefusal, layoutWritten, layoutNumber};
-ghost use Rattle.symbol.specs.Inner.{Stored, RowRoom, Ends, UpTo, Beyond, Plotted, Spaced, Roomy, Inside, drawn, fourModules};
+ghost use Rattle.symbol.specs.Layout.{finders, edge, finderRow, plot, each, when, stepOf, mOf, lineOf, rowLine, columnLine, odd, threeAt, assistant, rowEnds, columnEnds, lineModule, lineLeft, lineDown, crossing, crossings, alignment, layoutRefusal, layoutWritten, layoutNumber};
+ghost use Rattle.symbol.specs.Inner.{Stored, RowRoom, Ends, UpTo, Beyond, Plotted, Spaced, Roomy, Inside, drawn, fourModules, cornerKind};
 
 pub struct Version {
     pub number: usize,

@@ -14,10 +14,10 @@ use Rattle.symbol.specs.Version.{sideOf}
 use Rattle.symbol.specs.Layout.{layoutOf, layoutWritten}
 use Rattle.symbol.proofs.Coordinates.{square-le}
 use Rattle.symbol.proofs.Theorems.{layout-length}
-use Rattle.blocks.specs.Blocks.{totalOf, rowOf, rowLength, dataModules, Shape, shapes, shapesOf, totalSize, cut, joined, dataParts}
-use Rattle.blocks.proofs.Rows.{Sound, total-shapes}
+use Rattle.blocks.specs.Blocks.{totalOf, rowOf, dataModules, Shape, shapes, shapesOf, totalSize, cut, joined, dataParts}
+use Rattle.blocks.specs.Inner.{Sound}
 use Rattle.blocks.proofs.Theorems.{shapes-sound}
-use Rattle.codewords.specs.Codewords.{maskBit, dataBits, codewordsOf, toStream, streamIn}
+use Rattle.codewords.specs.Codewords.{maskBit, dataBits, codewordsOf, toStream}
 use Rattle.placement.specs.Walk.{Legible}
 use Rattle.small_marks.proofs.Open.{open-enough}
 use Rattle.codewords.proofs.Placement.{data-front, length-data}
@@ -29,7 +29,7 @@ use Rattle.blockwise.proofs.Theorems.{data-left}
 use Rattle.segments.specs.FromData.{DataOutcome, fromData}
 use Rattle.squares.specs.Receipt.{receiptOf, refusalReceipt}
 use Rattle.squares.specs.Read.{Reading, readingOf, refused, streamFrom, told, bodyOf}
-use Rattle.squares.proofs.Modules.{stream-length}
+use Rattle.squares.proofs.Modules.{stream-bits, stream-length}
 use Rattle.squares.proofs.Starts.{layout-front, has-blocks, no-blocks, row-total, row-small}
 use Rattle.receipts.specs.declared.Mark.{Mark}
 use Rattle.receipts.specs.declared.Told.{Told}
@@ -98,12 +98,12 @@ module _ (m : Mark) (sq ks : List ℕ) (F : Fitting m sq) (D : Drawn (m .version
   enough-bits f total e h = omega (arith, length-data f 0 ks sq, ap dataModules front-is)
 
   pub stream-is : (side total : ℕ) (st rest : List ℕ) → side ≡ sideOf v → total ≡ totalOf v → st ≡ toStream (codewordsOf total (dataBits (maskBit side (m .mask)) 0 ks sq)) ++ rest → Streamed m sq st
-  unfolding streamIn streamFrom
   stream-is side total st rest e f g = record {
     rest = rest;
     is = g
         ∙ (λ i. toStream (codewordsOf (f i) (dataBits (maskBit (e i) (m .mask)) 0 ks sq)) ++ rest)
-        ∙ ap (λ (bs : List ℕ). toStream (codewordsOf (totalOf v) bs) ++ rest) (bits-are (maskBit (sideOf v) (m .mask)));
+        ∙ ap (λ (bs : List ℕ). toStream (codewordsOf (totalOf v) bs) ++ rest) (bits-are (maskBit (sideOf v) (m .mask)))
+        ∙ ap (λ (l : List ℕ). l ++ rest) (sym (stream-bits v sq (F .bits) (m .mask)));
   }
 
   -- ---- whether there are enough data modules
@@ -142,7 +142,7 @@ module _ (m : Mark) (R : Ranged m) (row : List ℕ) (e : row ≡ rowOf (m .versi
   abbrev bs : List Shape
   bs = shapes row
 
-  length-is : rowLength row ≡ totalOf (m .version)
+  length-is : totalSize bs ≡ totalOf (m .version)
   length-is = row-total (m .version) (m .level) (R .low) (R .high) (R .level) row e
 
   sound : Sound bs
@@ -153,17 +153,17 @@ module _ (m : Mark) (R : Ranged m) (row : List ℕ) (e : row ≡ rowOf (m .versi
   unfolding numberOf correctionsOf
   count-small r n st a c =
       let k : n ≡ countOf (corrected bs st) = sym (ap correctionsOf a) ∙ c (ap numberOf a) in
-      omega (arith, count-le bs st, total-shapes row, row-small (m .version) (m .level) (R .low) (R .high) (R .level) row e)
+      omega (arith, count-le bs st, row-small (m .version) (m .level) (R .low) (R .high) (R .level) row e)
 
   module _ (st p s sq : List ℕ) (S : Streamed m sq st) where
     abbrev stream : List ℕ
     stream = streamFrom (m .version) (m .mask) sq
 
     size : length stream ≡ totalSize bs
-    size = stream-length (m .version) (m .mask) sq ∙ sym length-is ∙ sym (total-shapes row)
+    size = stream-length (m .version) (m .mask) sq ∙ sym length-is
 
-    taken : take (rowLength row) st ≡ stream
-    taken = ap (take (rowLength row)) (S .is) ∙ take-at stream (S .rest) (rowLength row) (stream-length (m .version) (m .mask) sq ∙ sym length-is)
+    taken : take (totalSize bs) st ≡ stream
+    taken = ap (take (totalSize bs)) (S .is) ∙ take-at stream (S .rest) (totalSize bs) size
 
     -- the reading by a row's blocks
     abbrev reading : List Shape → Reading
@@ -176,7 +176,7 @@ module _ (m : Mark) (R : Ranged m) (row : List ℕ) (e : row ≡ rowOf (m .versi
     unfolding bodyOf shapesOf
     reading-is = ap (λ (r : List ℕ). reading (shapes r)) e
 
-    refused-is : (r : Blocks) (t : Told) → r ≡ Refused → numberOf r ≡ firstRefused (corrected bs (take (rowLength row) st)) → Refuses 6 t
+    refused-is : (r : Blocks) (t : Told) → r ≡ Refused → numberOf r ≡ firstRefused (corrected bs (take (totalSize bs) st)) → Refuses 6 t
         → readingIn m t p s ≡ bodyOf (m .version) (m .level) (m .mask) (m .distance) sq p s
     unfolding numberOf
     refused-is r t a b R6 =
@@ -186,8 +186,8 @@ module _ (m : Mark) (R : Ranged m) (row : List ℕ) (e : row ≡ rowOf (m .versi
         ∙ reading-is
 
     told-is : (r : Blocks) (n : ℕ) (st′ rest′ : List ℕ) (t : Told) (p′ s′ : List ℕ) → r ≡ Corrected n
-        → numberOf r ≡ firstRefused (corrected bs (take (rowLength row) st))
-        → (numberOf r ≡ 0 → (correctionsOf r ≡ countOf (corrected bs (take (rowLength row) st))) × (st′ ≡ joined (blocksOf (corrected bs (take (rowLength row) st))) ++ rest′))
+        → numberOf r ≡ firstRefused (corrected bs (take (totalSize bs) st))
+        → (numberOf r ≡ 0 → (correctionsOf r ≡ countOf (corrected bs (take (totalSize bs) st))) × (st′ ≡ joined (blocksOf (corrected bs (take (totalSize bs) st))) ++ rest′))
         → Tells n (fromData (dataParts bs (cut bs st′)) p s) t p′ s′
         → readingIn m t p′ s′ ≡ bodyOf (m .version) (m .level) (m .mask) (m .distance) sq p s
     unfolding numberOf correctionsOf
@@ -202,12 +202,12 @@ module _ (m : Mark) (R : Ranged m) (row : List ℕ) (e : row ≡ rowOf (m .versi
         ∙ sym (ap (λ (x : ℕ). cond (eqb x 0) (told (m .version) (m .level) (m .mask) (m .distance) (countOf (corrected bs stream)) (fromData (correctedData bs stream) p s)) (refused x p s)) zero)
         ∙ reading-is
 
-  pub blocks-refused : (st p s : List ℕ) (r : Blocks) (t : Told) → r ≡ Refused → numberOf r ≡ firstRefused (corrected bs (take (rowLength row) st)) → Refuses 6 t → Body m st p s t p s
+  pub blocks-refused : (st p s : List ℕ) (r : Blocks) (t : Told) → r ≡ Refused → numberOf r ≡ firstRefused (corrected bs (take (totalSize bs) st)) → Refuses 6 t → Body m st p s t p s
   blocks-refused st p s r t a b R6 = record { reading = λ sq S. refused-is st p s sq S r t a b R6; small = refuses-small 6 t (omega arith) R6 }
 
   pub blocks-told : (st p s : List ℕ) (r : Blocks) (n : ℕ) (st′ rest′ : List ℕ) (t : Told) (p′ s′ : List ℕ) → r ≡ Corrected n
-      → numberOf r ≡ firstRefused (corrected bs (take (rowLength row) st))
-      → (numberOf r ≡ 0 → (correctionsOf r ≡ countOf (corrected bs (take (rowLength row) st))) × (st′ ≡ joined (blocksOf (corrected bs (take (rowLength row) st))) ++ rest′))
+      → numberOf r ≡ firstRefused (corrected bs (take (totalSize bs) st))
+      → (numberOf r ≡ 0 → (correctionsOf r ≡ countOf (corrected bs (take (totalSize bs) st))) × (st′ ≡ joined (blocksOf (corrected bs (take (totalSize bs) st))) ++ rest′))
       → Tells n (fromData (dataParts bs (cut bs st′)) p s) t p′ s′
       → Body m st p s t p′ s′
   blocks-told st p s r n st′ rest′ t p′ s′ a b c W = record { reading = λ sq S. told-is st p s sq S r n st′ rest′ t p′ s′ a b c W; small = W .small }

@@ -9,7 +9,7 @@ use Rattle.bits.specs.Bits.{bitsOf}
 use Rattle.symbol.specs.Version.{sideOf}
 use Rattle.symbol.specs.Layout.{layoutOf}
 use Rattle.information.specs.Information.{infoBits, infoWritten}
-use Rattle.blocks.specs.Blocks.{totalOf, rowOf, rowLength, shapes, shapesOf, totalData}
+use Rattle.blocks.specs.Blocks.{totalOf, rowOf, Shape, shapes, shapesOf, totalSize, totalData}
 use Rattle.codewords.specs.Codewords.{maskBit, placed, fromStream, squareOf}
 use Rattle.blockwise.specs.Blockwise.{streamOf}
 use Rattle.script.specs.Check.{commandsOf, scriptData}
@@ -24,16 +24,15 @@ front n xs s s′ h k e = ap (take n) e ∙ take-at xs (drop n s) n (omega (arit
 -- ---- the stream
 
 -- data encoded, and written into the blocks of a row
-pub stream-encoded : (script payload r ds s s′ : List ℕ) (n : ℕ) → n ≡ totalData (shapes r) → ds ≡ scriptData n (commandsOf script payload) → rowLength r ≤ length s
-    → length s′ ≡ length s → s′ ≡ streamOf (shapes r) ds ++ drop (rowLength r) s
-    → take (rowLength r) s′ ≡ streamOf (shapes r) (scriptData (totalData (shapes r)) (commandsOf script payload))
-stream-encoded script payload r ds s s′ n en ed h k e =
-    front (rowLength r) (streamOf (shapes r) ds) s s′ h k e
-    ∙ ap (streamOf (shapes r)) (ed ∙ ap (λ (x : ℕ). scriptData x (commandsOf script payload)) en)
+pub stream-encoded : (script payload : List ℕ) (bs : List Shape) (ds s s′ : List ℕ) (n : ℕ) → n ≡ totalData bs → ds ≡ scriptData n (commandsOf script payload)
+    → totalSize bs ≤ length s → length s′ ≡ length s → s′ ≡ streamOf bs ds ++ drop (totalSize bs) s
+    → take (totalSize bs) s′ ≡ streamOf bs (scriptData (totalData bs) (commandsOf script payload))
+stream-encoded script payload bs ds s s′ n en ed h k e =
+    front (totalSize bs) (streamOf bs ds) s s′ h k e ∙ ap (streamOf bs) (ed ∙ ap (λ (x : ℕ). scriptData x (commandsOf script payload)) en)
 
 -- for the row of a version and level
-pub stream-of-row : (script payload : List ℕ) (v l : ℕ) (r s : List ℕ) → r ≡ rowOf v l → rowLength r ≡ totalOf v
-    → take (rowLength r) s ≡ streamOf (shapes r) (scriptData (totalData (shapes r)) (commandsOf script payload))
+pub stream-of-row : (script payload : List ℕ) (v l : ℕ) (r s : List ℕ) → r ≡ rowOf v l → totalSize (shapes r) ≡ totalOf v
+    → take (totalSize (shapes r)) s ≡ streamOf (shapes r) (scriptData (totalData (shapes r)) (commandsOf script payload))
     → take (totalOf v) s ≡ streamOf (shapesOf v l) (scriptData (roomOf v l) (commandsOf script payload))
 unfolding shapesOf
 stream-of-row script payload v l r s er en e =

@@ -10,7 +10,6 @@ use Rattle.blocks.specs.Blocks.{totalOf, rowOf, shapes, shapesOf, totalData}
 use Rattle.script.specs.Inner.{Fits}
 use Rattle.squares.specs.Write.{roomOf, writeRefusal}
 use Rattle.squares.proofs.Marks.{no-refusal}
-use Rattle.blocks.proofs.Rows.{total-shapes}
 use Rattle.squares.proofs.ReadBack.{data-le}
 use Rattle.squares.proofs.Starts.{row-total, row-data}
 use Rattle.writer.specs.declared.Mark.{Mark}
@@ -23,7 +22,7 @@ unfolding shapesOf
 room-is {m} R r is n e = (
   e ∙ ap (λ (x : List ℕ). totalData (shapes x)) is,
   omega (arith, row-data (m .version) (m .level) (R .low) (R .high) (R .level) r is),
-  omega (arith, data-le (shapes r), total-shapes r, row-total (m .version) (m .level) (R .low) (R .high) (R .level) r is),
+  omega (arith, data-le (shapes r), row-total (m .version) (m .level) (R .low) (R .high) (R .level) r is),
 )
 
 -- and the data codewords of a version and level are at most 3,886

@@ -7,7 +7,7 @@ ghost use lib.Dec.{T, leb};
 ghost use lib.ListN.{length, take};
 ghost use Rattle.symbol.specs.Version.{sideOf};
 ghost use Rattle.symbol.specs.Layout.{layoutOf};
-ghost use Rattle.blocks.specs.Blocks.{totalOf, shapes, rowLength, rowHolds, totalData};
+ghost use Rattle.blocks.specs.Blocks.{totalOf, shapes, totalSize, totalData, rowHolds};
 ghost use Rattle.codewords.specs.Codewords.{maskBit, squareOf};
 ghost use Rattle.blockwise.specs.Blockwise.{streamOf};
 ghost use Rattle.script.specs.Check.{commandsOf, scriptData};
@@ -67,9 +67,9 @@ fn script_refusal(m: Mark, row: &[u8], script: &[u8], payload: &[u8]) -> usize
 
 // The stream of a script and payload, in the blocks of a row. `data` has room for the data codewords of the row.
 fn encode_stream(stream: &mut [u8], data: &mut [u8], row: &[u8], script: &[u8], payload: &[u8])
-    requires { ⌜ (length (now row) ≡ 9) × T (rowHolds (now row) (rowLength (now row))) × (rowLength (now row) ≤ length (now stream)) × (length (now «data») ≡ totalData (shapes (now row))) ⌝ }
+    requires { ⌜ (length (now row) ≡ 9) × T (rowHolds (shapes (now row)) (totalSize (shapes (now row)))) × (totalSize (shapes (now row)) ≤ length (now stream)) × (length (now «data») ≡ totalData (shapes (now row))) ⌝ }
     requires { ⌜ Fits (now script) (now payload) (length (now «data»)) × (length (now «data») ≤ 3886) ⌝ }
-    ensures { λ _. ⌜ take (rowLength (now (row .entry))) (now (stream .exit)) ≡ streamOf (shapes (now (row .entry))) (scriptData (totalData (shapes (now (row .entry)))) (commandsOf (now (script .entry)) (now (payload .entry)))) ⌝ }
+    ensures { λ _. ⌜ take (totalSize (shapes (now (row .entry)))) (now (stream .exit)) ≡ streamOf (shapes (now (row .entry))) (scriptData (totalData (shapes (now (row .entry)))) (commandsOf (now (script .entry)) (now (payload .entry)))) ⌝ }
 {
     encoding::encode(script, payload, data);
     block_writer::write_blocks(stream, data, row);

@@ -27,7 +27,7 @@ write-batch-requires c κs =
     let loop = c .before .before .before .loop in
     let few = c .before .before .loop-test .taken in
     let batch = c .before .batch-of .ensures in
-    (batch .info, batch .parity, row-batch _ _ _ (start .pre .1) few _ (batch .is), batch-room _ _ (loop .inv) few _ (batch .is))
+    (batch .info, batch .parity, row-batch _ _ (row-sound _ _ (start .pre .1)) few _ (batch .is), batch-room _ _ (loop .inv) few _ (batch .is))
 
 -- the blocks of a turn's batch are written
 next : (c : tie.After-struct-known Inv-loop μ-loop) →
@@ -48,8 +48,8 @@ returns c =
     let start = c .before .before .before .before .before in
     let bytes = c .before .before .before .shared-slice-known .given in
     pouring-end (c .before .loop .inv) (behind-all (start .args .row .now) _ (c .loop-test .left))
-    ∙ written-row (start .args .row .now) (start .args .«data» .now) (start .args .stream .now) (row-sound _ _ (start .pre .1))
-    (λ i. omega (arith, bytes i)) (start .pre .2) (start .pre .3)
+    ∙ written-row (shapes (start .args .row .now)) (start .args .«data» .now) (start .args .stream .now) (start .pre .2) (start .pre .3)
+    (row-sound _ _ (start .pre .1)) (λ i. omega (arith, bytes i))
 
 pub write-blocks-spec : {M : Type 1} → statement M
 write-blocks-spec =

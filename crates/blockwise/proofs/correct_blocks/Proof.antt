@@ -2,7 +2,7 @@
 use Prim.Native.Nat.{_+_, _-_, _*_}
 use native.Mathlib.Omega.{arith}
 use Rattle.blocks.specs.Blocks.{shapes}
-use Rattle.blocks.proofs.Rows.{total-batch, total-shapes}
+use Rattle.blocks.proofs.Rows.{total-batch}
 use Rattle.blockwise.specs.Inner.{blocksIn, behind}
 use Rattle.blockwise.proofs.Rule.{behind-next, behind-all}
 use Rattle.blockwise.proofs.Corrects.{Passing, passing-start, passing-room, passing-next, passing-stop, passing-end}
@@ -19,7 +19,7 @@ abbrev μ-loop : tie.MeasureT-loop
 
 loop-holds : tie.Need-loop-holds Inv-loop μ-loop
 unfolding behind
-loop-holds c = let start = c .before .before in passing-start _ _ _ (omega (arith, total-shapes (start .args .row .now)))
+loop-holds c = passing-start _ _ _ (omega arith)
 
 correct-batch-requires : tie.Need-correct-batch-requires Inv-loop μ-loop
 correct-batch-requires c κs =

@@ -41,7 +41,7 @@ returns : tie.Need-returns Inv-loop μ-loop
 returns c =
     let start = c .before .before .before .before .before in
     let all = behind-all (start .args .row .now) _ (c .loop-test .left) in
-    let q = gathered-row (start .args .row .now) _ _ _ (start .pre .1) (start .pre .2) (pouring-place (c .before .loop .inv) all) in
+    let q = gathered-row (shapes (start .args .row .now)) _ _ (start .pre .1) (start .pre .2) _ (pouring-place (c .before .loop .inv) all) in
     (q .0, pouring-end (c .before .loop .inv) all ∙ q .1)
 
 pub gather-data-spec : {M : Type 1} → statement M

@@ -1,5 +1,5 @@
 -- `bit` meets its contract. Assumes nothing.
-use Rattle.information.specs.Information.{bitOf}
+use Rattle.information.specs.Inner.{bitOf}
 use Prim.Native.Nat.{_-_}
 use mathlib.Core.Path.{refl}
 use borrow.Author.Needs.{needs}

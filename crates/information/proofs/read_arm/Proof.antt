@@ -1,7 +1,8 @@
 -- `read_arm` meets its contract. Assumes nothing.
 use lib.ListN.{getD}
 use Rattle.information.proofs.Copies.{number-small, number-more}
-use Rattle.information.specs.Information.{infoPosition, numberFrom}
+use Rattle.information.specs.Information.{infoPosition}
+use Rattle.information.specs.Inner.{numberFrom}
 use Prim.Native.Nat.{ℕ, _-_, _≤_}
 use mathlib.Core.Path.{_≡_, ap, _∙_}
 use borrow.Author.Needs.{needs}

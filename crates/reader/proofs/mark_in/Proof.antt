@@ -16,11 +16,13 @@ read-copy-requires-2 c κs =
 
 returns : tie.Need-returns
 returns c =
+    let start = c .before .before .before .before .before .before .before .before in
     let side = c .before .before .before .before .before .before .side in
     let read-copy = c .before .before .before .before .before .read-copy in
     let read-copy2 = c .before .before .before .before .read-copy2 in
     let g = c .before .level .given in
-    nearest-mark _ _ _ _ _ (side .ensures) (read-copy .ensures) (read-copy2 .ensures) _ (g .0 .0) (g .0 .1 .0) (g .0 .1 .1 .0) (g .1) (c .before .before .before .nearest-info .ensures)
+    nearest-mark _ _ _ _ _ (start .pre .3) (side .ensures) (read-copy .ensures) (read-copy2 .ensures) _ (g .0 .0) (g .0 .1 .0) (g .0 .1 .1 .0) (g .1)
+    (c .before .before .before .nearest-info .ensures)
 
 returns-2 : tie.Need-returns-2
 returns-2 c =
@@ -28,7 +30,7 @@ returns-2 c =
     let side = c .before .before .before .before .before .side in
     let read-copy = c .before .before .before .before .read-copy in
     let a = start .pre in
-    absurd (no-version _ _ _ _ _ (side .ensures) (read-copy .ensures) (c .before .before .before .read-copy2 .ensures) _ (a .0) (a .1) (c .enum-told .given .1) (c .before .before .nearest-info .ensures))
+    absurd (no-version _ _ _ _ _ (a .3) (side .ensures) (read-copy .ensures) (c .before .before .before .read-copy2 .ensures) _ (a .0) (a .1) (c .enum-told .given .1) (c .before .before .nearest-info .ensures))
 
 pub mark-in-spec : {M : Type 1} → statement M
 mark-in-spec =

@@ -4,7 +4,7 @@ use lib.ListN.{length}
 use native.Mathlib.Nat.{zero-mul}
 use native.Mathlib.Omega.{arith}
 use borrow.Author.Needs.{needs}
-use Rattle.symbol.specs.Layout.{cornerKind}
+use Rattle.symbol.specs.Inner.{cornerKind}
 use Rattle.symbol.proofs.CornerRows.{edge-top, edge-bottom, row-room, all-blank, upper-arm, lower-arm, middle-rows, corners-stored}
 use Rattle.symbol.proofs.corners.Statement.{statement}
 use Rattle.symbol.proofs.corners.Tie as tie

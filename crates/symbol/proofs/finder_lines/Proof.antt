@@ -1,7 +1,6 @@
 -- `finder_lines` meets its contract.
 use Rattle.symbol.proofs.CornerRows.{row-room, row-more, beyond-none}
-use Rattle.symbol.specs.Inner.{UpTo, Beyond}
-use Rattle.symbol.specs.Layout.{cornerKind}
+use Rattle.symbol.specs.Inner.{UpTo, Beyond, cornerKind}
 use mathlib.Core.Path.{_≡_, subst}
 use Prim.Native.Nat.{ℕ, _-_, _*_, _<_, _≤_}
 use lib.ListN.{length}
