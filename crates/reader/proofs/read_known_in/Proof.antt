@@ -25,14 +25,16 @@ returns-2 c =
 
 -- version, level and mask are in their ranges
 ranged : (c : tie.Else2)
-    → let m = c .before .before .before .before .before .before .before .before .args .m in (isInfo (m .version) (m .level) (m .mask) ≡ true) × (m .version ≤ 84)
+    → let m = c .before .before .before .before .before .before .before .before .args .m in
+    (isInfo (m .version) (m .level) (m .mask) ≡ true) × (m .version ≤ 84)
 ranged c = let e = not-false _ (c .if2 .left) in (sym (c .before .is-info .ensures .0) ∙ e, c .before .is-info .ensures .1 e .0)
 
 refuse-requires-2 : tie.Need-refuse-requires-2
 refuse-requires-2 c κs =
     let early = c .before .before in
     let test = early .before .before in
-    (test .before .before .if1 .left, early-small (test .before .before .before .before .before .before .before .before .args .square .now) (early .before .side .result) _ (early .square-refusal .ensures))
+    let a = test .before .before .before .before .before .before .before .before .args in
+    (test .before .before .if1 .left, early-small (a .square .now) (early .before .side .result) _ (early .square-refusal .ensures))
 
 returns-3 : tie.Need-returns-3
 returns-3 c =
