@@ -20,13 +20,13 @@ use Rattle.blockwise.proofs.Theorems.{zero-or-six, left-accepted}
 told-number : (k n : ℕ) → (k ≡ 0) ⊎ (k ≡ 6) → numberOf (told k n) ≡ k
 unfolding numberOf
 told-number zero n h = refl
-told-number (suc k) n (inl e) = absurd (omega (arith, e))
+told-number (suc k) n (inl e) = absurd (omega arith)
 told-number (suc k) n (inr e) = sym e
 
 told-count : (k n : ℕ) → k ≡ 0 → correctionsOf (told k n) ≡ n
 unfolding correctionsOf
 told-count zero n e = refl
-told-count (suc k) n e = absurd (omega (arith, e))
+told-count (suc k) n e = absurd (omega arith)
 
 pub row-answered : (bs : List Shape) (s s′ : List ℕ) (x : Blocks) → T (rowHolds bs (totalSize bs)) → totalSize bs ≤ length s → Corrects bs 0 s s′ x
     → (numberOf x ≡ firstRefused (corrected bs (take (totalSize bs) s)))

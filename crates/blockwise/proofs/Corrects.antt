@@ -68,7 +68,7 @@ first n r = cond (eqb n 0) r n
 
 pub first-zero : (n r : ℕ) → first n r ≡ 0 → (n ≡ 0) × (r ≡ 0)
 first-zero zero r e = (refl, e)
-first-zero (suc n) r e = absurd (omega (arith, ap (λ (t : Bool). cond t r (suc n)) (eqb·suc-zero n), e))
+first-zero (suc n) r e = absurd (omega (arith, ap (λ (t : Bool). cond t r (suc n)) (eqb·suc-zero n)))
 
 -- ---- the stream that is left
 
@@ -191,7 +191,7 @@ passing-start bs a s h = record { same = sym (plus-zero (passed bs a s)); size =
 module _ {bs : List Shape} {a : ℕ} {s : List ℕ} {rest : List Shape} {a′ n : ℕ} {s′ : List ℕ} (P : Passing bs a s rest a′ n s′)
     (cs ds : List Shape) (e : rest ≡ cs ++ ds) where
   pub passing-room : a′ + totalSize cs + totalSize ds ≤ length s
-  passing-room = omega (arith, P .room, ap totalSize e, total-append cs ds)
+  passing-room = omega (arith, ap totalSize e, total-append cs ds)
 
   whole : {s″ : List ℕ} {r : Blocks} → Corrects cs a′ s′ s″ r → passed bs a s ≡ plus n (follow r s″ (passed ds (a′ + totalSize cs)))
   whole C =
@@ -208,7 +208,7 @@ module _ {bs : List Shape} {a : ℕ} {s : List ℕ} {rest : List Shape} {a′ n 
         ∙ (λ i. record { answer = more-more n m (passed ds a″ s″ .answer) i; stream = passed ds a″ s″ .stream });
     size = k ∙ P .size;
     room = omega (arith, passing-room);
-    few = omega (arith, P .few, ap correctionsOf f, corrects-le C (omega (arith, passing-room, P .size)));
+    few = omega (arith, ap correctionsOf f, corrects-le C (omega (arith, passing-room, P .size)));
   }
 
   pub passing-stop : {s″ : List ℕ} {r : Blocks} → Corrects cs a′ s′ s″ r → r ≡ Refused → Corrects bs a s s″ Refused

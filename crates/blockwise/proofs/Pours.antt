@@ -72,7 +72,7 @@ module _ (n d p : ℕ) {w : Way} {bs : List Shape} {a f : ℕ} {t s : List ℕ} 
   pub one-room : (a′ + w .fills (record { info = d; parity = p }) ≤ length s′) × (f′ + w .takes (record { info = d; parity = p }) ≤ length t)
   one-room =
       let R = pouring-room P (batch 1 d p) (batch (n - 1) d p) (batch-next n d p some) in
-      (omega (arith, R .into, sum-batch (w .fills) 1 d p), omega (arith, R .out, sum-batch (w .takes) 1 d p))
+      (omega (arith, sum-batch (w .fills) 1 d p), omega (arith, sum-batch (w .takes) 1 d p))
 
   pub one-next : {s″ : List ℕ} → s″ ≡ poured w (batch 1 d p) a′ f′ t s′ → length s″ ≡ length s′
       → Pouring w bs a f t s (batch (n - 1) d p) (a′ + w .fills (record { info = d; parity = p })) (f′ + w .takes (record { info = d; parity = p })) s″
@@ -83,7 +83,7 @@ module _ (n d p : ℕ) {w : Way} {bs : List Shape} {a f : ℕ} {t s : List ℕ} 
 -- the only block of a batch
 pub only-room : {w : Way} (b : Batch) {a f : ℕ} {t s : List ℕ} → b .count ≡ 1 → Room w (blocksIn b) a f t s
     → (a + w .fills (record { info = b .info; parity = b .parity }) ≤ length s) × (f + w .takes (record { info = b .info; parity = b .parity }) ≤ length t)
-only-room b e R = one-room (b .count) (b .info) (b .parity) (pouring-start R) (omega (arith, e))
+only-room b e R = one-room (b .count) (b .info) (b .parity) (pouring-start R) (omega arith)
 
 -- one batch of a row
 module _ (r : List ℕ) (k : ℕ) {w : Way} {bs : List Shape} {a f : ℕ} {t s : List ℕ} {a′ f′ : ℕ} {s′ : List ℕ} (P : Pouring w bs a f t s (behind k r) a′ f′ s′)
@@ -107,7 +107,7 @@ module _ {w : Way} {bs : List Shape} {a f : ℕ} {t s : List ℕ} {rest : List S
 
   pub pouring-place : a′ ≡ a + sum (w .fills) bs
   unfolding sum
-  pouring-place = omega (arith, P .place, ap (sum (w .fills)) e)
+  pouring-place = omega (arith, ap (sum (w .fills)) e)
 
 -- ---- what all blocks come to
 

@@ -56,12 +56,12 @@ pub each-settled : (bs : List Shape) (ws vs : List (List ℕ)) → Sound bs → 
     → (firstRefused (outcomes bs ws) ≡ 0) × (blocksOf (outcomes bs ws) ≡ vs) × (countOf (outcomes bs ws) ≡ differences ws vs)
 unfolding outcomes firstRefused blocksOf countOf differences settled zipWith
 each-settled [] [] [] S h E = (refl, refl, refl)
-each-settled [] [] (v ∷ vs) S h E = absurd (omega (arith, E .number))
+each-settled [] [] (v ∷ vs) S h E = absurd (omega arith)
 each-settled [] (w ∷ ws) vs S h E = absurd h
 each-settled (b ∷ bs) [] vs S h E = absurd h
-each-settled (b ∷ bs) (w ∷ ws) [] S h E = absurd (omega (arith, E .number))
+each-settled (b ∷ bs) (w ∷ ws) [] S h E = absurd (omega arith)
 each-settled (b ∷ bs) (w ∷ ws) (v ∷ vs) (more i p s S) h E =
-    let ih = each-settled bs ws vs S (h .1) (record { number = omega (arith, E .number); are = λ j l. E .are (suc j) (omega arith) }) in
+    let ih = each-settled bs ws vs S (h .1) (record { number = omega arith; are = λ j l. E .are (suc j) (omega arith) }) in
     let o : correctOf 0x163 1 (b .parity) w ≡ record { number = 0; count = distance w v; block = v } =
     block-settled b w i p s (h .0) ∙ ap (settled w) (E .are 0 (omega arith)) in (
       ap₂ (λ (o : BlockOutcome) (r : ℕ). first (o .number) r) o (ih .0),
@@ -117,14 +117,14 @@ coded-each bs ws vs S h C near = record { number = coded-number bs vs C; are = g
     go (b ∷ bs) [] vs S h C near j l = absurd h
     go (b ∷ bs) (w ∷ ws) [] S h C near j l = absurd C
     go (b ∷ bs) (w ∷ ws) (v ∷ vs) (more i p s S) h C near zero l =
-        near-some 0x163 1 (b .parity) w (passes 0x163 passes-163) (omega (arith, h .0)) v
+        near-some 0x163 1 (b .parity) w (passes 0x163 passes-163) (omega arith) v
         (record { size = C .0 .0 ∙ sym (h .0); bytes = C .0 .1; code = C .0 .2; near = omega (arith, near 0 (omega arith)) })
     go (b ∷ bs) (w ∷ ws) (v ∷ vs) (more i p s S) h C near (suc j) l = go bs ws vs S (h .1) (C .1) (λ k m. near (suc k) (omega arith)) j (omega arith)
 
 pub block-small : (bs : List Shape) (ws : List (List ℕ)) → Sound bs → Shaped bs ws → (j : ℕ) → j < length bs → length (blockAt ws j) ≤ 255
 block-small [] ws S h j l = absurd (omega arith)
 block-small (b ∷ bs) [] S h j l = absurd h
-block-small (b ∷ bs) (w ∷ ws) (more i p s S) h zero l = omega (arith, h .0)
+block-small (b ∷ bs) (w ∷ ws) (more i p s S) h zero l = omega arith
 block-small (b ∷ bs) (w ∷ ws) (more i p s S) h (suc j) l = block-small bs ws S (h .1) j (omega arith)
 
 -- what Correct a block gives for block j

@@ -75,7 +75,7 @@ module _ (bs : List Shape) (sound : Sound bs) where
     pub six-then-lost : firstRefused (corrected bs s) ≡ 6 → (j : ℕ) × (j < length bs) × (nearest 0x163 1 (parityAt bs j) (blockAt (cut bs s) j) ≡ none)
     six-then-lost e = elim (either bs (cut bs s) shaped) [
       | inl x ↦ x
-      | inr x ↦ absurd (omega (arith, e, each-settled bs (cut bs s) (x .0) sound shaped (x .1) .0))
+      | inr x ↦ absurd (omega (arith, each-settled bs (cut bs s) (x .0) sound shaped (x .1) .0))
     ]
 
     -- 0 only where each block has one, and then the blocks are left as these.
@@ -83,7 +83,7 @@ module _ (bs : List Shape) (sound : Sound bs) where
         → ((j : ℕ) → j < length bs → nearest 0x163 1 (parityAt bs j) (blockAt (cut bs s) j) ≡ some (blockAt (blocksOf (corrected bs s)) j))
         × (countOf (corrected bs s) ≡ differences (cut bs s) (blocksOf (corrected bs s)))
     zero-then-each e = elim (either bs (cut bs s) shaped) [
-      | inl x ↦ absurd (omega (arith, e, lost-refused bs (cut bs s) sound shaped x))
+      | inl x ↦ absurd (omega (arith, lost-refused bs (cut bs s) sound shaped x))
       | inr x ↦ (let q = each-settled bs (cut bs s) (x .0) sound shaped (x .1) in
           subst
           (λ (vs : List (List ℕ)). ((j : ℕ) → j < length bs → nearest 0x163 1 (parityAt bs j) (blockAt (cut bs s) j) ≡ some (blockAt vs j))

@@ -22,4 +22,4 @@ length-codewords (suc n) bs = ap suc (length-codewords n (drop 8 bs))
 pub codewords-back : (cs rest : List ℕ) → Bytes cs → codewordsOf (length cs) (bitsOf cs ++ rest) ≡ cs
 unfolding wordBits flatMap firstWords groups lowBits
 codewords-back [] rest h = refl
-codewords-back (c ∷ cs) rest h = ap₂ _∷_ (let e = value-low 8 0 c in omega (arith, h .0)) (codewords-back cs rest (h .1))
+codewords-back (c ∷ cs) rest h = ap₂ _∷_ (let e = value-low 8 0 c in omega arith) (codewords-back cs rest (h .1))

@@ -177,11 +177,11 @@ module _ (cs : List ℕ) where
     store-more p s h U =
         let qs = steps (p + 13) ((length cs + 12 - (p + 13)) / 13) ++ starts (length cs) (s + 1) (13 - (s + 1)) in
         let U′ : Storing cs out (p ∷ qs) i = subst (λ (ps : List ℕ). Storing cs out (ps ++ starts (length cs) (s + 1) (13 - (s + 1))) i) (steps-open (length cs) p h) U in
-        let l : i < length cs = omega (arith, U′ .rest) in (
+        let l : i < length cs = omega arith in (
           l,
           record {
             size = length-set out p (getD cs i 0) ∙ U .size;
-            rest = omega (arith, U′ .rest);
+            rest = omega arith;
             left = ap (λ (x : ℕ). storeAt qs (drop x cs) (set out p (getD cs i 0))) (add-one i) ∙ sym (ap (λ (x : List ℕ). storeAt (p ∷ qs) x out) (drop-cons cs i 0 l)) ∙ U′ .left;
           },
         )
@@ -215,13 +215,13 @@ module _ (s : List ℕ) where
     collect-more p k h U =
         let qs = steps (p + 13) ((length s + 12 - (p + 13)) / 13) ++ starts (length s) (k + 1) (13 - (k + 1)) in
         let U′ : Collecting s out (p ∷ qs) i = subst (λ (ps : List ℕ). Collecting s out (ps ++ starts (length s) (k + 1) (13 - (k + 1))) i) (steps-open (length s) p h) U in
-        let l : i < length s = omega (arith, U′ .rest) in (
+        let l : i < length s = omega arith in (
           l,
           record {
             size = length-set out i (getD s p 0) ∙ U .size;
-            rest = omega (arith, U′ .rest);
+            rest = omega arith;
             left = ap (λ (x : ℕ). take x (set out i (getD s p 0)) ++ map at-place qs) (add-one i)
-                ∙ ap (λ (x : List ℕ). x ++ map at-place qs) (take-suc-set out i (getD s p 0) (omega (arith, U .size)))
+                ∙ ap (λ (x : List ℕ). x ++ map at-place qs) (take-suc-set out i (getD s p 0) (omega arith))
                 ∙ append-assoc (take i out) (getD s p 0 ∷ []) (map at-place qs) ∙ U′ .left;
           },
         )
@@ -231,8 +231,8 @@ module _ (s : List ℕ) where
     collect-done k h U =
         let z : 13 - k ≡ 0 = omega arith in
         let e : starts (length s) k (13 - k) ≡ [] = ap (starts (length s) k) z in
-        let n : i ≡ length s = omega (arith, U .rest, ap length e) in
-        let f : take i out ++ map at-place (starts (length s) k (13 - k)) ≡ out = ap (λ (ps : List ℕ). take i out ++ map at-place ps) e ∙ append-nil (take i out) ∙ take-all i out (omega (arith, U .size)) in
+        let n : i ≡ length s = omega (arith, ap length e) in
+        let f : take i out ++ map at-place (starts (length s) k (13 - k)) ≡ out = ap (λ (ps : List ℕ). take i out ++ map at-place ps) e ∙ append-nil (take i out) ∙ take-all i out (omega arith) in
         sym f ∙ U .left
 
 -- To the stream: within one start, places p, p + 13, .. are left
@@ -265,7 +265,7 @@ module _ {total : ℕ} {cs out₀ : List ℕ} {start : ℕ} where
         ap (set (take total out) p) e ∙ sym (take-set-lt total out p (getD cs n 0) h) in
         record {
           few = s .few;
-          room = omega (arith, s .room, length-set out p (getD cs n 0));
+          room = omega (arith, length-set out p (getD cs n 0));
           whole = s .whole;
           kept = length-set out p (getD cs n 0) ∙ s .kept;
           beyond = drop-set-lt total out p (getD cs n 0) h ∙ s .beyond;
@@ -313,7 +313,7 @@ module _ {total : ℕ} {ss out₀ : List ℕ} {start : ℕ} where
         ap (set (take total out) n) e ∙ sym (take-set-lt total out n (getD ss p 0) k) in
         record {
           few = s .few;
-          room = omega (arith, s .room, length-set out n (getD ss p 0));
+          room = omega (arith, length-set out n (getD ss p 0));
           whole = s .whole;
           kept = length-set out n (getD ss p 0) ∙ s .kept;
           beyond = drop-set-lt total out n (getD ss p 0) k ∙ s .beyond;

@@ -58,7 +58,7 @@ put-room s at a b c d e f g h =
     let l5 = length-set (set (set (set (set s at a) (at + 1) b) (at + 2) c) (at + 3) d) (at + 4) e in
     let l6 = length-set (set (set (set (set (set s at a) (at + 1) b) (at + 2) c) (at + 3) d) (at + 4) e) (at + 5) f in
     let l7 = length-set (set (set (set (set (set (set s at a) (at + 1) b) (at + 2) c) (at + 3) d) (at + 4) e) (at + 5) f) (at + 6) g in
-    (omega (arith, l1), omega (arith, l1, l2), omega (arith, l1, l2, l3), omega (arith, l1, l2, l3, l4), omega (arith, l1, l2, l3, l4, l5), omega (arith, l1, l2, l3, l4, l5, l6), omega (arith, l1, l2, l3, l4, l5, l6, l7))
+    (omega arith, omega arith, omega arith, omega arith, omega arith, omega arith, omega arith)
 
 pub put-is : (s : List ℕ) (at a b c d e f g h : ℕ)
     → set (set (set (set (set (set (set (set s at a) (at + 1) b) (at + 2) c) (at + 3) d) (at + 4) e) (at + 5) f) (at + 6) g) (at + 7) h ≡ sets s at (a ∷ b ∷ c ∷ d ∷ e ∷ f ∷ g ∷ h ∷ [])
@@ -130,7 +130,7 @@ modules-hits (suc n) c ks h z =
     let f : suc c + n ≡ c + suc n = omega arith in
     let ih = modules-hits n (suc c) ks (omega arith) (λ k l. (let g : suc c + k ≡ c + suc k = omega arith in ap (λ (i : ℕ). getD ks i 0) g ∙ z (suc k) (omega arith))) in
     let one = ap dataModules (drop-cons ks c 0 (omega arith)) ∙ module-hit (getD ks c 0) (drop (suc c) ks) (ap (λ (i : ℕ). getD ks i 0) e ∙ z 0 (omega arith)) in
-    omega (arith, one, ih, ap (λ (i : ℕ). dataModules (drop i ks)) f)
+    omega (arith, ap (λ (i : ℕ). dataModules (drop i ks)) f)
 
 -- n bits in front
 bits-run : (cw : List ℕ) (n bit : ℕ) → bit + n ≤ 8 * length cw → drop bit (bitsOf cw) ≡ run n (λ k. getD (bitsOf cw) (bit + k) 0) ++ drop (bit + n) (bitsOf cw)
@@ -153,8 +153,8 @@ module _ {m : ℕ → ℕ} {ks whole after sq ds : List ℕ} {c : ℕ} (p : Plac
   placing-hits {sq′} n d rest h z e f =
       let new = run n (λ k. bitXor (d k) (m (c + k))) in
       let l : length (run n (λ k. bitXor (d k) (m (c + k)))) ≡ n = length-run n (λ k. bitXor (d k) (m (c + k))) in
-      let q : sq′ ≡ take c sq ++ run n (λ k. bitXor (d k) (m (c + k))) ++ drop (c + n) sq = f ∙ sets-eq new sq c (omega (arith, p .size)) ∙ ap (λ (i : ℕ). take c sq ++ new ++ drop (c + i) sq) l in
-      let o : length (take c sq) ≡ c = length-take-le c sq (omega (arith, p .size)) in
+      let q : sq′ ≡ take c sq ++ run n (λ k. bitXor (d k) (m (c + k))) ++ drop (c + n) sq = f ∙ sets-eq new sq c (omega arith) ∙ ap (λ (i : ℕ). take c sq ++ new ++ drop (c + i) sq) l in
+      let o : length (take c sq) ≡ c = length-take-le c sq (omega arith) in
       let w : length (take c sq ++ run n (λ k. bitXor (d k) (m (c + k)))) ≡ c + n = length-append (take c sq) new ∙ ap₂ _+_ o l in
       let front : take (c + n) sq′ ≡ take c sq ++ run n (λ k. bitXor (d k) (m (c + k))) = ap (take (c + n)) q ∙ take-at (take c sq ++ new) (drop (c + n) sq) (c + n) w in
       let back : drop (c + n) sq′ ≡ drop (c + n) sq = ap (drop (c + n)) q ∙ drop-at (take c sq ++ new) (drop (c + n) sq) (c + n) w in
@@ -175,7 +175,7 @@ module _ {m : ℕ → ℕ} {ks whole after sq ds : List ℕ} {c : ℕ} (p : Plac
   -- a module that stays as it is
   placing-miss : c < length ks → (getD ks c 0 ≡ 0 → ds ≡ []) → Placing m ks whole after sq ds (suc c)
   placing-miss h z =
-      let front : take (suc c) sq ≡ take c sq ++ (patternOf (getD ks c 0) ∷ []) = take-suc sq c 0 (omega (arith, p .size)) ∙ ap (λ (x : ℕ). take c sq ++ (x ∷ [])) (p .drawn .is c (omega arith) h) in
+      let front : take (suc c) sq ≡ take c sq ++ (patternOf (getD ks c 0) ∷ []) = take-suc sq c 0 (omega arith) ∙ ap (λ (x : ℕ). take c sq ++ (x ∷ [])) (p .drawn .is c (omega arith) h) in
       record {
         size = p .size;
         few = h;
@@ -227,11 +227,11 @@ pub puts-skip : {ks row cw sq : List ℕ} {p q : Cursor} → Skipped ks (p .colu
 puts-skip {ks} {row} {cw} {sq} {p} {q} s e = record {
   go = λ whole after g. subst (λ (i : ℕ). Placing (getD₀ row) ks whole after sq (drop i (bitsOf cw)) (q .column)) (sym e)
       (subst (Placing (getD₀ row) ks whole after sq (drop (p .bit) (bitsOf cw))) f
-      (placing-skip (q .column - p .column) (p .column) (omega (arith, s .most, s .least)) (λ k lo hi. s .none k lo (omega arith)) g));
+      (placing-skip (q .column - p .column) (p .column) (omega arith) (λ k lo hi. s .none k lo (omega arith)) g));
 }
   where
     f : p .column + (q .column - p .column) ≡ q .column
-    f = omega (arith, s .least)
+    f = omega arith
 
 pub puts-none : {ks row cw sq : List ℕ} {p : Cursor} → Puts ks row cw sq sq p p
 puts-none = record { go = λ whole after g. g }
@@ -246,7 +246,7 @@ puts-all {ks} {row} {cw} {a} {b} {p} {q} f h = record {
   go = λ whole after k.
       let g = f .go whole after k in
       let none : drop (q .column) ks ≡ [] = drop-of-length-le ks {i = q .column} h in
-      let all : take (q .column) b ≡ b = take-all (q .column) b (omega (arith, g .size)) in
+      let all : take (q .column) b ≡ b = take-all (q .column) b (omega arith) in
       (sym (append-nil b) ∙ sym (ap₂ (λ (u v : List ℕ). u ++ placed (getD₀ row) (q .column) v (drop (q .bit) (bitsOf cw))) all none) ∙ g .is, sym (ap (λ (v : List ℕ). drop (dataModules v) (drop (q .bit) (bitsOf cw))) none) ∙ g .left);
 }
 

@@ -65,13 +65,13 @@ placing-row {whole} {after} {sq} {sq′} {ds} {ds′} {new} m ks row i side p h 
     let both : placed m (i * side) (drop (i * side) ks) ds ≡ new ++ placed m (i * side + side) (drop (i * side + side) ks) ds′ =
     ap (λ (u : List ℕ). placed m at u ds) whole-row ∙ placed-append m at us vs ds ∙ ap₂ (λ (u : List ℕ) (n : ℕ). u ++ placed m (at + n) vs (drop (dataModules us) ds)) same l ∙ ap (λ (u : List ℕ). new ++ placed m (at + side) vs u) (sym f) in
     let n : length new ≡ side = ap length (sym same) ∙ length-placed m at us ds ∙ l in
-    let o : length (take (i * side) sq) ≡ i * side = length-take-le at sq (omega (arith, p .size)) in
+    let o : length (take (i * side) sq) ≡ i * side = length-take-le at sq (omega arith) in
     let w : length (take (i * side) sq ++ new) ≡ i * side + side = length-append (take at sq) new ∙ ap₂ _+_ o n in
     let q : sq′ ≡ take (i * side) sq ++ new ++ drop (i * side + side) sq =
     g ∙ sym (append-assoc (take at sq) new (drop (at + side - at) (drop at sq))) ∙ ap (λ (u : List ℕ). take at sq ++ new ++ u) (drop-drop (at + side - at) at sq ∙ (let z : i * side + (i * side + side - i * side) ≡ i * side + side = omega arith in ap (λ (k : ℕ). drop k sq) z)) in
     let front : take (i * side + side) sq′ ≡ take (i * side) sq ++ new = ap (take (at + side)) q ∙ take-at (take at sq ++ new) (drop (at + side) sq) (at + side) w in
     let back : drop (i * side + side) sq′ ≡ drop (i * side + side) sq = ap (drop (at + side)) q ∙ drop-at (take at sq ++ new) (drop (at + side) sq) (at + side) w in
-    let size : length sq′ ≡ length sq = ap length q ∙ length-append (take at sq ++ new) (drop (at + side) sq) ∙ omega (arith, w, length-drop (i * side + side) sq, p .size) in
+    let size : length sq′ ≡ length sq = ap length q ∙ length-append (take at sq ++ new) (drop (at + side) sq) ∙ omega (arith, length-drop (i * side + side) sq) in
     subst (Placing m ks whole after sq′ ds′) (row-next i side) (record {
       size = size ∙ p .size;
       few = h;
@@ -88,4 +88,4 @@ placing-row {whole} {after} {sq} {sq′} {ds} {ds′} {new} m ks row i side p h 
 pub placing-done : {m : ℕ → ℕ} {ks whole after sq ds : List ℕ} {i : ℕ} → Placing m ks whole after sq ds i → length ks ≤ i → sq ≡ whole
 unfolding placed
 placing-done {m} {ks} {whole} {after} {sq} {ds} {i} p h =
-    sym (append-nil sq) ∙ sym (ap₂ (λ (u v : List ℕ). u ++ placed m i v ds) (take-all i sq (omega (arith, p .size))) (drop-of-length-le ks {i = i} h)) ∙ p .is
+    sym (append-nil sq) ∙ sym (ap₂ (λ (u v : List ℕ). u ++ placed m i v ds) (take-all i sq (omega arith)) (drop-of-length-le ks {i = i} h)) ∙ p .is

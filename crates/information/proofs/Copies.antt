@@ -16,7 +16,7 @@ use Rattle.information.proofs.Distinct.{row-lt, place-lt}
 
 module _ (s n : ℕ) (big : 23 ≤ s) (hi : s ≤ 189) (h : n < 34) {r : ℕ} (d : r ≡ positionRow n) where
   pub row-fits : r * s ≤ 1701
-  row-fits = mul-le-mul (let e : r ≤ 9 = omega (arith, d, row-lt s big n) in e) hi
+  row-fits = mul-le-mul (let e : r ≤ 9 = omega (arith, row-lt s big n) in e) hi
 
   module _ {c : ℕ} (e : c ≡ positionColumn s n) where
     pub first-is : r * s + c ≡ infoPosition s false n

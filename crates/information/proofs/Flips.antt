@@ -70,7 +70,7 @@ counted place (suc n) ks g h e d a b =
     let l = removed-length place n ks in
     let ih = counted place n ks g h (λ k q. e k (omega arith)) (λ j k p q. d j k (omega arith) (omega arith)) a b in
     let w = without (removed place n ks) g h (place n) (removed-else place n ks (place n) (λ k q z. let y : n ≡ k = d n k (omega arith) (omega arith) z in omega arith) ∙ e n (omega arith)) (a ∙ sym l) (b ∙ sym l) in
-    omega (arith, ih, w)
+    omega arith
 
 -- both copies
 both : (v : ℕ) → 1 ≤ v → (g h : List ℕ) → length g ≡ sideOf v * sideOf v → length h ≡ sideOf v * sideOf v
@@ -85,7 +85,7 @@ both v lo g h a b =
     let second = counted (infoPosition (sideOf v) true) 34 (removed (infoPosition (sideOf v) false) 34 (layoutOf v)) g h
     (λ k q. removed-else (infoPosition (sideOf v) false) 34 (layoutOf v) (infoPosition (sideOf v) true k) (λ j r z. place-other (sideOf v) big j k r q (sym z)) ∙ info-kind v lo true k q)
     (place-same (sideOf v) big true) (a ∙ sym l) (b ∙ sym l) in
-    omega (arith, first, second)
+    omega arith
 
 -- a square of bits whose two copies are word k: the distance of another square from that word is at most the information modules that differ
 pub flips-distance : (v k : ℕ) (g h : List ℕ) → 1 ≤ v → length g ≡ sideOf v * sideOf v → length h ≡ sideOf v * sideOf v
@@ -99,7 +99,7 @@ flips-distance v k g h lo lg lh p q a b =
     + differing (λ n. getD g (infoPosition (sideOf v) true n) 0) (λ n. getD h (infoPosition (sideOf v) true n) 0) 34 =
     ap₂ (λ (x y : ℕ). ones (bitXor x (copyOf (sideOf v) false h)) + ones (bitXor y (copyOf (sideOf v) true h))) (sym a) (sym b)
     ∙ ap₂ (λ (x y : ℕ). x + y) (copies false) (copies true) in
-    omega (arith, d, both v lo g h lg lh)
+    omega (arith, both v lo g h lg lh)
   where
     copies : (second : Bool) → ones (bitXor (copyOf (sideOf v) second g) (copyOf (sideOf v) second h))
         ≡ differing (λ n. getD g (infoPosition (sideOf v) second n) 0) (λ n. getD h (infoPosition (sideOf v) second n) 0) 34

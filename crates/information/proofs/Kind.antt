@@ -59,7 +59,7 @@ module _ (s : ℕ) (big : 23 ≤ s) where
       let a : (s - 1 - r + (r + 1)) * s ≡ s * s = ap (λ (k : ℕ). k * s) (let z : s - 1 - r + (r + 1) ≡ s = omega arith in z) in
       let b : (s - 1 - r + (r + 1)) * s ≡ (s - 1 - r) * s + (r + 1) * s = add-mul (s - 1 - r) (r + 1) s in
       let d : (r + 1) * s ≡ r * s + 1 * s = add-mul r 1 s in
-      omega (arith, a, b, d)
+      omega arith
 
 one : (v r c : ℕ) → r < sideOf v → c < sideOf v → ring (sideOf v) r c ≡ 8 → getD (layoutOf v) (r * sideOf v + c) 0 ≡ 1
 unfolding cornerAt

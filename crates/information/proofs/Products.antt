@@ -43,7 +43,7 @@ least-more d k x {b} {r} f e h c = subst (λ (n : ℕ). Found d (leastOf d n) r)
     by : (t : Bool) → ltb (d (suc k)) (d (leastOf d k)) ≡ t → Found d (cond t (suc k) (leastOf d k)) r
     by true p =
         let w : r .word ≡ k + 1 = c .0 ∙ ap (λ (t : Bool). cond t (k + 1) (b .word)) (test true p) in
-        record { word-is = w ∙ add-one k; at = c .1 ∙ ap (λ (t : Bool). cond t x (b .distance)) (test true p) ∙ x-is; small = omega (arith, w) }
+        record { word-is = w ∙ add-one k; at = c .1 ∙ ap (λ (t : Bool). cond t x (b .distance)) (test true p) ∙ x-is; small = omega arith }
     by false p =
         let w : r .word ≡ b .word = c .0 ∙ ap (λ (t : Bool). cond t (k + 1) (b .word)) (test false p) in
-        record { word-is = w ∙ f .word-is; at = c .1 ∙ ap (λ (t : Bool). cond t x (b .distance)) (test false p) ∙ f .at; small = omega (arith, w, f .small) }
+        record { word-is = w ∙ f .word-is; at = c .1 ∙ ap (λ (t : Bool). cond t x (b .distance)) (test false p) ∙ f .at; small = omega arith }

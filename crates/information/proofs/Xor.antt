@@ -50,7 +50,7 @@ differ-le (suc x) (suc y) = omega (arith, differ-le x y)
 pub ones-xor-le : (a b : ℕ) → ones (bitXor a b) ≤ ones a + ones b
 ones-xor-le = bin-ind (λ (n : ℕ). (b : ℕ) → ones (bitXor n b) ≤ ones n + ones b) (λ b. rw (xor-zero-l) (omega arith)) (λ n ih b.
     let e : ones (bitXor n b) ≡ differ (n % 2) (b % 2) + ones (bitXor (n / 2) (b / 2)) = ones-step (bitXor n b) ∙ ap₂ (λ (x y : ℕ). x + ones y) (xor-odd n b) (xor-half n b) in
-    omega (arith, e, ih (b / 2), differ-le (n % 2) (b % 2), ones-step n, ones-step b))
+    omega (arith, ih (b / 2), differ-le (n % 2) (b % 2), ones-step n, ones-step b))
 
 -- the distance between two words, through a third
 pub triangle : (a b c : ℕ) → ones (bitXor a c) ≤ ones (bitXor a b) + ones (bitXor b c)

@@ -16,7 +16,7 @@ four-lt a b c d p q r s = omega arith
 -- four bits brought together by a product
 nibble-is : (a b c d : ℕ) → a < 2 → b < 2 → c < 2 → d < 2 → fourOf a b c d * 134480385 / 16777216 % 16 ≡ a * 8 + b * 4 + c * 2 + d
 nibble-is a b c d ha hb hc hd =
-    let q : fourOf a b c d * 134480385 / 16777216 ≡ (b * 128 + c * 32832 + d * 8405024) * 16 + (a * 8 + b * 4 + c * 2 + d) = omega (arith, sum) in
+    let q : fourOf a b c d * 134480385 / 16777216 ≡ (b * 128 + c * 32832 + d * 8405024) * 16 + (a * 8 + b * 4 + c * 2 + d) = omega arith in
     rw q (digits-mod (b * 128 + c * 32832 + d * 8405024) (omega arith))
   where
     sum : fourOf a b c d * 134480385 ≡ ((b * 128 + c * 32832 + d * 8405024) * 16 + (a * 8 + b * 4 + c * 2 + d)) * 16777216 + (a * 262657 + b * 131328 + c * 65536)

@@ -54,7 +54,7 @@ masked sq at side g r s h = record { side = omega (arith, part-length at side sq
 
 pub aligned : {mask : ℕ} {ks sq row : List ℕ} (at side : ℕ) → Legible ks sq → Row mask row → side ≤ 189 → at + side ≤ length sq → Aligned (part at (at + side) ks) (part at (at + side) sq) row
 aligned {mask} {ks} {sq} {row} at side g r s h =
-    let k : length (part at (at + side) ks) ≡ side = part-length at side ks (omega (arith, g .kinds)) in
+    let k : length (part at (at + side) ks) ≡ side = part-length at side ks (omega arith) in
     let l : length (part at (at + side) sq) ≡ side = part-length at side sq h in
     record { masked = masked sq at side (g .bits) (r .small) s h; size = l ∙ sym k; room = r .size }
 
@@ -158,9 +158,9 @@ rows-done {total} {all} {out} {r} m ks sq i h p k =
     let w = k .words in
     let z : length (lowBits (r .bits) (r .value) ++ bitsFrom m ks sq i) ≡ r .bits =
     length-append (lowBits (r .bits) (r .value)) (bitsFrom m ks sq i) ∙ ap₂ _+_ (length-low (r .bits) (r .value)) (ap length (bits-none m ks sq i h)) ∙ omega arith in
-    let n : r .n ≡ total = omega (arith, w .few, w .enough, z, p .few) in
+    let n : r .n ≡ total = omega arith in
     let e : total - r .n ≡ 0 = omega arith in
-    sym (take-all (r .n) out (omega (arith, w .size))) ∙ sym (append-nil (take (r .n) out)) ∙ sym (ap (λ (j : ℕ). take (r .n) out ++ codewordsOf j (lowBits (r .bits) (r .value) ++ bitsFrom m ks sq i)) e) ∙ w .is
+    sym (take-all (r .n) out (omega arith)) ∙ sym (append-nil (take (r .n) out)) ∙ sym (ap (λ (j : ℕ). take (r .n) out ++ codewordsOf j (lowBits (r .bits) (r .value) ++ bitsFrom m ks sq i)) e) ∙ w .is
 
 -- The first total codewords in front of what stood behind them.
 pub first-codewords : {out′ : List ℕ} (out all : List ℕ) (total : ℕ) → total ≤ length out → out′ ≡ codewordsOf (length (take total out)) all → out′ ++ drop total out ≡ codewordsOf total all ++ drop total out

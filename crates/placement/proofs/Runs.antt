@@ -49,7 +49,7 @@ leads x =
     let few = trailing-le 64 x in
     let e : trailingZeros 64 x ≡ trailingZeros 64 x % 8 + 8 * (trailingZeros 64 x / 8) = omega arith in
     record {
-      most = omega (arith, few);
+      most = omega arith;
       zeros = sym (mod-mod-pow x (t % 8) (8 * (t / 8))) ∙ ap (λ (y : ℕ). y % 2 ^ (8 * (t / 8))) (sym (ap (λ (n : ℕ). x % 2 ^ n) e) ∙ trailing-zeros 64 x) ∙ zero-mod (2 ^ (8 * (t / 8)));
       first = λ z. omega (arith, trailing-most 64 x 8 (omega arith) z);
     }
@@ -99,7 +99,7 @@ pub no-data-are : {k w : ℕ} → Leads (holes k) w → NoData k w
 no-data-are {k} {w} l = record {
   least = l .first (holes-first k);
   most = l .most;
-  none = λ j p h z. omega (arith, lead-byte l j h, holes-at k j p (omega (arith, l .most)) z);
+  none = λ j p h z. omega (arith, lead-byte l j h, holes-at k j p (omega arith) z);
 }
 
 -- From column to column.
@@ -124,7 +124,7 @@ module _ (ks : List ℕ) (c : ℕ) {k : ℕ} (bytes : (i : ℕ) → getD ks i 0 
     where
       kind : (j : ℕ) → j < w → getD ks (c + j) 0 ≢ 0
       kind zero q z = let y : k / 1 ≡ k = omega arith in first (ap (λ (i : ℕ). i % 256) (sym y) ∙ byte-is 0 (omega arith) ∙ z)
-      kind (suc j) q z = u .none (suc j) (omega arith) q (byte-is (suc j) (omega (arith, u .most)) ∙ z)
+      kind (suc j) q z = u .none (suc j) (omega arith) q (byte-is (suc j) (omega arith) ∙ z)
 
 first-are : {ks sq row : List ℕ} {b : ℕ → ℕ} {c k x left g : ℕ} → Next ks sq row b c k x left → Gathered x g → (w : ℕ) → w ≤ left → left ≤ 8 → g / 2 ^ (8 - w) ≡ value 0 (run w (unmaskedAt sq row c))
 first-are {sq = sq} {row = row} {b = b} {c = c} n g w h l =
@@ -137,15 +137,15 @@ module _ {k x left : ℕ} {out : List ℕ} {r s : Run} (some : 0 < left) (few : 
   moves-push {g = g} w l a b p e f q = record {
     go = λ ks sq row u n. (
       omega arith,
-      omega (arith, n .inside),
-      goes-push (n .aligned .masked) (n .aligned .size) w (g / 2 ^ (8 - w)) (omega (arith, n .inside)) (λ j h. sym (byte-is ks (r .column) (n .bytes) (n .kinds) j (omega arith)) ∙ lead-byte l j (omega arith)) (first-are n e w b few) f q,
+      omega arith,
+      goes-push (n .aligned .masked) (n .aligned .size) w (g / 2 ^ (8 - w)) (omega arith) (λ j h. sym (byte-is ks (r .column) (n .bytes) (n .kinds) j (omega arith)) ∙ lead-byte l j (omega arith)) (first-are n e w b few) f q,
     );
   }
 
   pub moves-skip : {w : ℕ} → Leads k 0 → NoData k w → s .column ≡ r .column + w → s .n ≡ r .n → s .value ≡ r .value → s .bits ≡ r .bits → Moves k x left out out r s
   moves-skip {w} l u e f g h = record {
     go = λ ks sq row b n.
-        let q = subst (Skipped ks (r .column)) (sym e) (passed ks (r .column) (n .bytes) (n .kinds) (omega (arith, n .inside)) (λ z. omega (arith, l .first z)) u) in (omega (arith, u .least), q .most, goes-skip (n .aligned .masked) (n .aligned .size) q f g h);
+        let q = subst (Skipped ks (r .column)) (sym e) (passed ks (r .column) (n .bytes) (n .kinds) (omega arith) (λ z. omega (arith, l .first z)) u) in (omega arith, q .most, goes-skip (n .aligned .masked) (n .aligned .size) q f g h);
   }
 
 -- Eight bytes of a list that end with it, shifted down.

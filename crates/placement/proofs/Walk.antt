@@ -128,10 +128,10 @@ module _ {total : ℕ} {all out : List ℕ} {n : ℕ} where
   words-next : {out′ : List ℕ} {n′ : ℕ} (y : ℕ) (tail : List ℕ) → y < 256 → Stored n y out out′ n′ → Words total all out (lowBits 8 y ++ tail) n → Words total all out′ tail n′
   unfolding firstWords groups
   words-next {out′} {n′} y tail small s w = elim (decLt n total) [
-    | yes h ↦ (let l : n < length out = omega (arith, w .size) in
+    | yes h ↦ (let l : n < length out = omega arith in
         let k = s .room l in
         subst (λ (o : List ℕ). Words total all o tail n′) (sym (k .1)) (subst (λ (i : ℕ). Words total all (set out n y) tail i) (sym (k .0)) (more h l)))
-    | no h ↦ (let k = s .full (omega (arith, w .size)) in
+    | no h ↦ (let k = s .full (omega arith) in
         let z : total - n ≡ 0 = omega arith in
         let is : take n out ++ codewordsOf (total - n) tail ≡ codewordsOf total all = ap (λ (i : ℕ). take n out ++ codewordsOf i tail) z ∙ sym (ap (λ (i : ℕ). take n out ++ codewordsOf i (lowBits 8 y ++ tail)) z) ∙ w .is in
         subst (λ (o : List ℕ). Words total all o tail n′) (sym (k .1)) (subst (λ (i : ℕ). Words total all out tail i) (sym (k .0)) (record { size = w .size; few = w .few; enough = omega arith; is = is })))
@@ -148,7 +148,7 @@ module _ {total : ℕ} {all out : List ℕ} {n : ℕ} where
           record {
             size = length-set out n y ∙ w .size;
             few = omega arith;
-            enough = omega (arith, w .enough, length-append (lowBits 8 y) tail, length-low 8 y);
+            enough = omega (arith, length-append (lowBits 8 y) tail, length-low 8 y);
             is = ap (λ (u : List ℕ). u ++ codewordsOf (total - (n + 1)) tail) front ∙ append-assoc (take n out) (y ∷ []) (codewordsOf (total - (n + 1)) tail)
                 ∙ sym (ap (λ (i : ℕ). take n out ++ codewordsOf i (lowBits 8 y ++ tail)) k ∙ ap₂ (λ (x : ℕ) (u : List ℕ). take n out ++ (x ∷ codewordsOf (total - (n + 1)) u)) first back) ∙ w .is;
           }
@@ -188,11 +188,11 @@ module _ {r : Run} (p : Pending r) (w x : ℕ) (short : w ≤ 8) (hx : x < 2 ^ w
   pub full-pushed : {s : Run} {out out′ : List ℕ} (left : ℕ) → r .bits + w ≡ 8 + left → s .value ≡ (r .value * 2 ^ w + x) % 256 → s .bits ≡ left
       → Stored (r .n) ((r .value * 2 ^ w + x) / 2 ^ left % 256) out out′ (s .n) → Pending s × Pushed w x out out′ r s
   full-pushed {s} {out} {out′} left l v b st = (
-    record { few = omega (arith, p .few); small = omega (arith, byte, pow-le-pow-right {n = 2} (lit< tt) {i = 8} {j = 8 + s .bits} (omega arith)) },
+    record { few = omega arith; small = omega (arith, pow-le-pow-right {n = 2} (lit< tt) {i = 8} {j = 8 + s .bits} (omega arith)) },
     record {
       go = λ total all rest k.
           let e : lowBits (r .bits) (r .value) ++ (lowBits w x ++ rest) ≡ lowBits 8 y ++ (lowBits left z ++ rest) =
-          together rest ∙ ap (λ (n : ℕ). lowBits n u ++ rest) l ∙ ap (λ (q : List ℕ). q ++ rest) (low-apart left u (omega (arith, p .few))) ∙ append-assoc (lowBits 8 y) (lowBits left z) rest in
+          together rest ∙ ap (λ (n : ℕ). lowBits n u ++ rest) l ∙ ap (λ (q : List ℕ). q ++ rest) (low-apart left u (omega arith)) ∙ append-assoc (lowBits 8 y) (lowBits left z) rest in
           let f : lowBits left z ++ rest ≡ lowBits (s .bits) (s .value) ++ rest = sym (ap₂ (λ (i j : ℕ). lowBits i j ++ rest) b v) in
           record { words = same-words f (words-next y (lowBits left z ++ rest) (mod-lt (u / 2 ^ left) (lit< tt)) st (same-words e (k .words))) };
     },
@@ -266,7 +266,7 @@ module _ {ks sq row : List ℕ} (a : Masked sq row) (size : length sq ≡ length
   goes-push {out} {out′} {r} {s} n x h z e f q = record {
     go = λ total all rest k.
         let b : rowBits ks sq row (r .column) ≡ lowBits n x ++ rowBits ks sq row (s .column) =
-        from-hits (λ k. getD row k 0) ks sq (omega (arith, size)) n (r .column) (omega (arith, size)) z
+        from-hits (λ k. getD row k 0) ks sq (omega arith) n (r .column) (omega arith) z
         ∙ ap₂ _++_ (run-low n x (unmaskedAt sq row (r .column)) (bits-small a (r .column)) (sym e)) (ap (rowBits ks sq row) (sym f)) in
         q .go total all (rowBits ks sq row (s .column) ++ rest)
         (subst (λ (l : List ℕ). Walk total all out l r) (ap (λ (l : List ℕ). l ++ rest) b ∙ append-assoc (lowBits n x) (rowBits ks sq row (s .column)) rest) k);
@@ -284,8 +284,8 @@ module _ {ks sq row : List ℕ} (a : Masked sq row) (size : length sq ≡ length
     where
       passed : rowBits ks sq row (r .column) ≡ rowBits ks sq row (s .column)
       passed =
-          let e : r .column + (s .column - r .column) ≡ s .column = omega (arith, q .least) in
-          from-misses (λ k. getD row k 0) ks sq (omega (arith, size)) (s .column - r .column) (r .column) (omega (arith, size, q .least, q .most)) (λ k l h. q .none k l (omega arith)) ∙ ap (rowBits ks sq row) e
+          let e : r .column + (s .column - r .column) ≡ s .column = omega arith in
+          from-misses (λ k. getD row k 0) ks sq (omega arith) (s .column - r .column) (r .column) (omega arith) (λ k l h. q .none k l (omega arith)) ∙ ap (rowBits ks sq row) e
 
 pub goes-none : {ks sq row out : List ℕ} {r : Run} → Goes ks sq row out out r r
 goes-none = record { go = λ total all rest k. k }

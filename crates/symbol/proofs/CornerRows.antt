@@ -238,7 +238,7 @@ module _ (s r : ℕ) (big : 23 ≤ s) (in-row : r < s) where
   finder-row left right near l q {g} {g₁} {g₂} room a b =
       two-ends (let z : r * s + 8 + 1 ≡ r * s + 9 = omega arith in z) (let z : r * s + s - 9 + 9 ≡ r * s + s = omega arith in z)
       (let z : r * s + s - 8 + 8 ≡ r * s + s = omega arith in z)
-      (stored-more (omega arith) (omega (arith, a .size)) (sym (row-kind s r 8 (omega arith) ∙ left-information s r big in-row near))
+      (stored-more (omega arith) (omega arith) (sym (row-kind s r 8 (omega arith) ∙ left-information s r big in-row near))
       (stored-as (cornerKind s) (along s r (λ i. 2 + 2 * left / 2 ^ (7 - (i - r * s)) % 2) (omega arith) (omega arith) lefts) a))
       (stored-next (omega arith) (omega arith) middle
       (stored-as (cornerKind s) (along s r (λ i. 2 + right / 2 ^ (7 - (i - (r * s + s - 8))) % 2) (omega arith) (omega arith) rights) b))
@@ -249,7 +249,7 @@ module _ (s r : ℕ) (big : 23 ≤ s) (in-row : r < s) where
           let e : r * s + (s - 9) ≡ r * s + s - 9 = omega arith in
           let k : 1 ≡ cornerKind s (r * s + s - 9) = sym (ap (cornerKind s) (sym e) ∙ row-kind s r (s - 9) (omega arith)
           ∙ right-information s r big in-row near) in
-          rw z at (stored-more {from = r * s + s - 9} (omega arith) (omega (arith, a .size, length-set g₁ (r * s + 8) 1)) k
+          rw z at (stored-more {from = r * s + s - 9} (omega arith) (omega (arith, length-set g₁ (r * s + 8) 1)) k
           (stored-none (cornerKind s) (r * s + s - 9) (set g₁ (r * s + 8) 1)))
 
       lefts : (k : ℕ) → r * s ≤ r * s + k → r * s + k < r * s + 8 → 2 + 2 * left / 2 ^ (7 - (r * s + k - r * s)) % 2 ≡ cornerAt s r k

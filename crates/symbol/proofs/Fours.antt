@@ -58,7 +58,7 @@ module _ (g : List ℕ) (at x : ℕ) (h : at + 4 ≤ length g) where
   next : (k v : ℕ) (g' : List ℕ) → k < 4 → v ≡ x / 256 ^ k % 256 → Stored byteAt at (at + k) g g' → Stored byteAt at (at + (k + 1)) g (set g' (at + k) v)
   next k v g' l e s =
       let f : at + k + 1 ≡ at + (k + 1) = omega arith in
-      subst (λ (n : ℕ). Stored byteAt at n g (set g' (at + k) v)) f (stored-more (omega arith) (omega (arith, s .size)) (e ∙ sym (nth k)) s)
+      subst (λ (n : ℕ). Stored byteAt at n g (set g' (at + k) v)) f (stored-more (omega arith) (omega arith) (e ∙ sym (nth k)) s)
 
   pub stored-four : (a b c d : ℕ) → a ≡ x % 256 → b ≡ x / 256 % 256 → c ≡ x / 65536 % 256 → d ≡ x / 16777216 % 256
       → Stored byteAt at (at + 4) g (set (set (set (set g at a) (at + 1) b) (at + 2) c) (at + 3) d)

@@ -24,7 +24,7 @@ module _ (s c r : ℕ) (ci : c < s) (ri : r < s) where
 
   -- the light run lies in the next row, if there is one
   pub room-below : r + 1 < s → r * s + c + s < s * s
-  room-below h = omega (arith, digits-lt h ci, next-row)
+  room-below h = omega (arith, digits-lt h ci)
 
   pub record Here (n : ℕ) : Type 0 where
     pub room : r * s + c < n
@@ -61,16 +61,16 @@ module _ (s c r : ℕ) (ci : c < s) (ri : r < s) where
     -- turn j meets place p with its dark module, or with its light one
     dark-is : (j : ℕ) → placeAt s (pos c -ℤ pos j) (pos r) ≡ p → (j ≤ c) × (p + j ≡ r * s + c)
     dark-is j e = elim (decLt c j) [
-      | yes l ↦ absurd (omega (arith, dark-out j l, e))
-      | no l ↦ (omega arith, let k : j ≤ c = omega arith in omega (arith, dark-in j k, e))
+      | yes l ↦ absurd (omega (arith, dark-out j l))
+      | no l ↦ (omega arith, let k : j ≤ c = omega arith in omega (arith, dark-in j k))
     ]
 
     light-is : (j : ℕ) → placeAt s (pos c -ℤ pos j -ℤ pos 1) (pos r +ℤ pos 1) ≡ p → (j + 1 ≤ c) × (r + 1 < s) × (p + (j + 1) ≡ r * s + c + s)
     light-is j e = elim (decLt c (j + 1)) [
-      | yes l ↦ absurd (omega (arith, light-left j l, e))
+      | yes l ↦ absurd (omega (arith, light-left j l))
       | no l ↦ elim (decLt (r + 1) s) [
-        | yes k ↦ (omega arith, k, let q : j + 1 ≤ c = omega arith in omega (arith, light-in j q k, e))
-        | no k ↦ absurd (let q : j + 1 ≤ c = omega arith in let m : s ≤ r + 1 = omega arith in omega (arith, light-below j q m, e))
+        | yes k ↦ (omega arith, k, let q : j + 1 ≤ c = omega arith in omega (arith, light-in j q k))
+        | no k ↦ absurd (let q : j + 1 ≤ c = omega arith in let m : s ≤ r + 1 = omega arith in omega (arith, light-below j q m))
       ]
     ]
 
@@ -116,8 +116,8 @@ module _ (s c r : ℕ) (ci : c < s) (ri : r < s) where
       light-part : (p : ℕ) → p < s * s → lo ≤ p → p < hi → getD g'' p 0 ≡ at p
       light-part p h m n =
           let o = on p m n in
-          l .here p m n ∙ ap (λ (b : ℕ). drawn b 2) (d .after p (omega (arith, o .1)))
-          ∙ sym (ap (drawn (getD g p 0)) (light-first p h w (r * s + c + s - (p + 1)) (omega (arith, o .0, o .2)) (omega (arith, o .1, o .2)) (o .3) (omega (arith, o .2))))
+          l .here p m n ∙ ap (λ (b : ℕ). drawn b 2) (d .after p (omega arith))
+          ∙ sym (ap (drawn (getD g p 0)) (light-first p h w (r * s + c + s - (p + 1)) (omega arith) (omega arith) (o .3) (omega arith)))
 
       dark-part : (p : ℕ) → p < s * s → (lo ≤ p → p < hi → ⊥) → r * s + c ≤ p + a → p < r * s + c + 1 → getD g'' p 0 ≡ at p
       dark-part p h n u v = beside p n ∙ d .here p (omega arith) v ∙ sym (ap (drawn (getD g p 0)) (dark-first p h w (r * s + c - p) (omega arith) (omega arith) (omega arith)))

@@ -61,7 +61,7 @@ spaced p lo hi s k m r =
     }
 
 pub roomy : {p : Spacing} {g g' : List ℕ} → Roomy p g → length g' ≡ length g → Roomy p g'
-roomy q e = record { spaced = q .spaced; room = omega (arith, q .room) }
+roomy q e = record { spaced = q .spaced; room = omega arith }
 
 module _ {p : Spacing} (q : Spaced p) where
   pub near-step : (n : ℕ) → n < p .m → stepOf (p .version) n ≡ p .k

@@ -42,7 +42,7 @@ stored-as h e s = record { size = s .size; here = λ i l r. s .here i l r ∙ e 
 -- from the start on
 pub stored-all : {f : ℕ → ℕ} {n : ℕ} {g g' : List ℕ} → n ≤ length g → Stored f 0 n g g' → g' ≡ table n f ++ drop n g
 stored-all {f} {n} {g} {g'} h s =
-    ext-getD 0 g' (table n f ++ drop n g) (omega (arith, s .size, length-append (table n f) (drop n g), length-table n f, length-drop n g))
+    ext-getD 0 g' (table n f ++ drop n g) (omega (arith, length-append (table n f) (drop n g), length-table n f, length-drop n g))
     (λ i l. elim (decLt i n) [
       | yes y ↦ s .here i (omega arith) y ∙ sym (List·getD-append (table n f) (drop n g) 0 i (omega (arith, length-table n f)) ∙ getD-table n f i y)
       | no k ↦ s .after i (omega arith) ∙ sym (far i (omega arith))

@@ -26,7 +26,7 @@ correct-batch-requires c κs =
     let batch-of = c .before .batch-of in
     let loop = c .before .before .before .loop in
     let room = passing-room (loop .inv) (blocksIn (batch-of .result)) _ (behind-next _ _ (c .before .before .loop-test .taken) _ (batch-of .ensures .is)) in
-    (batch-of .ensures .info, batch-of .ensures .parity, omega (arith, room))
+    (batch-of .ensures .info, batch-of .ensures .parity, omega arith)
 
 -- the batch of a turn is corrected
 next : (c : tie.After-known-told Inv-loop μ-loop) →
@@ -61,6 +61,6 @@ pub correct-blocks-spec : {M : Type 1} → statement M
 correct-blocks-spec =
     tie.close (tie.spec Inv-loop μ-loop loop-holds (λ c κs. search needs) correct-batch-requires (λ c. search needs) (λ c. search needs)
     (λ c. search needs) returns (λ c. omega (arith, next c .few, next c .room))
-    (λ c. omega (arith, c .before .before .before .before .before .before .before .before .batch-of .ensures))
+    (λ c. omega arith)
     (λ c. omega (arith, next (c .before .before) .room)) (λ c. omega (arith, next (c .before .before) .room)) (λ c. search needs)
     (λ c. search needs) (λ c. next (c .before .before)) (λ c. c .before .loop .inv .size) returns-2)

@@ -29,7 +29,7 @@ correct-block-requires c κs =
     let b = c .before .before .before .before .before .before .before .before .before .before .args .b in
     let loop = c .before .before .before .loop in
     let room = passing-room (loop .inv) (batch 1 (b .info) (b .parity)) _ (batch-next _ _ _ (c .before .before .loop-test .taken)) in
-    (c .before .before .before .before .before .prepare .ensures, omega (arith, room, total-batch 1 (b .info) (b .parity)))
+    (c .before .before .before .before .before .prepare .ensures, omega (arith, total-batch 1 (b .info) (b .parity)))
 
 -- the block of a turn is corrected
 next : (c : tie.After-known-told Inv-loop μ-loop) →

@@ -47,6 +47,6 @@ returns c =
 pub gather-data-spec : {M : Type 1} → statement M
 gather-data-spec =
     tie.close (tie.spec Inv-loop μ-loop loop-holds (λ c κs. search needs) gather-batch-requires (λ c. omega (arith, next c .room .into))
-    (λ c. omega (arith, next c .room .into)) (λ c. omega (arith, c .before .before .before .before .before .before .batch-of .ensures))
+    (λ c. omega (arith, next c .room .into)) (λ c. omega arith)
     (λ c. omega (arith, next (c .before .before) .room .out)) (λ c. omega (arith, next (c .before .before) .room .out))
     (λ c. search needs) (λ c. search needs) (λ c. next (c .before .before)) (λ c. c .before .loop .inv .size) returns)

@@ -30,5 +30,5 @@ returns c = let loop = c .before .loop in record { is = λ k lo hi. loop .inv .2
 pub draw-spec : {M : Type 1} → statement M
 draw-spec =
     tie.close (tie.spec Inv-loop μ-loop loop-holds (λ c. omega arith) (λ c κs. search needs)
-    (λ c. omega (arith, c .before .before .loop-test .taken)) (λ c. search needs) (λ c. omega arith) loop-again
+    (λ c. omega arith) (λ c. search needs) (λ c. omega arith) loop-again
     (λ c. c .before .loop .inv .1) returns)

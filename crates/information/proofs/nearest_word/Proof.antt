@@ -44,5 +44,5 @@ returns c =
 pub nearest-word-spec : {M : Type 1} → statement M
 nearest-word-spec =
     tie.close (tie.spec Inv-loop μ-loop (λ c. omega arith) (λ c. omega arith) (λ c κs. search needs)
-    (λ c κs. omega (arith, c .wide .ensures)) (λ c κs. search needs) loop-holds (λ c. omega arith) (λ c. omega arith) (λ c. omega arith)
+    (λ c κs. omega arith) (λ c κs. search needs) loop-holds (λ c. omega arith) (λ c. omega arith) (λ c. omega arith)
     (λ c κs. search needs) (λ c κs. search needs) (λ c. omega arith) loop-again returns)

@@ -15,7 +15,7 @@ read-rows-requires : tie.Need-read-rows-requires
 read-rows-requires c κs =
     let start = c .before .before .before .before in
     let l = length-take-le (start .args .total) (start .args .out .now) (start .pre .1 .0) in
-    (start .pre .0 .0, start .pre .0 .1, start .pre .0 .2, start .pre .0 .3, omega (arith, l))
+    (start .pre .0 .0, start .pre .0 .1, start .pre .0 .2, start .pre .0 .3, omega arith)
 
 returns : tie.Need-returns
 returns c =

@@ -32,7 +32,7 @@ loop-again c =
     let advance = c .before .before .advance in
     let loop = c .before .before .before .before .before .before .before .loop in
     let m = last-moves (c .before .before .before .before .before .before .before .before .before .before .before .before .before .before .pre .0) (λ i. omega (arith, c .before .before .before .before .before .before .before .before .before .before .before .before .shared-slice-known .given i)) (c .before .before .before .before .before .before .before .before .before .before .before .before .before .before .pre .3) (c .before .before .before .before .before .if1 .taken) (omega (arith, c .before .before .before .before .before .before .before .loop .inv .1, c .before .before .before .before .before .before .before .before .before .before .before .before .before .before .pre .4)) (c .before .before .before .before .before .before .before .before .before .eight .ensures) (c .before .before .before .before .before .before .before .before .modules .ensures) (c .before .before .advance .ensures .1) in
-    (advance .ensures .0, omega (arith, loop .inv .1, m .0), m .1, goes-on (loop .inv .3) (m .2), advance .kept .0 ∙ loop .inv .4)
+    (advance .ensures .0, omega arith, m .1, goes-on (loop .inv .3) (m .2), advance .kept .0 ∙ loop .inv .4)
 
 returns : tie.Need-returns Inv-loop μ-loop
 returns c = let loop = c .before .before .loop in (loop .inv .0, omega arith, loop .inv .3)
@@ -40,7 +40,7 @@ returns c = let loop = c .before .before .loop in (loop .inv .0, omega arith, lo
 pub read-last-spec : {M : Type 1} → statement M
 read-last-spec =
     tie.close (tie.spec Inv-loop μ-loop (λ c. c .before .before .before .before .pre .3)
-    (λ c κs. omega (arith, c .before .before .before .before .pre .3)) (λ c. c .before .before .before .before .before .pre .3)
+    (λ c κs. omega arith) (λ c. c .before .before .before .before .before .pre .3)
     modules-requires loop-holds (λ c. c .before .before .before .loop .inv .2) (λ c. omega arith) (λ c. omega arith)
-    (λ c. omega (arith, c .before .before .if1 .taken)) (λ c. omega (arith, c .before .before .if1 .taken)) advance-requires loop-less
+    (λ c. omega arith) (λ c. omega arith) advance-requires loop-less
     loop-again (λ c. c .before .before .loop .inv .4) returns)

@@ -35,7 +35,7 @@ mask-row-requires : tie.Need-mask-row-requires Inv-loop μ-loop
 mask-row-requires c κs =
     let columns = c .before .before .before .before .before .columns .ensures in
     let taken = c .before .before .loop-test .taken in
-    let side = c .before .before .before .before .before .before .before .before .before .before .pre .2 in (omega (arith, taken, side), omega (arith, side), columns-fewer (omega (arith, taken)) columns, columns, c .before .before .before .loop .inv .0)
+    let side = c .before .before .before .before .before .before .before .before .before .before .pre .2 in (omega arith, omega arith, columns-fewer (omega arith) columns, columns, c .before .before .before .loop .inv .0)
 
 mul-at : tie.Need-mul-at Inv-loop μ-loop
 mul-at c = omega (arith, row-inside (c .before .before .before .before .before .loop .i) (c .before .before .before .before .before .before .before .before .before .before .before .before .args .side) (c .before .before .before .before .loop-test .taken))
@@ -57,7 +57,7 @@ read-row-requires c κs =
     let start = c .before .before .before .before .before .before .before .before .before .before .before .before .before .before .before .before in
     let loop = c .before .before .before .before .before .before .before .before .before .loop in
     let h : loop .i * start .args .side + start .args .side ≤ length (start .args .square .now) = omega (arith, row-inside (c .before .before .before .before .before .before .before .before .before .loop .i) (c .before .before .before .before .before .before .before .before .before .before .before .before .before .before .before .before .args .side) (c .before .before .before .before .before .before .before .before .loop-test .taken)) in
-    (aligned (loop .i * start .args .side) (start .args .side) (start .pre .0) (c .before .before .before .before .before .mask-row .ensures .0) (start .pre .2) h, record { few = loop .inv .1 .few; small = loop .inv .1 .small }, refl, omega (arith, part-length (loop .i * start .args .side) (start .args .side) (start .args .kinds .now) (omega (arith, h))))
+    (aligned (loop .i * start .args .side) (start .args .side) (start .pre .0) (c .before .before .before .before .before .mask-row .ensures .0) (start .pre .2) h, record { few = loop .inv .1 .few; small = loop .inv .1 .small }, refl, omega (arith, part-length (loop .i * start .args .side) (start .args .side) (start .args .kinds .now) (omega arith)))
 
 loop-again : tie.Need-loop-again Inv-loop μ-loop
 loop-again c =

@@ -30,7 +30,7 @@ line-down-requires c κs =
     let y = c .before .before .before .before .before .before .before .row-of in
     let kept = c .before .before .before .before .line-left .kept .0 in
     let step = c .step2 .ensures .1 in
-    (omega arith, omega (arith, kept), inside-call (x .ok) (x .ensures .1), inside-call (y .ok) (y .ensures .1), step .0, omega arith)
+    (omega arith, omega arith, inside-call (x .ok) (x .ensures .1), inside-call (y .ok) (y .ensures .1), step .0, omega arith)
 
 returns-3 : tie.Need-returns-3
 returns-3 c =

@@ -24,7 +24,7 @@ finder-line-requires c κs =
     let loop = c .before .before .loop in
     let test = c .before .loop-test .taken in
     let long : start .args .side * start .args .side ≤ length (loop .out) = omega arith in
-    let l : loop .row < start .args .side = omega (arith, test) in
+    let l : loop .row < start .args .side = omega arith in
     (row-room (start .pre .0) (start .pre .1) long l, start .pre .5 (loop .row) (loop .inv .2) test)
 
 loop-again : tie.Need-loop-again Inv-loop μ-loop
@@ -47,4 +47,4 @@ returns c =
 pub finder-lines-spec : {M : Type 1} → statement M
 finder-lines-spec =
     tie.close (tie.spec Inv-loop μ-loop loop-holds finder-line-requires (λ c. omega arith)
-    (λ c. omega (arith, c .before .before .before .before .loop-test .taken)) loop-again (λ c. c .before .loop .inv .1 .size) returns)
+    (λ c. omega arith) loop-again (λ c. c .before .loop .inv .1 .size) returns)

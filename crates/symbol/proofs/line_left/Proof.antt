@@ -50,7 +50,7 @@ returns-2 c =
     let least = c .before .before .before .before .before .before .before .before .before .least .ensures in
     let least2 = c .before .before .before .least2 .ensures in
     let l : natAbs (toZ w64 (ofZ w64 (start .args .y))) + 1 < start .args .side = omega
-    (arith, c .before .before .before .before .before .if1 .left) in
+    arith in
     numbered (λ x y. lineLeft x y (start .args .width)) (start .fits .x) (start .fits .y) (start .pre .2 .whole) (start .pre .3 .whole)
     (two-runs (start .args .side) _ _ (column start) (row start) (start .args .width) _ _ _
     (start .pre .1) (least .0) (least .1) (least .2) (omega (arith, room-below (start .args .side) _ _ (column start) (row start) l))
@@ -62,10 +62,10 @@ pub line-left-spec : {M : Type 1} → statement M
 line-left-spec =
     tie.close (tie.spec (λ c. cast-inside (c .before .fits .x) (c .before .pre .2) (c .before .pre .0))
     (λ c. cast-inside (c .before .fits .y) (c .before .pre .3) (c .before .pre .0)) (λ c. omega (arith, at (c .before) .fits))
-    (λ c. omega (arith, at (c .before) .fits)) (λ c κs. search needs) (λ c. omega (arith, c .least .ensures .1))
+    (λ c. omega (arith, at (c .before) .fits)) (λ c κs. search needs) (λ c. omega arith)
     (λ c. omega (arith, at (c .before .before .before) .fits)) draw-requires
     (λ c. omega (arith, row (c .before .before .before .before .before .before))) (λ c. search needs) returns
-    (λ c. omega (arith, at (c .before .before .before .before .before .before .before .before) .below (omega (arith, c .before .if1 .left)) .1))
-    (λ c. search needs) (λ c κs. search needs) (λ c. omega (arith, c .least2 .ensures .1))
-    (λ c. omega (arith, at (c .before .before .before .before .before .before .before .before .before) .below (omega (arith, c .before .before .if1 .left)) .1))
+    (λ c. omega (arith, at (c .before .before .before .before .before .before .before .before) .below (omega arith) .1))
+    (λ c. search needs) (λ c κs. search needs) (λ c. omega arith)
+    (λ c. omega (arith, at (c .before .before .before .before .before .before .before .before .before) .below (omega arith) .1))
     draw-requires-2 (λ c. search needs) returns-2)

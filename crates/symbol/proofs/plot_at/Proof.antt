@@ -32,5 +32,5 @@ returns-2 c = let start = c .before .before in record { is = plot-set _ _ _ _ _ 
 pub plot-at-spec : {M : Type 1} → statement M
 plot-at-spec =
     tie.close (tie.spec (λ c. omega (arith, small c)) (λ c. omega (arith, small c))
-    (λ c. omega (arith, inside (c .before), c .before .pre .1)) returns
-    (λ c. omega (arith, inside (c .before .before), c .before .before .pre .1)) (λ c. search needs) returns-2)
+    (λ c. omega (arith, inside (c .before))) returns
+    (λ c. omega (arith, inside (c .before .before))) (λ c. search needs) returns-2)
