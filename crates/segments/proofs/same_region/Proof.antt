@@ -24,7 +24,7 @@ returns c =
     let b = c .before .before in
     let l = b .before .loop in
     let a = b .before .before .before .before .args in
-    l .inv .5 ∙ region-cut (a .s .now) (l .at) (l .n) (l .out) (a .one) (word-cut 12 (l .at) (a .s .now) (b .read-bits .result) (b .read-bits .ensures) (c .enum-told .given .1))
+    record { cases = l .inv .5 ∙ region-cut (a .s .now) (l .at) (l .n) (l .out) (a .one) (word-cut 12 (l .at) (a .s .now) (b .read-bits .result) (b .read-bits .ensures) (c .enum-told .given .1)) }
 
 -- what was read, where a word was read
 word : (c : tie.After-known-told Inv-loop μ-loop)
@@ -42,7 +42,8 @@ returns-2 c =
     let l = k .before .before .before .before .loop in
     let a = k .before .before .before .before .before .before .before .args in
     let r = word k in
-    (l .inv .5 ∙ region-end (a .s .now) (l .at) (l .n) (l .out) (k .before .got .given .0 .0) (a .one) r (c .if1 .taken), omega arith, omega arith, omega arith, omega arith)
+    let e = region-end (a .s .now) (l .at) (l .n) (l .out) (k .before .got .given .0 .0) (a .one) r (c .if1 .taken) in
+    record { cases = (l .inv .5 ∙ e, (omega arith, omega arith, omega arith, omega arith)) }
 
 returns-3 : tie.Need-returns-3 Inv-loop μ-loop
 returns-3 c =
@@ -50,8 +51,8 @@ returns-3 c =
     let l = k .before .before .before .before .loop in
     let a = k .before .before .before .before .before .before .before .args in
     let r = word k in
-    let m = r .room in
-    (omega arith, m, omega arith, l .inv .5 ∙ region-switch (a .s .now) (l .at) (l .n) (l .out) (k .before .got .given .0 .0) (a .one) r (c .before .if1 .left) (c .if2 .taken), omega arith)
+    let e = region-switch (a .s .now) (l .at) (l .n) (l .out) (k .before .got .given .0 .0) (a .one) r (c .before .if1 .left) (c .if2 .taken) in
+    record { cases = (l .inv .5 ∙ e, omega arith, (omega arith, omega arith, omega arith, omega arith)) }
 
 same-length-4 : tie.Need-same-length-4 Inv-loop μ-loop
 same-length-4 c = c .before .before .before .before .before .before .before .before .loop .inv .0
@@ -61,7 +62,8 @@ returns-4 c =
     let k = c .before .before .before .before in
     let l = k .before .before .before .before .loop in
     let a = k .before .before .before .before .before .before .before .args in
-    l .inv .5 ∙ region-lacks (a .s .now) (l .at) (l .n) (l .out) (k .before .got .given .0 .0) (a .one) (word k) (c .before .before .before .if1 .left) (c .before .before .if2 .left) (omega arith)
+    let e = region-lacks (a .s .now) (l .at) (l .n) (l .out) (k .before .got .given .0 .0) (a .one) (word k) (c .before .before .before .if1 .left) (c .before .before .if2 .left) (omega arith) in
+    record { cases = l .inv .5 ∙ e }
 
 put-pair-requires : tie.Need-put-pair-requires Inv-loop μ-loop
 put-pair-requires c κs = (omega arith, c .before .high-byte .ensures .0, c .low-byte .ensures .0)
