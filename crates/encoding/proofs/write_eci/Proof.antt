@@ -1,5 +1,5 @@
 -- `write_eci` meets its contract. Assumes nothing.
-use Prim.Native.Nat.{_+_, _*_, _%_, _≤_}
+use Prim.Native.Nat.{_+_, _*_, _≤_}
 use native.Mathlib.Omega.{arith}
 use lib.ListN.{length}
 use Rattle.bits.proofs.Words.{length-low}
