@@ -69,6 +69,12 @@ module _ {w : ℕ} {s : List ℕ} {i : ℕ} {ws t : List ℕ} {a : ℕ} where
 pub all-left : (run : List ℕ) (k : ℕ) → take (length run - k) (drop k run) ≡ drop k run
 all-left run k = take-all (length run - k) (drop k run) (rw length-drop (omega arith))
 
+-- two numbers in one
+pub two-words : (m k x y : ℕ) → lowBits (m + k) (x * 2 ^ k + y % 2 ^ k) ≡ lowBits m x ++ lowBits k y
+two-words m k x y =
+    low-split m k (x * 2 ^ k + y % 2 ^ k)
+    ∙ rw (high x k (mod-lt y (pow-pos k)), low-add k k x (y % 2 ^ k) (omega arith), ← low-add k k (y / 2 ^ k) (y % 2 ^ k) (omega arith), split y k)
+
 -- what was left is written too
 pub doing-rest : {w : ℕ} {s : List ℕ} {i : ℕ} {ws t : List ℕ} {a : ℕ} {us u : List ℕ} {r : ℕ} → Doing w s i ws t a us → Written t a (wordBits w us) r u → Written s i (wordBits w ws) r u
 doing-rest d q = record { behind = q .behind ∙ rw (length-words, length-words) (d .place); bits = q .bits ∙ d .bits }
@@ -90,13 +96,6 @@ pub six-digits : (run : List ℕ) (j : ℕ) → j + 6 ≤ length run → numeric
 six-digits run j h =
     let e : j + 3 + 3 ≡ j + 6 = omega arith in
     three-digits run j (omega arith) ∙ rw (three-digits run (j + 3) (omega arith), e)
-
--- two words of ten bits in one
-pub two-words : (x y : ℕ) → lowBits 20 (x * 1024 + y % 1024) ≡ lowBits 10 x ++ lowBits 10 y
-two-words x y =
-    let d : (x * 2 ^ 10 + y % 2 ^ 10) / 2 ^ 10 ≡ x = high x 10 (mod-lt y (pow-pos 10)) in
-    low-split 10 10 (x * 1024 + y % 1024)
-    ∙ rw (d, low-add 10 10 x (y % 2 ^ 10) (omega arith), ← low-add 10 10 (y / 2 ^ 10) (y % 2 ^ 10) (omega arith), split y 10)
 
 pub one-digit : (run : List ℕ) (j : ℕ) → j + 1 ≡ length run → numericWords (drop j run) ≡ (getD run j 0 - 48) ∷ 1021 ∷ []
 unfolding numericWords
@@ -127,27 +126,33 @@ no-byte run j h = drop-of-length-le run h
 
 -- ---- characters
 
-module _ (run : List ℕ) (mode : ℕ) (f : Bool) (j w by : ℕ) (r : Character) (h : CharacterIs mode f (drop j run) r) (b : by ≡ stepOf mode) where
-  pub same-words : r ≡ Same w → (wordsOf mode f (drop j run) ≡ w ∷ wordsOf mode f (drop (j + by) run)) × (hasAll mode (drop j run) ≡ hasAll mode (drop (j + by) run)) × (j + by ≤ j + length (drop j run))
-  same-words e =
-      let g : CharacterIs mode f (drop j run) (Same w) = subst (λ (z : Character). CharacterIs mode f (drop j run) z) e h in
-      (rw b (g .0 ∙ rw drop-drop), rw b (g .1 ∙ rw drop-drop), rw b (add-le (g .2)))
-    where
-      add-le : stepOf mode ≤ length (drop j run) → j + stepOf mode ≤ j + length (drop j run)
-      add-le q = omega arith
+-- behind the character at the place j of a run: its words vs, and then those of the rest in a subset or region g, are what is left to write
+pub record Behind (run : List ℕ) (mode j w : ℕ) (s : List ℕ) (i : ℕ) (ws t : List ℕ) (a : ℕ) (vs : List ℕ) (g : Bool) : Type 0 where
+  pub room : j ≤ length run
+  pub have : hasAll mode (drop j run) ≡ true
+  pub doing : Doing w s i ws t a (vs ++ wordsOf mode g (drop j run))
 
-  pub other-words : r ≡ Other w → (wordsOf mode f (drop j run) ≡ switchOf mode ∷ w ∷ wordsOf mode (not f) (drop (j + by) run)) × (hasAll mode (drop j run) ≡ hasAll mode (drop (j + by) run)) × (j + by ≤ j + length (drop j run))
-  other-words e =
-      let g : CharacterIs mode f (drop j run) (Other w) = subst (λ (z : Character). CharacterIs mode f (drop j run) z) e h in
-      (rw b (g .0 ∙ rw drop-drop), rw b (g .1 ∙ rw drop-drop), rw b (add-le (g .2)))
-    where
-      add-le : stepOf mode ≤ length (drop j run) → j + stepOf mode ≤ j + length (drop j run)
-      add-le q = omega arith
+room-behind : (run : List ℕ) (j by k : ℕ) → j ≤ length run → by ≡ k → k ≤ length (drop j run) → j + by ≤ length run
+room-behind run j by k l b q = let m = rw length-drop at q in omega arith
 
-  pub never-lacking : {A : Type 0} → hasAll mode (drop j run) ≡ true → r ≡ Lacking → A
-  never-lacking t e =
-      let g : hasAll mode (drop j run) ≡ false = subst (λ (z : Character). CharacterIs mode f (drop j run) z) e h in
-      absurd (false-true (sym g ∙ t))
+module _ (run : List ℕ) (mode : ℕ) (f : Bool) (j : ℕ) {by w : ℕ} {s : List ℕ} {i : ℕ} {ws t : List ℕ} {a : ℕ} {r : Character}
+    (h : CharacterIs mode f (drop j run) r) (b : by ≡ stepOf mode) (l : j ≤ length run) (k : hasAll mode (drop j run) ≡ true)
+    (d : Doing w s i ws t a (wordsOf mode f (drop j run))) where
+  pub same-words : {v : ℕ} → r ≡ Same v → Behind run mode (j + by) w s i ws t a (v ∷ []) f
+  same-words {v} e =
+      let g : CharacterIs mode f (drop j run) (Same v) = subst (λ (z : Character). CharacterIs mode f (drop j run) z) e h in
+      record { room = room-behind run j by (stepOf mode) l b (g .2); have = rw b (rw drop-drop at (sym (g .1) ∙ k)); doing = rw b (rw (g .0, drop-drop) at d) }
+
+  pub other-words : {v : ℕ} → r ≡ Other v → Behind run mode (j + by) w s i ws t a (switchOf mode ∷ v ∷ []) (not f)
+  other-words {v} e =
+      let g : CharacterIs mode f (drop j run) (Other v) = subst (λ (z : Character). CharacterIs mode f (drop j run) z) e h in
+      record { room = room-behind run j by (stepOf mode) l b (g .2); have = rw b (rw drop-drop at (sym (g .1) ∙ k)); doing = rw b (rw (g .0, drop-drop) at d) }
+
+pub never-lacking : {A : Type 0} (run : List ℕ) (mode : ℕ) (f : Bool) (j : ℕ) {r : Character} → CharacterIs mode f (drop j run) r
+    → hasAll mode (drop j run) ≡ true → r ≡ Lacking → A
+never-lacking run mode f j h t e =
+    let g : hasAll mode (drop j run) ≡ false = subst (λ (z : Character). CharacterIs mode f (drop j run) z) e h in
+    absurd (false-true (sym g ∙ t))
 
 pub end-words : (run : List ℕ) (mode : ℕ) (f : Bool) (j : ℕ) → length run ≤ j → wordsOf mode f (drop j run) ≡ endOf mode ∷ []
 end-words run mode f j h = let d : drop j run ≡ [] = drop-of-length-le run h in rw d (just-end mode f)

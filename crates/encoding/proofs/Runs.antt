@@ -1,8 +1,8 @@
 -- The bits of one segment, part by part.
-use mathlib.Core.Path.{_≡_, refl}
+use mathlib.Core.Path.{_≡_, refl, sym, ap, _∙_}
 use mathlib.Core.Bool.{true}
 use mathlib.Core.List.{List, _++_}
-use Prim.Native.Nat.{ℕ, zero, suc, _+_, _*_, _<_, _≤_}
+use Prim.Native.Nat.{ℕ, zero, suc, _+_, _*_, _%_, _^_, _<_, _≤_}
 use native.Mathlib.Omega.{arith}
 use borrow.Author.Tests.{lt-ltb, le-ltb}
 use lib.ListN.{length, length-append}
@@ -12,6 +12,7 @@ use Rattle.script.specs.Writer.{numericWords, fourCode, modeHas, modeBits, eciB
 use Rattle.script.proofs.Runs.{four-long}
 use Rattle.script.specs.Characters.{wordsOf, hasAll, widthOf, beginsIn}
 use Rattle.encoding.specs.Written.{Written}
+use Rattle.encoding.proofs.Doing.{two-words}
 
 -- room for a part, and for what comes behind it
 pub first-room : (n v i m : ℕ) (ys : List ℕ) → i + length (lowBits n v ++ ys) ≤ m → i + n ≤ m
@@ -53,15 +54,18 @@ char-bits (suc (suc (suc (suc (suc (suc zero)))))) bs a b n1 n3 n7 = (refl, refl
 char-bits (suc (suc (suc (suc (suc (suc (suc zero))))))) bs a b n1 n3 n7 = absurd (n7 refl)
 char-bits (suc (suc (suc (suc (suc (suc (suc (suc m)))))))) bs a b n1 n3 n7 = absurd (omega arith)
 
+-- the prefix and the value of an ECI as one number
 module _ (v : ℕ) where
-  pub eci-7 : v < 128 → eciBits v ≡ lowBits 1 0 ++ lowBits 7 v
+  pub eci-7 : v < 128 → eciBits v ≡ lowBits 8 v
   unfolding eciBits lowBits
-  eci-7 h = rw (lt-ltb v 128 h)
+  eci-7 h = let e : 0 * 2 ^ 7 + v % 2 ^ 7 ≡ v = omega arith in rw (lt-ltb v 128 h) (sym (two-words 1 7 0 v) ∙ ap (lowBits 8) e)
 
-  pub eci-14 : 128 ≤ v → v < 16384 → eciBits v ≡ lowBits 2 2 ++ lowBits 14 v
+  pub eci-14 : 128 ≤ v → v < 16384 → eciBits v ≡ lowBits 16 (0x8000 + v)
   unfolding eciBits lowBits
-  eci-14 l h = rw (le-ltb v 128 l, lt-ltb v 16384 h)
+  eci-14 l h =
+      let e : 2 * 2 ^ 14 + v % 2 ^ 14 ≡ 0x8000 + v = omega arith in
+      rw (le-ltb v 128 l, lt-ltb v 16384 h) (sym (two-words 2 14 2 v) ∙ ap (lowBits 16) e)
 
-  pub eci-21 : 128 ≤ v → 16384 ≤ v → eciBits v ≡ lowBits 3 6 ++ lowBits 21 v
+  pub eci-21 : 128 ≤ v → 16384 ≤ v → eciBits v ≡ lowBits 24 (0xC00000 + v % 0x200000)
   unfolding eciBits lowBits
-  eci-21 l h = rw (le-ltb v 128 l, le-ltb v 16384 h)
+  eci-21 l h = rw (le-ltb v 128 l, le-ltb v 16384 h) (sym (two-words 3 21 6 v))

@@ -19,7 +19,7 @@ use Rattle.script.specs.Writer.{has, encodingOf, allHave, encodings}
 use Rattle.script.specs.Check.{commands, commandsOf, scriptData}
 use Rattle.script.specs.Inner.{commandAt, commandSize, with, Fits}
 use Rattle.script.proofs.Tests.{both}
-use Rattle.script.proofs.Checks.{at-wrong, at-eci, at-short, at-run}
+use Rattle.script.proofs.Checks.{run-bounds, eci-bounds, at-wrong, at-eci, at-short, at-run}
 use Rattle.encoding.specs.Written.{Written}
 
 -- to write the segments hs of the rest of script and payload into the bytes t from the position a on is what is left of the whole
@@ -51,7 +51,23 @@ begun s p n t b f =
       bits = refl;
     }
 
-module _ (s p : List ℕ) (n : ℕ) (t : List ℕ) (i j a : ℕ) (h : i < length s) (c : Command) (e : c ≡ commandAt (drop i s)) (d : Left s p n t i j a) where
+-- the segment g in front of what is left, by a command of x bytes that takes y payload bytes
+pub record Next (s p : List ℕ) (n : ℕ) (t : List ℕ) (i j a : ℕ) (g : Segment) (x y : ℕ) : Type 0 where
+  pub command : i + x ≤ length s
+  pub taken : y ≤ length p - j
+  pub mode-has : has g ≡ true
+  pub room : a + length (encodingOf g) ≤ 8 * n
+  pub done : {t′ : List ℕ} {r : ℕ} → Written t a (encodingOf g) r t′ → Left s p n t′ (i + x) (j + y) r
+
+size-positive : (mode : ℕ) → 0 < commandSize mode
+unfolding commandSize
+size-positive mode = go (eqb mode 7)
+  where
+    go : (x : Bool) → 0 < cond x 1 3
+    go true = omega arith
+    go false = omega arith
+
+module _ {s p : List ℕ} {n : ℕ} {t : List ℕ} {i j a : ℕ} {c : Command} (h : i < length s) (e : c ≡ commandAt (drop i s)) (d : Left s p n t i j a) where
   -- what is left, with one turn to come
   here : commands (suc (d .fuel - 1)) (drop i s) (drop j p) ≡ some (d .rest)
   here =
@@ -59,68 +75,62 @@ module _ (s p : List ℕ) (n : ℕ) (t : List ℕ) (i j a : ℕ) (h : i < length
       let z : suc (d .fuel - 1) ≡ d .fuel = omega arith in
       rw z (d .left)
 
-  -- a segment g in front, with what is left behind it
-  abbrev Front : Segment → ℕ → ℕ → Type 0
-  Front g x y = (hs : List Segment) × (d .rest ≡ g ∷ hs) × (commands (d .fuel - 1) (drop (i + x) s) (drop (j + y) p) ≡ some hs)
-
   split : (g : Segment) (x y : ℕ) (z : Option (List Segment)) → commands (d .fuel - 1) (drop (i + x) s) (drop (j + y) p) ≡ z
-      → with g z ≡ some (d .rest) → Front g x y
-  split g x y none q f = never cc
-  split g x y (some hs) q f = let r : d .rest ≡ g ∷ hs = cc in (hs, r, q)
+      → with g z ≡ some (d .rest) → 0 < x → i + x ≤ length s → y ≤ length p - j → Next s p n t i j a g x y
+  unfolding allHave encodings flatMap
+  split g x y none q f b k m = never cc
+  split g x y (some hs) q f b k m =
+      let r : d .rest ≡ g ∷ hs = cc in
+      let both-have = both (has g) (allHave hs) (rw r at (d .have)) in
+      let parts : a + (length (encodingOf g) + length (encodings hs)) ≡ length (encodings (d .whole)) =
+      ap (λ (z : ℕ). a + z) (sym (length-append (encodingOf g) (encodings hs))) ∙ (rw r at (d .place)) in
+      let bits : take a (bitsOf t) ++ (encodingOf g ++ encodings hs) ≡ encodings (d .whole) = rw r at (d .bits) in
+      record {
+        command = k;
+        taken = m;
+        mode-has = both-have .0;
+        room = omega (arith, d .room);
+        done =
+            λ w. record {
+              fuel = d .fuel - 1;
+              enough = omega (arith, d .enough);
+              whole = d .whole;
+              rest = hs;
+              are = d .are;
+              left = q;
+              have = both-have .1;
+              room = d .room;
+              place = rw (w .behind) (omega arith);
+              bits = rw (w .bits) (append-assoc (take a (bitsOf t)) (encodingOf g) (encodings hs) ∙ bits);
+            };
+      }
 
   pub never-wrong : {A : Type 0} → c ≡ Wrong → A
   never-wrong q = let k : none ≡ some (d .rest) = sym (at-wrong s p i j h c e (d .fuel - 1) q) ∙ here in never cc
 
-  pub run-front : (mode m : ℕ) → c ≡ Run mode m → (m ≤ length p - j) × Front (run mode (take m (drop j p))) (commandSize mode) m
-  run-front mode m q = go (ltb (length p - j) m) refl
-    where
-      go : (x : Bool) → ltb (length p - j) m ≡ x → (m ≤ length p - j) × Front (run mode (take m (drop j p))) (commandSize mode) m
-      go true l =
-          let k : none ≡ some (d .rest) = sym (at-short s p i j h c e (d .fuel - 1) mode m q (ltb-true (length p - j) m l)) ∙ here in
-          never cc
-      go false l =
-          let k = ltb-false (length p - j) m l in
-          let f = sym (at-run s p i j h c e (d .fuel - 1) mode m q k) ∙ here in
-          (k, split (run mode (take m (drop j p))) (commandSize mode) m (commands (d .fuel - 1) (drop (i + commandSize mode) s) (drop (j + m) p)) refl f)
+  module _ (b : (k : ℕ) → getD s k 0 < 256) where
+    pub run-next : {mode m : ℕ} → c ≡ Run mode m → (1 ≤ mode) × (mode ≤ 7) × Next s p n t i j a (run mode (take m (drop j p))) (commandSize mode) m
+    run-next {mode} {m} q = (bounds .0, bounds .1, go (ltb (length p - j) m) refl)
+      where
+        bounds : (1 ≤ mode) × (mode ≤ 7) × (m < 65536) × (i + commandSize mode ≤ length s)
+        bounds = run-bounds s i b h c e mode m q
 
-  pub eci-front : (v : ℕ) → c ≡ Eci v → Front (eci v) 4 0
-  eci-front v q =
-      split (eci v) 4 0 (commands (d .fuel - 1) (drop (i + 4) s) (drop (j + 0) p)) refl
-      (rw add-zero (sym (at-eci s p i j h c e (d .fuel - 1) v q) ∙ here))
+        go : (x : Bool) → ltb (length p - j) m ≡ x → Next s p n t i j a (run mode (take m (drop j p))) (commandSize mode) m
+        go true l =
+            let k : none ≡ some (d .rest) = sym (at-short s p i j h c e (d .fuel - 1) mode m q (ltb-true (length p - j) m l)) ∙ here in
+            never cc
+        go false l =
+            let k = ltb-false (length p - j) m l in
+            split (run mode (take m (drop j p))) (commandSize mode) m (commands (d .fuel - 1) (drop (i + commandSize mode) s) (drop (j + m) p)) refl
+            (sym (at-run s p i j h c e (d .fuel - 1) mode m q k) ∙ here) (size-positive mode) (bounds .3) k
 
-  module _ (g : Segment) (x y : ℕ) (f : Front g x y) where
-    pub front-has : has g ≡ true
-    unfolding allHave
-    front-has = both (has g) (allHave (f .0)) (rw (f .1) at (d .have)) .0
-
-    parts : a + (length (encodingOf g) + length (encodings (f .0))) ≡ length (encodings (d .whole))
-    unfolding encodings flatMap
-    parts = ap (λ (z : ℕ). a + z) (sym (length-append (encodingOf g) (encodings (f .0)))) ∙ (rw (f .1) at (d .place))
-
-    pub front-room : a + length (encodingOf g) ≤ 8 * n
-    front-room = let r = d .room in let q = parts in omega arith
-
-    pub front-done : (t′ : List ℕ) (r : ℕ) → 0 < x → i + x ≤ length s → Written t a (encodingOf g) r t′ → Left s p n t′ (i + x) (j + y) r
-    unfolding allHave encodings flatMap
-    front-done t′ r l k w =
-        let q = parts in
-        let m = d .enough in
-        let b : take a (bitsOf t) ++ (encodingOf g ++ encodings (f .0)) ≡ encodings (d .whole) = rw (f .1) at (d .bits) in
-        record {
-          fuel = d .fuel - 1;
-          enough = omega arith;
-          whole = d .whole;
-          rest = f .0;
-          are = d .are;
-          left = f .2;
-          have = both (has g) (allHave (f .0)) (rw (f .1) at (d .have)) .1;
-          room = d .room;
-          place = rw (w .behind) (omega arith);
-          bits = rw (w .bits) (append-assoc (take a (bitsOf t)) (encodingOf g) (encodings (f .0)) ∙ b);
-        }
+    pub eci-next : {v : ℕ} → c ≡ Eci v → Next s p n t i j a (eci v) 4 0
+    eci-next {v} q =
+        split (eci v) 4 0 (commands (d .fuel - 1) (drop (i + 4) s) (drop (j + 0) p)) refl
+        (rw add-zero (sym (at-eci s p i j h c e (d .fuel - 1) v q) ∙ here)) (omega arith) (eci-bounds s i b h c e v q) (omega arith)
 
 -- the end of the script
-module _ (s p : List ℕ) (n : ℕ) (t : List ℕ) (i j a : ℕ) (h : length s ≤ i) (d : Left s p n t i j a) where
+module _ {s p : List ℕ} {n : ℕ} {t : List ℕ} {i j a : ℕ} (h : length s ≤ i) (d : Left s p n t i j a) where
   last : (f : ℕ) → 0 < f → commands f (drop i s) (drop j p) ≡ some (d .rest) → d .rest ≡ []
   unfolding commands
   last zero l e = absurd (omega arith)

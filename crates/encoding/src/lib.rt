@@ -177,15 +177,12 @@ fn write_eci(buf: &mut [u8], from: usize, v: usize) -> usize
 {
     let at = put(buf, from, 4, segments::ECI);
     if v < 128 {
-        let next = put(buf, at, 1, 0);
-        return put(buf, next, 7, v);
+        return put(buf, at, 8, v);
     }
     if v < 16384 {
-        let next = put(buf, at, 2, 2);
-        return put(buf, next, 14, v);
+        return put(buf, at, 16, 0x8000 + v);
     }
-    let next = put(buf, at, 3, 6);
-    put(buf, next, 21, v)
+    put(buf, at, 24, 0xC00000 + v % 0x200000)
 }
 
 // Sets the bytes from a place on to 0.

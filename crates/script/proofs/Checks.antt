@@ -1,5 +1,5 @@
 -- The check's steps: a command at a place of a script, and what it leaves of the answer.
-use mathlib.Core.Path.{_≡_, refl, ap, _∙_, subst}
+use mathlib.Core.Path.{_≡_, refl, ap, _∙_, subst, sym}
 use mathlib.Core.Bool.{Bool, true, false, cond, _&&_}
 use mathlib.Core.Option.{Option, none, some, bind}
 use mathlib.Core.List.{List, [], _∷_}
@@ -19,8 +19,8 @@ use Rattle.script.specs.declared.Cost.{Cost}
 use Rattle.script.specs.declared.Cost.the-variants.{Takes, Lacks}
 use Rattle.script.specs.Writer.{modeHas, has, allHave}
 use Rattle.script.specs.Lengths.{modeLength, eciLength, bitsOfSegment, bitsOfSegments}
-use Rattle.script.specs.Check.{allowed, segmentAt, commands}
-use Rattle.script.specs.Inner.{lengthOperand, valueOperand, runAt, eciAt, commandAt, commandSize, made, with, most, capped, checkedOf, settled}
+use Rattle.script.specs.Check.{allowed, segmentAt, commands, commandsOf}
+use Rattle.script.specs.Inner.{lengthOperand, valueOperand, runAt, eciAt, commandAt, commandSize, made, with, most, capped, checkedOf, checkOf, settled}
 use Rattle.script.specs.Characters.{costOf, Limited}
 use Rattle.script.proofs.Tests.{both}
 
@@ -146,10 +146,6 @@ capped-add x y = go (ltb x most) refl
         let h = ltb-false x most e in
         rw (le-ltb (most + y) most (omega arith), le-ltb (x + y) most (omega arith))
 
-pub settle-start : (c : Option (List Segment)) (p : List ℕ) → checkedOf c p ≡ settled false 0 c p
-settle-start none p = refl
-settle-start (some gs) p = rw zero-add
-
 with-takes : (lacks : Bool) (t t′ b : ℕ) (g : Segment) (z : Option (List Segment)) (p : List ℕ) → has g ≡ true → bitsOfSegment g ≡ b → t′ ≡ capped (t + b)
     → settled lacks t (with g z) p ≡ settled lacks t′ z p
 unfolding allHave bitsOfSegments
@@ -239,69 +235,99 @@ cost-none mode bs r e q = go (modeHas mode bs) refl e
     go true h f = never cc
     go false h f = h
 
--- what it leaves of the answer; f bounds the number of commands
-module _ (s p : List ℕ) (i j : ℕ) (h : i < length s) (lacks : Bool) (t : ℕ) (c : Command) (e : c ≡ commandAt (drop i s)) where
-  pub settle-wrong : (f : ℕ) → 0 < f → c ≡ Wrong → settled lacks t (commands f (drop i s) (drop j p)) p ≡ Malformed
-  settle-wrong zero l q = absurd (omega arith)
-  settle-wrong (suc k) l q = rw (at-wrong s p i j h c e k q)
+-- ---- the check along a script
 
-  pub settle-eci : (f : ℕ) → 0 < f → (v t′ : ℕ) → c ≡ Eci v → t′ ≡ capped (t + eciLength v)
-      → settled lacks t (commands f (drop i s) (drop j p)) p ≡ settled lacks t′ (commands (f - 1) (drop (i + 4) s) (drop j p)) p
-  settle-eci zero l v t′ q m = absurd (omega arith)
-  settle-eci (suc k) l v t′ q m =
-      let z : suc k - 1 ≡ k = omega arith in
-      rw (at-eci s p i j h c e k v q, z) (with-takes lacks t t′ (eciLength v) (eci v) (commands k (drop (i + 4) s) (drop j p)) p refl refl m)
+-- the answer is that of the commands from a place on, where those before it have t bits, and one of them lacks some of its bytes or none
+pub record Settles (s p : List ℕ) (i j : ℕ) (lacks : Bool) (t : ℕ) : Type 0 where
+  pub fuel : ℕ
+  pub enough : length s - i < fuel
+  pub same : checkOf s p ≡ settled lacks t (commands fuel (drop i s) (drop j p)) p
 
-  module _ (mode n : ℕ) (q : c ≡ Run mode n) where
-    pub settle-short : (f : ℕ) → 0 < f → length p - j < n → settled lacks t (commands f (drop i s) (drop j p)) p ≡ Malformed
-    settle-short zero l g = absurd (omega arith)
-    settle-short (suc k) l g = rw (at-short s p i j h c e k mode n q g)
+pub settles-start : (s p : List ℕ) → Settles s p 0 0 false 0
+settles-start s p = record { fuel = length s + 1; enough = omega arith; same = go (commandsOf s p) }
+  where
+    go : (c : Option (List Segment)) → checkedOf c p ≡ settled false 0 c p
+    go none = refl
+    go (some gs) = rw zero-add
 
-    module _ (g : n ≤ length p - j) (r : Cost) (er : r ≡ costOf mode (take n (drop j p))) where
-      pub settle-takes : (f : ℕ) → 0 < f → (b t′ : ℕ) → r ≡ Takes b → t′ ≡ capped (t + b)
-          → settled lacks t (commands f (drop i s) (drop j p)) p ≡ settled lacks t′ (commands (f - 1) (drop (i + commandSize mode) s) (drop (j + n) p)) p
-      settle-takes zero l b t′ x m = absurd (omega arith)
-      settle-takes (suc k) l b t′ x m =
-          let z : suc k - 1 ≡ k = omega arith in
-          let y = cost-takes mode b (take n (drop j p)) r er x in
-          rw (at-run s p i j h c e k mode n q g, z)
-          (with-takes lacks t t′ b (run mode (take n (drop j p))) (commands k (drop (i + commandSize mode) s) (drop (j + n) p)) p (y .0) (y .1) m)
+-- at a command c
+module _ {s p : List ℕ} {i j : ℕ} {lacks : Bool} {t : ℕ} {c : Command} (d : Settles s p i j lacks t) (h : i < length s) (e : c ≡ commandAt (drop i s)) where
+  answered : (z : Option (List Segment)) → commands (suc (d .fuel - 1)) (drop i s) (drop j p) ≡ z → checkOf s p ≡ settled lacks t z p
+  answered z q =
+      let m = d .enough in
+      let k : suc (d .fuel - 1) ≡ d .fuel = omega arith in
+      d .same ∙ ap (λ (y : Option (List Segment)). settled lacks t y p) (rw k at q)
 
-      pub settle-lacks : (f : ℕ) → 0 < f → r ≡ Lacks
-          → settled lacks t (commands f (drop i s) (drop j p)) p ≡ settled true t (commands (f - 1) (drop (i + commandSize mode) s) (drop (j + n) p)) p
-      settle-lacks zero l x = absurd (omega arith)
-      settle-lacks (suc k) l x =
-          let z : suc k - 1 ≡ k = omega arith in
-          rw (at-run s p i j h c e k mode n q g, z)
-          (with-lacks lacks t (run mode (take n (drop j p))) (commands k (drop (i + commandSize mode) s) (drop (j + n) p)) p (cost-none mode (take n (drop j p)) r er x))
+  pub settles-wrong : c ≡ Wrong → Malformed ≡ checkOf s p
+  settles-wrong q = sym (answered none (at-wrong s p i j h c e (d .fuel - 1) q))
+
+  pub settles-eci : {v b t′ : ℕ} → c ≡ Eci v → b ≡ eciLength v → t′ ≡ capped (t + b) → Settles s p (i + 4) j lacks t′
+  settles-eci {v} {b} {t′} q eb m =
+      let rest : Option (List Segment) = commands (d .fuel - 1) (drop (i + 4) s) (drop j p) in
+      record {
+        fuel = d .fuel - 1;
+        enough = omega (arith, d .enough);
+        same = answered (with (eci v) rest) (at-eci s p i j h c e (d .fuel - 1) v q) ∙ with-takes lacks t t′ b (eci v) rest p refl (sym eb) m;
+      }
+
+  pub settles-short : {mode n : ℕ} → c ≡ Run mode n → length p - j < n → Malformed ≡ checkOf s p
+  settles-short {mode} {n} q l = sym (answered none (at-short s p i j h c e (d .fuel - 1) mode n q l))
+
+  module _ {mode n x : ℕ} {r : Cost} (q : c ≡ Run mode n) (l : n ≤ length p - j) (er : r ≡ costOf mode (take n (drop j p))) (ex : x ≡ commandSize mode)
+      (px : 1 ≤ x) where
+    abbrev bytes : List ℕ
+    bytes = take n (drop j p)
+
+    abbrev rest : Option (List Segment)
+    rest = commands (d .fuel - 1) (drop (i + commandSize mode) s) (drop (j + n) p)
+
+    -- one command less, with bits t′ and perhaps a lack behind
+    next : (lacks′ : Bool) (t′ : ℕ) → settled lacks t (with (run mode bytes) rest) p ≡ settled lacks′ t′ rest p → Settles s p (i + x) (j + n) lacks′ t′
+    next lacks′ t′ f =
+        record {
+          fuel = d .fuel - 1;
+          enough = omega (arith, d .enough);
+          same = rw ex (answered (with (run mode bytes) rest) (at-run s p i j h c e (d .fuel - 1) mode n q l) ∙ f);
+        }
+
+    pub settles-takes : {b t′ : ℕ} → r ≡ Takes b → t′ ≡ capped (t + b) → Settles s p (i + x) (j + n) lacks t′
+    settles-takes {b} {t′} g m =
+        let y = cost-takes mode b bytes r er g in
+        next lacks t′ (with-takes lacks t t′ b (run mode bytes) rest p (y .0) (y .1) m)
+
+    pub settles-lacks : r ≡ Lacks → Settles s p (i + x) (j + n) true t
+    settles-lacks g = next true t (with-lacks lacks t (run mode bytes) rest p (cost-none mode bytes r er g))
 
 -- ---- the end of the script
 
-module _ (s p : List ℕ) (i j : ℕ) (lacks : Bool) (t : ℕ) (h : length s ≤ i) where
-  ended : (f : ℕ) → 0 < f → commands f (drop i s) (drop j p) ≡ cond (eqb (length p - j) 0) (some []) none
-  unfolding commands
-  ended zero l = absurd (omega arith)
-  ended (suc k) l =
-      let z : length (drop i s) ≡ 0 = rw length-drop (omega arith) in
-      rw (eq-eqb (length (drop i s)) 0 z, length-drop)
+ended : (s p : List ℕ) (i j f : ℕ) → length s ≤ i → 0 < f → commands f (drop i s) (drop j p) ≡ cond (eqb (length p - j) 0) (some []) none
+unfolding commands
+ended s p i j zero h l = absurd (omega arith)
+ended s p i j (suc k) h l =
+    let z : length (drop i s) ≡ 0 = rw length-drop (omega arith) in
+    rw (eq-eqb (length (drop i s)) 0 z, length-drop)
 
-  pub end-left : (f : ℕ) → 0 < f → j < length p → settled lacks t (commands f (drop i s) (drop j p)) p ≡ Malformed
-  end-left f l g = rw (ended f l, ne-eqb (length p - j) 0 (λ e. omega arith))
+module _ {s p : List ℕ} {i j : ℕ} {lacks : Bool} {t : ℕ} (d : Settles s p i j lacks t) (h : length s ≤ i) where
+  read : commands (d .fuel) (drop i s) (drop j p) ≡ cond (eqb (length p - j) 0) (some []) none
+  read = ended s p i j (d .fuel) h (omega (arith, d .enough))
 
-  module _ (f : ℕ) (l : 0 < f) (g : length p ≤ j) where
-    all-read : commands f (drop i s) (drop j p) ≡ some []
-    all-read = ended f l ∙ rw (eq-eqb (length p - j) 0 (omega arith))
+  pub end-left : j < length p → Malformed ≡ checkOf s p
+  end-left g = sym (d .same ∙ rw (read, ne-eqb (length p - j) 0 (λ e. omega arith)))
 
-    pub end-lacks : lacks ≡ true → settled lacks t (commands f (drop i s) (drop j p)) p ≡ Lacking
-    end-lacks e = rw (all-read, e)
+  module _ (g : length p ≤ j) where
+    all-read : checkOf s p ≡ settled lacks t (some []) p
+    all-read = d .same ∙ rw (read, eq-eqb (length p - j) 0 (omega arith))
 
-    pub end-empty : lacks ≡ false → length p ≡ 0 → settled lacks t (commands f (drop i s) (drop j p)) p ≡ Empty
+    pub end-lacks : lacks ≡ true → Lacking ≡ checkOf s p
+    end-lacks e = sym (all-read ∙ rw e)
+
+    pub end-empty : lacks ≡ false → length p ≡ 0 → Empty ≡ checkOf s p
     unfolding allHave
-    end-empty e z = rw (all-read, e, eq-eqb (length p) 0 z)
+    end-empty e z = sym (all-read ∙ rw (e, eq-eqb (length p) 0 z))
 
-    pub end-bits : lacks ≡ false → (length p ≡ 0 → ⊥) → t ≤ most → settled lacks t (commands f (drop i s) (drop j p)) p ≡ Bits t
+    pub end-bits : lacks ≡ false → (length p ≡ 0 → ⊥) → t ≤ most → Bits t ≡ checkOf s p
     unfolding allHave bitsOfSegments
-    end-bits e z m = rw (all-read, e, ne-eqb (length p) 0 z, add-zero) (ap Bits (go (ltb t most) refl))
+    end-bits e z m = sym (all-read ∙ rw (e, ne-eqb (length p) 0 z, add-zero) (ap Bits (go (ltb t most) refl)))
       where
         go : (b : Bool) → ltb t most ≡ b → cond b t most ≡ t
         go true q = refl

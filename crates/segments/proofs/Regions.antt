@@ -10,7 +10,7 @@ use Rattle.segments.specs.declared.Region.{Region}
 use Rattle.segments.specs.declared.Region.the-variants.{End, Switch, Cut as RegionCut, Lacking as RegionLacking}
 use Rattle.segments.specs.declared.Count.{Count}
 use Rattle.segments.specs.declared.Count.the-variants.{Done, Cut, Lacking}
-use Rattle.segments.specs.Positions.{countOf, Left, Inside, RegionLeft, regionAt}
+use Rattle.segments.specs.Positions.{countOf, Left, Inside, RegionCases, RegionLeft, regionAt}
 
 coded : (i n : ℕ) → n < 65536 → countOf (i * 65536 + n + 2) ≡ Done i n
 coded i n h =
@@ -19,33 +19,31 @@ coded i n h =
     let m : (i * 65536 + n) % 65536 ≡ n = omega arith in
     rw (ne-eqb (i * 65536 + n + 2) 0 (λ z. omega arith), ne-eqb (i * 65536 + n + 2) 1 (λ z. omega arith), e, d, m)
 
-module _ (s : List ℕ) (from to : ℕ) (o : List ℕ) (f : Bool) (r : Region) (x : List ℕ) (h : RegionLeft s from to o f r x) where
-  told : (q : Region) → r ≡ q → RegionLeft s from to o f q x
-  told q e = subst (λ (z : Region). RegionLeft s from to o f z x) e h
+module _ {s : List ℕ} {from to : ℕ} {o : List ℕ} {f : Bool} {r : Region} {x : List ℕ} (h : RegionLeft s from to o f r x) where
+  told : (q : Region) → r ≡ q → RegionCases s from to o f q x
+  told q e = subst (λ (z : Region). RegionCases s from to o f z x) e (h .cases)
 
-  pub ran-end : length s ≤ 4096 → (i n : ℕ) → r ≡ End i n → Left (regionAt s from to o f) (countOf (i * 65536 + n + 2)) x × Inside s from to (countOf (i * 65536 + n + 2))
-  ran-end l i n e =
-      let g = told (End i n) e in
-      let small : n < 65536 = omega (arith, g .2, g .4) in
-      rw (coded i n small) (rw (g .0) (refl, refl), (g .1, g .2, g .3, g .4))
+  -- position and bytes of the end are not large
+  pub ran-small : length s ≤ 4096 → {i n : ℕ} → r ≡ End i n → (i ≤ 32768) × (n ≤ 32768)
+  ran-small l {i} {n} e = let g = told (End i n) e in (omega arith, omega arith)
 
-  -- position and bytes of a switch and of the end are not large
-  pub ran-small : length s ≤ 4096 → (i n : ℕ) → r ≡ End i n → (i ≤ 32768) × (n ≤ 32768)
-  ran-small l i n e = let g = told (End i n) e in (omega (arith, g .2), omega (arith, g .2, g .4))
+  pub ran-end : length s ≤ 4096 → {i n : ℕ} → r ≡ End i n → Left (regionAt s from to o f) (countOf (i * 65536 + n + 2)) x × Inside s from to (countOf (i * 65536 + n + 2))
+  ran-end l {i} {n} e = let g = told (End i n) e in rw (coded i n (omega arith)) (rw (g .0) (refl, refl), g .1)
 
-  pub ran-cut : r ≡ RegionCut → Left (regionAt s from to o f) Cut x
-  ran-cut e = rw (told RegionCut e) refl
+  pub ran-cut : r ≡ RegionCut → Left (regionAt s from to o f) Cut x × Unit {0}
+  ran-cut e = (rw (told RegionCut e) refl, tt)
 
-  pub ran-lacks : r ≡ RegionLacking → Left (regionAt s from to o f) Lacking x
-  ran-lacks e = rw (told RegionLacking e) refl
+  pub ran-lacks : r ≡ RegionLacking → Left (regionAt s from to o f) Lacking x × Unit {0}
+  ran-lacks e = (rw (told RegionLacking e) refl, tt)
 
-  pub ran-room : (i n : ℕ) → r ≡ Switch i n → (from + 12 ≤ i) × (i ≤ 8 * length s) × (n ≤ i) × (to ≤ n)
-  ran-room i n e = let g = told (Switch i n) e in (g .0, g .1, g .2, g .4)
+  pub ran-room : {i n : ℕ} → r ≡ Switch i n → (from + 12 ≤ i) × Inside s from to (Done i n)
+  ran-room {i} {n} e = let g = told (Switch i n) e in (g .1, g .2)
 
-  pub ran-on : (i n : ℕ) → r ≡ Switch i n → (q : Count) (y : List ℕ) → Left (regionAt s i n x (not f)) q y × Inside s i n q → Left (regionAt s from to o f) q y × Inside s from to q
-  ran-on i n e q y l = let g = told (Switch i n) e in (rw (g .3) (l .0), go q (l .1))
+  pub ran-on : {i n : ℕ} → r ≡ Switch i n → (q : Count) (y : List ℕ) → Left (regionAt s i n x (not f)) q y × Inside s i n q
+      → Left (regionAt s from to o f) q y × Inside s from to q
+  ran-on {i} {n} e q y l = let g = told (Switch i n) e in (rw (g .0) (l .0), go q (l .1))
     where
       go : (z : Count) → Inside s i n z → Inside s from to z
-      go (Done b k) j = let g = ran-room i n e in (omega arith, omega arith, omega arith, omega arith)
+      go (Done b k) j = let g = ran-room e in (omega arith, omega arith, omega arith, omega arith)
       go Cut j = tt
       go Lacking j = tt

@@ -18,7 +18,7 @@ use Rattle.segments.specs.declared.Count.the-variants.{Done}
 use Rattle.segments.specs.declared.Step.{Step}
 use Rattle.segments.specs.declared.Step.the-variants.{On}
 use Rattle.segments.specs.Script.{Segment, run, eci, bytesOf, runCommand, commandOf, payloadOf, scriptOf}
-use Rattle.segments.specs.Segments.{Fault, cut, lacking, Result, failed, got, andThen, eciOf, bytesOfMode, segmentOf, Ending, endMark, fewBits, broken, Parsed, following, parse}
+use Rattle.segments.specs.Segments.{Fault, cut, lacking, Result, failed, got, andThen, eciOf, bytesOfMode, segmentOf, Ending, endMark, fewBits, broken, Parsed, following, parse, segmentsOf}
 use Rattle.segments.specs.Positions.{stopped, behind, counted, stepped, Left, Inside, numericAt, textAt, bytesAt, regionAt, doubleByteAt, fourByteAt, runAt, EciLeft, Stepped, Reached, ParsesTo, Parses}
 use Rattle.segments.proofs.Turns.{behind-bits}
 
@@ -154,7 +154,7 @@ inside s from to r a k h e = subst (λ (z : Count). Inside s from to z) e h
 
 -- ---- all of them
 
-pub step-room : (s : List ℕ) (i n m : ℕ) (o c : List ℕ) (z : Result Segment) (r : Step) (a k j : ℕ) (x y : List ℕ)
+step-room : (s : List ℕ) (i n m : ℕ) (o c : List ℕ) (z : Result Segment) (r : Step) (a k j : ℕ) (x y : List ℕ)
     → Stepped s i n m o c z r x y → r ≡ On a k j → (i ≤ a) × (a ≤ 8 * length s) × (k ≤ a) × (j ≤ a)
 step-room s i n m o c (failed bad) r a k j x y p e = not-on bad (sym p ∙ e)
 step-room s i n m o c (got g u) r a k j x y p e =
@@ -164,68 +164,87 @@ step-room s i n m o c (got g u) r a k j x y p e =
     let ej : j ≡ m + length (commandOf g) = cc in
     (omega arith, rw ea (p .3), rw (ea, ek) (p .4), rw (ea, ej) (p .5))
 
-module _ (s : List ℕ) (i n m : ℕ) (o c : List ℕ) where
-  pub parse-few : (f : ℕ) → 0 < f → length (drop i (bitsOf s)) < 4 → Parses n m o c (parse f (drop i (bitsOf s))) (Done n m) o c
+-- a segment b before others, by their ends
+module _ (n m : ℕ) (o c : List ℕ) (b : Segment) (gs : List Segment) (r : Count) (x y : List ℕ) where
+  reached : Reached (n + length (bytesOf b)) (m + length (commandOf b)) (sets o n (bytesOf b)) (sets c m (commandOf b)) gs r x y → Reached n m o c (b ∷ gs) r x y
+  unfolding payloadOf scriptOf flatMap
+  reached d =
+      let e1 : n + length (bytesOf b ++ payloadOf gs) ≡ n + length (bytesOf b) + length (payloadOf gs) = rw length-append (omega arith) in
+      let e2 : m + length (commandOf b ++ scriptOf gs) ≡ m + length (commandOf b) + length (scriptOf gs) = rw length-append (omega arith) in
+      (rw (e1, e2) (d .0), rw sets-append (d .1), rw sets-append (d .2))
+
+  join : (z : Ending) → ParsesTo (n + length (bytesOf b)) (m + length (commandOf b)) (sets o n (bytesOf b)) (sets c m (commandOf b)) gs z r x y
+      → ParsesTo n m o c (b ∷ gs) z r x y
+  join endMark d = reached d
+  join fewBits d = reached d
+  join (broken bad) d = d
+
+-- to parse from the position i on, with n payload bytes in o and m script bytes in c, is what is left of parsing the data s
+pub record Parsing (s o₀ c₀ : List ℕ) (i n m : ℕ) (o c : List ℕ) : Type 0 where
+  pub fuel : ℕ
+  pub enough : 8 * length s - i < fuel
+  pub rest : (r : Count) (x y : List ℕ) → Parses n m o c (parse fuel (drop i (bitsOf s))) r x y → Parses 0 0 o₀ c₀ (segmentsOf s) r x y
+
+pub parsing-start : (s o c : List ℕ) → Parsing s o c 0 0 0 o c
+parsing-start s o c = record { fuel = 8 * length s + 1; enough = omega arith; rest = λ r x y h. h }
+
+module _ {s o₀ c₀ : List ℕ} {i n m : ℕ} {o c : List ℕ} (d : Parsing s o₀ c₀ i n m o c) where
+  abbrev bits : List ℕ
+  bits = drop i (bitsOf s)
+
+  -- what is left, with one turn to come
+  turn : (r : Count) (x y : List ℕ) → Parses n m o c (parse (suc (d .fuel - 1)) bits) r x y → Parses 0 0 o₀ c₀ (segmentsOf s) r x y
+  turn r x y h =
+      let l = d .enough in
+      let e : suc (d .fuel - 1) ≡ d .fuel = omega arith in
+      d .rest r x y (rw e at h)
+
+  pub parse-few : length bits < 4 → Parses 0 0 o₀ c₀ (segmentsOf s) (Done n m) o c
   unfolding parse payloadOf scriptOf flatMap
-  parse-few zero p h = absurd (omega arith)
-  parse-few (suc f) p h = rw (lt-ltb (length (drop i (bitsOf s))) 4 h) (rw (add-zero, add-zero), refl, refl)
+  parse-few h = turn (Done n m) o c (rw (lt-ltb (length bits) 4 h) (rw (add-zero, add-zero), refl, refl))
 
-  module _ (mode : ℕ) (w : WordAt 4 i mode s) where
-    enough : 4 ≤ length (drop i (bitsOf s))
-    enough = let m = w .room in omega (arith, length-left s i)
+  module _ {mode : ℕ} (w : WordAt 4 i mode s) where
+    enough-bits : 4 ≤ length bits
+    enough-bits = let m = w .room in omega (arith, length-left s i)
 
-    pub parse-end : (f : ℕ) → 0 < f → mode ≡ 0 → Parses n m o c (parse f (drop i (bitsOf s))) (Done n m) o c
+    pub parse-end : mode ≡ 0 → Parses 0 0 o₀ c₀ (segmentsOf s) (Done n m) o c
     unfolding parse payloadOf scriptOf flatMap
-    parse-end zero p e = absurd (omega arith)
-    parse-end (suc f) p e =
-        rw (le-ltb (length (drop i (bitsOf s))) 4 enough, ← (w .is), eq-eqb mode 0 e) (rw (add-zero, add-zero), refl, refl)
+    parse-end e = turn (Done n m) o c (rw (le-ltb (length bits) 4 enough-bits, ← (w .is), eq-eqb mode 0 e) (rw (add-zero, add-zero), refl, refl))
 
-    opened : (f : ℕ) → (mode ≡ 0 → ⊥) → parse (suc f) (drop i (bitsOf s))
-        ≡ following (segmentOf mode (drop (i + 4) (bitsOf s))) (λ u. parse f (drop u (drop (i + 4) (bitsOf s))))
-    unfolding parse
-    opened f h = simp (le-ltb (length (drop i (bitsOf s))) 4 enough, sym (w .is), ne-eqb mode 0 h, drop-drop 4 i (bitsOf s))
+    module _ (h : mode ≡ 0 → ⊥) (t : Step) (x y : List ℕ) (g : Stepped s (i + 4) n m o c (segmentOf mode (drop (i + 4) (bitsOf s))) t x y) where
+      abbrev behind-it : ℕ → Parsed
+      behind-it u = parse (d .fuel - 1) (drop u (drop (i + 4) (bitsOf s)))
 
-    module _ (f : ℕ) (p : 0 < f) (h : mode ≡ 0 → ⊥) (t : Step) (x y : List ℕ) (g : Stepped s (i + 4) n m o c (segmentOf mode (drop (i + 4) (bitsOf s))) t x y) where
-      pub parse-stop : (bad : Fault) → t ≡ stepped bad → Parses n m o c (parse f (drop i (bitsOf s))) (counted bad) x y
-      parse-stop bad e = go f p
+      opened : parse (suc (d .fuel - 1)) bits ≡ following (segmentOf mode (drop (i + 4) (bitsOf s))) behind-it
+      unfolding parse
+      opened = simp (le-ltb (length bits) 4 enough-bits, sym (w .is), ne-eqb mode 0 h, drop-drop 4 i (bitsOf s))
+
+      pub parse-stop : (bad : Fault) → t ≡ stepped bad → Parses 0 0 o₀ c₀ (segmentsOf s) (counted bad) x y
+      parse-stop bad e = turn (counted bad) x y (rw opened (here (segmentOf mode (drop (i + 4) (bitsOf s))) g))
         where
-          here : (z : Result Segment) (k : ℕ → Parsed) → Stepped s (i + 4) n m o c z t x y → Parses n m o c (following z k) (counted bad) x y
-          here (failed b) k q = ap counted (same-step bad b (sym e ∙ q))
-          here (got b u) k q = not-on bad (sym e ∙ q .0)
+          here : (z : Result Segment) → Stepped s (i + 4) n m o c z t x y → Parses n m o c (following z behind-it) (counted bad) x y
+          here (failed b) q = ap counted (same-step bad b (sym e ∙ q))
+          here (got b u) q = not-on bad (sym e ∙ q .0)
 
-          go : (f : ℕ) → 0 < f → Parses n m o c (parse f (drop i (bitsOf s))) (counted bad) x y
-          go zero p = absurd (omega arith)
-          go (suc f) p = rw (opened f h) (here (segmentOf mode (drop (i + 4) (bitsOf s))) (λ u. parse f (drop u (drop (i + 4) (bitsOf s)))) g)
+      module _ {a k j : ℕ} (e : t ≡ On a k j) where
+        pub parse-room : (i + 4 ≤ a) × (a ≤ 8 * length s) × (k ≤ a) × (j ≤ a)
+        parse-room = step-room s (i + 4) n m o c (segmentOf mode (drop (i + 4) (bitsOf s))) t a k j x y g e
 
-      pub parse-on : (a k j : ℕ) → t ≡ On a k j → (r : Count) (x′ y′ : List ℕ) → Parses k j x y (parse (f - 1) (drop a (bitsOf s))) r x′ y′ → Parses n m o c (parse f (drop i (bitsOf s))) r x′ y′
-      unfolding payloadOf scriptOf flatMap
-      parse-on a k j e r x′ y′ q = go f p q
-        where
-          reached : (b : Segment) (gs : List Segment) → Reached (n + length (bytesOf b)) (m + length (commandOf b)) (sets o n (bytesOf b)) (sets c m (commandOf b)) gs r x′ y′
-              → Reached n m o c (b ∷ gs) r x′ y′
-          reached b gs d =
-              let e1 : n + length (bytesOf b ++ payloadOf gs) ≡ n + length (bytesOf b) + length (payloadOf gs) = rw length-append (omega arith) in
-              let e2 : m + length (commandOf b ++ scriptOf gs) ≡ m + length (commandOf b) + length (scriptOf gs) = rw length-append (omega arith) in
-              (rw (e1, e2) (d .0), rw sets-append (d .1), rw sets-append (d .2))
-
-          join : (b : Segment) (gs : List Segment) (z : Ending) → ParsesTo (n + length (bytesOf b)) (m + length (commandOf b)) (sets o n (bytesOf b)) (sets c m (commandOf b)) gs z r x′ y′
-              → ParsesTo n m o c (b ∷ gs) z r x′ y′
-          join b gs endMark d = reached b gs d
-          join b gs fewBits d = reached b gs d
-          join b gs (broken bad) d = d
-
-          here : (f′ : ℕ) (z : Result Segment) → Stepped s (i + 4) n m o c z t x y → Parses k j x y (parse f′ (drop a (bitsOf s))) r x′ y′
-              → Parses n m o c (following z (λ u. parse f′ (drop u (drop (i + 4) (bitsOf s))))) r x′ y′
-          here f′ (failed bad) d q = not-on bad (sym d ∙ e)
-          here f′ (got b u) d q =
-              let d0 = d .0 in
-              let ea : a ≡ i + 4 + u = cc in
-              let ek : k ≡ n + length (bytesOf b) = cc in
-              let ej : j ≡ m + length (commandOf b) = cc in
-              join b (parse f′ (drop u (drop (i + 4) (bitsOf s))) .segments) (parse f′ (drop u (drop (i + 4) (bitsOf s))) .end) (rw (drop-drop u (i + 4) (bitsOf s), ← ea, ← ek, ← ej, ← (d .1), ← (d .2)) q)
-
-          go : (f : ℕ) → 0 < f → Parses k j x y (parse (f - 1) (drop a (bitsOf s))) r x′ y′ → Parses n m o c (parse f (drop i (bitsOf s))) r x′ y′
-          go zero p q = absurd (omega arith)
-          go (suc f) p q =
-              let z : suc f - 1 ≡ f = omega arith in
-              rw (opened f h) (here f (segmentOf mode (drop (i + 4) (bitsOf s))) g (rw z at q))
+        pub parse-on : Parsing s o₀ c₀ a k j x y
+        parse-on =
+            let l = parse-room in
+            record {
+              fuel = d .fuel - 1;
+              enough = omega (arith, d .enough, w .room);
+              rest = λ r x′ y′ q. turn r x′ y′ (rw opened (here (segmentOf mode (drop (i + 4) (bitsOf s))) r x′ y′ g q));
+            }
+          where
+            here : (z : Result Segment) (r : Count) (x′ y′ : List ℕ) → Stepped s (i + 4) n m o c z t x y → Parses k j x y (parse (d .fuel - 1) (drop a (bitsOf s))) r x′ y′
+                → Parses n m o c (following z behind-it) r x′ y′
+            here (failed bad) r x′ y′ q f = not-on bad (sym q ∙ e)
+            here (got b u) r x′ y′ q f =
+                let q0 = q .0 in
+                let ea : a ≡ i + 4 + u = cc in
+                let ek : k ≡ n + length (bytesOf b) = cc in
+                let ej : j ≡ m + length (commandOf b) = cc in
+                join n m o c b (behind-it u .segments) r x′ y′ (behind-it u .end) (rw (drop-drop u (i + 4) (bitsOf s), ← ea, ← ek, ← ej, ← (q .1), ← (q .2)) f)

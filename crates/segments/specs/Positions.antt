@@ -78,13 +78,16 @@ Inside s from to (Done i n) = (from ≤ i) × (i ≤ 8 * length s) × (to ≤ n)
 Inside s from to Cut = Unit {0}
 Inside s from to Lacking = Unit {0}
 
--- what a run of characters in one region leaves of the segment
-abbrev pub RegionLeft : List ℕ → ℕ → ℕ → List ℕ → Bool → Region → List ℕ → Type 0
-RegionLeft s from to o region (End i n) x = (regionAt s from to o region ≡ at i n x) × (from ≤ i) × (i ≤ 8 * length s) × (to ≤ n) × (n ≤ i)
-RegionLeft s from to o region (Switch i n) x =
-    (from + 12 ≤ i) × (i ≤ 8 * length s) × (n ≤ i) × (regionAt s from to o region ≡ regionAt s i n x (not region)) × (to ≤ n)
-RegionLeft s from to o region RegionCut x = regionAt s from to o region ≡ stopped cut
-RegionLeft s from to o region RegionLacking x = regionAt s from to o region ≡ stopped lacking
+-- what a run of characters in one region leaves of the segment: its end or a fault, or a switch behind which the other region goes on
+abbrev pub RegionCases : List ℕ → ℕ → ℕ → List ℕ → Bool → Region → List ℕ → Type 0
+RegionCases s from to o region (End i n) x = (regionAt s from to o region ≡ at i n x) × Inside s from to (Done i n)
+RegionCases s from to o region (Switch i n) x =
+    (regionAt s from to o region ≡ regionAt s i n x (not region)) × (from + 12 ≤ i) × Inside s from to (Done i n)
+RegionCases s from to o region RegionCut x = regionAt s from to o region ≡ stopped cut
+RegionCases s from to o region RegionLacking x = regionAt s from to o region ≡ stopped lacking
+
+pub record RegionLeft (s : List ℕ) (from to : ℕ) (o : List ℕ) (region : Bool) (r : Region) (x : List ℕ) : Type 0 where
+  pub cases : RegionCases s from to o region r x
 
 -- the position and the value behind an ECI at the position i
 abbrev pub EciLeft : List ℕ → ℕ → Result Segment → Count → Type 0

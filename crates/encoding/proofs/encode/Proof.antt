@@ -1,16 +1,13 @@
 -- `encode` meets its contract. Assumes nothing.
 use mathlib.Core.Path.{_≡_, refl, _∙_}
-use Prim.Native.Nat.{_+_, _-_, _≤_, _<_}
+use Prim.Native.Nat.{_+_, _-_, _≤_}
 use native.Mathlib.Nat.{add-zero}
 use native.Mathlib.Omega.{arith}
 use borrow.Author.Needs.{needs}
 use lib.ListN.{length, take, drop}
 use Rattle.segments.specs.Script.{run, eci}
-use Rattle.script.specs.Writer.{encodingOf}
 use Rattle.script.specs.Inner.{commandSize}
-use Rattle.script.proofs.Checks.{run-bounds, eci-bounds}
-use Rattle.encoding.specs.Written.{Written}
-use Rattle.encoding.proofs.Segments.{Left, begun, never-wrong, run-front, eci-front, front-has, front-room, front-done, end-room, ended}
+use Rattle.encoding.proofs.Segments.{Left, Next, begun, never-wrong, run-next, eci-next, end-room, ended}
 use Rattle.encoding.proofs.encode.Statement.{statement}
 use Rattle.encoding.proofs.encode.Tie as tie
 
@@ -28,180 +25,90 @@ loop-holds c =
     let a = s .args in
     (refl, omega arith, omega arith, s .pre .1, begun (a .script .now) (a .payload .now) (length (a .codewords .now)) (a .codewords .now) (λ k. omega (arith, y .shared-slice-known .given k)) (s .pre .0))
 
-add-end : tie.Need-add-end Inv-loop μ-loop
-add-end c =
-    let k = c in
-    let g = k .before .before .before in
-    let l = g .before .before .loop in
+-- the segment in front, where the command is one of modes 1 to 7
+next-run : (c : tie.After-known-told Inv-loop μ-loop)
+    → let l = c .before .before .before .before .before .loop in
+    let a = c .before .before .before .before .before .before .before .before .before .args in
+    let v = c .before .next .given .0 in
+    (1 ≤ v .0) × (v .0 ≤ 7)
+    × Next (a .script .now) (a .payload .now) (length (a .codewords .now)) (l .codewords) (l .i) (l .j) (l .at)
+    (run (v .0) (take (v .1 .0) (drop (l .j) (a .payload .now)))) (commandSize (v .0)) (v .1 .0)
+next-run c =
+    let g = c .before .before .before in
     let y = g .before .before .before .before .before in
-    let a = y .before .args in
-    let v = k .before .next .given in
-    let h : l .i < length (a .script .now) = omega arith in
-    let d = l .inv .4 in
-    let u = run-bounds (a .script .now) (l .i) (λ q. omega (arith, y .shared-slice-known .given q)) h (g .command-at .result) (g .command-at .ensures) (v .0 .0) (v .0 .1 .0) (v .1) in
-    let t = run-front (a .script .now) (a .payload .now) (length (a .codewords .now)) (l .codewords) (l .i) (l .j) (l .at) h (g .command-at .result) (g .command-at .ensures) d (v .0 .0) (v .0 .1 .0) (v .1) in
-    omega arith
+    run-next (omega arith) (g .command-at .ensures) (g .before .before .loop .inv .4) (λ q. omega (arith, y .shared-slice-known .given q)) (c .before .next .given .1)
+
+-- and where it is an ECI
+next-eci : (c : tie.After-known-told2 Inv-loop μ-loop)
+    → let l = c .before .before .before .before .before .loop in
+    let a = c .before .before .before .before .before .before .before .before .before .args in
+    Next (a .script .now) (a .payload .now) (length (a .codewords .now)) (l .codewords) (l .i) (l .j) (l .at) (eci (c .before .next2 .given .0 .0)) 4 0
+next-eci c =
+    let g = c .before .before .before in
+    let y = g .before .before .before .before .before in
+    eci-next (omega arith) (g .command-at .ensures) (g .before .before .loop .inv .4) (λ q. omega (arith, y .shared-slice-known .given q)) (c .before .next2 .given .1)
+
+add-end : tie.Need-add-end Inv-loop μ-loop
+add-end c = let t = next-run c in omega arith
 
 sub-write-run : tie.Need-sub-write-run Inv-loop μ-loop
-sub-write-run c =
-    let k = c .before in
-    let g = k .before .before .before in
-    let l = g .before .before .loop in
-    let y = g .before .before .before .before .before in
-    let a = y .before .args in
-    let v = k .before .next .given in
-    let h : l .i < length (a .script .now) = omega arith in
-    let d = l .inv .4 in
-    let u = run-bounds (a .script .now) (l .i) (λ q. omega (arith, y .shared-slice-known .given q)) h (g .command-at .result) (g .command-at .ensures) (v .0 .0) (v .0 .1 .0) (v .1) in
-    let t = run-front (a .script .now) (a .payload .now) (length (a .codewords .now)) (l .codewords) (l .i) (l .j) (l .at) h (g .command-at .result) (g .command-at .ensures) d (v .0 .0) (v .0 .1 .0) (v .1) in
-    omega arith
+sub-write-run c = let t = next-run (c .before) in omega arith
 
 part-write-run-start : tie.Need-part-write-run-start Inv-loop μ-loop
-part-write-run-start c =
-    let k = c .before in
-    let g = k .before .before .before in
-    let l = g .before .before .loop in
-    let y = g .before .before .before .before .before in
-    let a = y .before .args in
-    let v = k .before .next .given in
-    let h : l .i < length (a .script .now) = omega arith in
-    let d = l .inv .4 in
-    let u = run-bounds (a .script .now) (l .i) (λ q. omega (arith, y .shared-slice-known .given q)) h (g .command-at .result) (g .command-at .ensures) (v .0 .0) (v .0 .1 .0) (v .1) in
-    let t = run-front (a .script .now) (a .payload .now) (length (a .codewords .now)) (l .codewords) (l .i) (l .j) (l .at) h (g .command-at .result) (g .command-at .ensures) d (v .0 .0) (v .0 .1 .0) (v .1) in
-    omega arith
+part-write-run-start c = let t = next-run (c .before) in omega arith
 
 part-write-run-end : tie.Need-part-write-run-end Inv-loop μ-loop
-part-write-run-end c =
-    let k = c .before in
-    let g = k .before .before .before in
-    let l = g .before .before .loop in
-    let y = g .before .before .before .before .before in
-    let a = y .before .args in
-    let v = k .before .next .given in
-    let h : l .i < length (a .script .now) = omega arith in
-    let d = l .inv .4 in
-    let u = run-bounds (a .script .now) (l .i) (λ q. omega (arith, y .shared-slice-known .given q)) h (g .command-at .result) (g .command-at .ensures) (v .0 .0) (v .0 .1 .0) (v .1) in
-    let t = run-front (a .script .now) (a .payload .now) (length (a .codewords .now)) (l .codewords) (l .i) (l .j) (l .at) h (g .command-at .result) (g .command-at .ensures) d (v .0 .0) (v .0 .1 .0) (v .1) in
-    omega arith
+part-write-run-end c = let t = next-run (c .before) in omega arith
 
 write-run-requires : tie.Need-write-run-requires Inv-loop μ-loop
 write-run-requires c κs =
     let k = c .before .before in
-    let g = k .before .before .before in
-    let l = g .before .before .loop in
-    let y = g .before .before .before .before .before in
-    let a = y .before .args in
-    let v = k .before .next .given in
-    let h : l .i < length (a .script .now) = omega arith in
-    let d = l .inv .4 in
-    let u = run-bounds (a .script .now) (l .i) (λ q. omega (arith, y .shared-slice-known .given q)) h (g .command-at .result) (g .command-at .ensures) (v .0 .0) (v .0 .1 .0) (v .1) in
-    let t = run-front (a .script .now) (a .payload .now) (length (a .codewords .now)) (l .codewords) (l .i) (l .j) (l .at) h (g .command-at .result) (g .command-at .ensures) d (v .0 .0) (v .0 .1 .0) (v .1) in
-    let z : l .j + v .0 .1 .0 - l .j ≡ v .0 .1 .0 = omega arith in
-    let r = front-room (a .script .now) (a .payload .now) (length (a .codewords .now)) (l .codewords) (l .i) (l .j) (l .at) h (g .command-at .result) (g .command-at .ensures) d (run (v .0 .0) (take (v .0 .1 .0) (drop (l .j) (a .payload .now)))) (commandSize (v .0 .0)) (v .0 .1 .0) (t .1) in
+    let l = k .before .before .before .before .before .loop in
+    let n = k .before .next .given .0 .1 .0 in
+    let t = next-run k in
+    let z : l .j + n - l .j ≡ n = omega arith in
     let w = l .inv .0 in
-    rw (z, w) (omega arith, u .0, u .1, front-has (a .script .now) (a .payload .now) (length (a .codewords .now)) (l .codewords) (l .i) (l .j) (l .at) h (g .command-at .result) (g .command-at .ensures) d (run (v .0 .0) (take (v .0 .1 .0) (drop (l .j) (a .payload .now)))) (commandSize (v .0 .0)) (v .0 .1 .0) (t .1), r)
+    rw (z, w) (omega arith, t .0, t .1, t .2 .mode-has, t .2 .room)
 
 loop-less : tie.Need-loop-less Inv-loop μ-loop
-loop-less c =
-    let before = c .before .before .before .before .before .before in
-    let k = before in
-    let g = k .before .before .before in
-    let l = g .before .before .loop in
-    let y = g .before .before .before .before .before in
-    let a = y .before .args in
-    let v = k .before .next .given in
-    let h : l .i < length (a .script .now) = omega arith in
-    let d = l .inv .4 in
-    let u = run-bounds (a .script .now) (l .i) (λ q. omega (arith, y .shared-slice-known .given q)) h (g .command-at .result) (g .command-at .ensures) (v .0 .0) (v .0 .1 .0) (v .1) in
-    let t = run-front (a .script .now) (a .payload .now) (length (a .codewords .now)) (l .codewords) (l .i) (l .j) (l .at) h (g .command-at .result) (g .command-at .ensures) d (v .0 .0) (v .0 .1 .0) (v .1) in
-    omega arith
+loop-less c = let t = next-run (c .before .before .before .before .before .before) in omega arith
 
 loop-again : tie.Need-loop-again Inv-loop μ-loop
 loop-again c =
-    let before = c .before .before .before .before .before .before in
-    let k = before in
-    let g = k .before .before .before in
-    let l = g .before .before .loop in
-    let y = g .before .before .before .before .before in
-    let a = y .before .args in
-    let v = k .before .next .given in
-    let h : l .i < length (a .script .now) = omega arith in
-    let d = l .inv .4 in
-    let u = run-bounds (a .script .now) (l .i) (λ q. omega (arith, y .shared-slice-known .given q)) h (g .command-at .result) (g .command-at .ensures) (v .0 .0) (v .0 .1 .0) (v .1) in
-    let t = run-front (a .script .now) (a .payload .now) (length (a .codewords .now)) (l .codewords) (l .i) (l .j) (l .at) h (g .command-at .result) (g .command-at .ensures) d (v .0 .0) (v .0 .1 .0) (v .1) in
+    let k = c .before .before .before .before .before .before in
+    let l = k .before .before .before .before .before .loop in
+    let n = k .before .next .given .0 .1 .0 in
+    let t = next-run k in
     let q = c .before .before .before .write-run in
-    let z : l .j + v .0 .1 .0 - l .j ≡ v .0 .1 .0 = omega arith in
+    let z : l .j + n - l .j ≡ n = omega arith in
     let e = c .command-size .ensures .0 in
-    let f : Written (l .codewords) (l .at) (encodingOf (run (v .0 .0) (take (v .0 .1 .0) (drop (l .j) (a .payload .now))))) (q .result) (q .last .0) = rw z at (q .ensures) in (
-      q .kept .0 ∙ l .inv .0,
-      omega arith,
-      omega arith,
-      l .inv .3,
-      rw e (front-done (a .script .now) (a .payload .now) (length (a .codewords .now)) (l .codewords) (l .i) (l .j) (l .at) h (g .command-at .result) (g .command-at .ensures) d (run (v .0 .0) (take (v .0 .1 .0) (drop (l .j) (a .payload .now)))) (commandSize (v .0 .0)) (v .0 .1 .0) (t .1) (q .last .0) (q .result) (omega arith) (u .3) f),
-    )
+    (q .kept .0 ∙ l .inv .0, omega arith, omega arith, l .inv .3, rw e (t .2 .done (rw z at (q .ensures))))
 
 write-eci-requires : tie.Need-write-eci-requires Inv-loop μ-loop
 write-eci-requires c κs =
     let k = c .before in
-    let g = k .before .before .before in
-    let l = g .before .before .loop in
-    let y = g .before .before .before .before .before in
-    let a = y .before .args in
-    let v = k .before .next2 .given in
-    let h : l .i < length (a .script .now) = omega arith in
-    let d = l .inv .4 in
-    let u = eci-bounds (a .script .now) (l .i) (λ q. omega (arith, y .shared-slice-known .given q)) h (g .command-at .result) (g .command-at .ensures) (v .0 .0) (v .1) in
-    let t = eci-front (a .script .now) (a .payload .now) (length (a .codewords .now)) (l .codewords) (l .i) (l .j) (l .at) h (g .command-at .result) (g .command-at .ensures) d (v .0 .0) (v .1) in
-    let r = front-room (a .script .now) (a .payload .now) (length (a .codewords .now)) (l .codewords) (l .i) (l .j) (l .at) h (g .command-at .result) (g .command-at .ensures) d (eci (v .0 .0)) 4 0 t in
-    let w = l .inv .0 in
-    rw w (omega arith, r)
+    let w = k .before .before .before .before .before .loop .inv .0 in
+    rw w (omega arith, next-eci k .room)
 
 loop-less-2 : tie.Need-loop-less-2 Inv-loop μ-loop
-loop-less-2 c =
-    let k = c .before .before .before .before in
-    let g = k .before .before .before in
-    let l = g .before .before .loop in
-    let y = g .before .before .before .before .before in
-    let a = y .before .args in
-    let v = k .before .next2 .given in
-    let h : l .i < length (a .script .now) = omega arith in
-    let d = l .inv .4 in
-    let u = eci-bounds (a .script .now) (l .i) (λ q. omega (arith, y .shared-slice-known .given q)) h (g .command-at .result) (g .command-at .ensures) (v .0 .0) (v .1) in
-    let t = eci-front (a .script .now) (a .payload .now) (length (a .codewords .now)) (l .codewords) (l .i) (l .j) (l .at) h (g .command-at .result) (g .command-at .ensures) d (v .0 .0) (v .1) in
-    omega arith
+loop-less-2 c = let t = next-eci (c .before .before .before .before) in omega arith
 
 loop-again-2 : tie.Need-loop-again-2 Inv-loop μ-loop
 loop-again-2 c =
     let k = c .before .before .before .before in
-    let g = k .before .before .before in
-    let l = g .before .before .loop in
-    let y = g .before .before .before .before .before in
-    let a = y .before .args in
-    let v = k .before .next2 .given in
-    let h : l .i < length (a .script .now) = omega arith in
-    let d = l .inv .4 in
-    let u = eci-bounds (a .script .now) (l .i) (λ q. omega (arith, y .shared-slice-known .given q)) h (g .command-at .result) (g .command-at .ensures) (v .0 .0) (v .1) in
-    let t = eci-front (a .script .now) (a .payload .now) (length (a .codewords .now)) (l .codewords) (l .i) (l .j) (l .at) h (g .command-at .result) (g .command-at .ensures) d (v .0 .0) (v .1) in
-    let q = c .before .before .write-eci in (
-      q .kept .0 ∙ l .inv .0,
-      omega arith,
-      omega arith,
-      l .inv .3,
-      rw add-zero at (front-done (a .script .now) (a .payload .now) (length (a .codewords .now)) (l .codewords) (l .i) (l .j) (l .at) h (g .command-at .result) (g .command-at .ensures) d (eci (v .0 .0)) 4 0 t (q .last .0) (q .result) (omega arith) u (q .ensures)),
-    )
+    let l = k .before .before .before .before .before .loop in
+    let t = next-eci k in
+    let q = c .before .before .write-eci in
+    (q .kept .0 ∙ l .inv .0, omega arith, omega arith, l .inv .3, rw add-zero at (t .done (q .ensures)))
 
 returns : tie.Need-returns Inv-loop μ-loop
 returns c =
     let g = c .before .before in
-    let l = g .before .before .loop in
-    let a = g .before .before .before .before .before .before .args in
-    never-wrong (a .script .now) (a .payload .now) (length (a .codewords .now)) (l .codewords) (l .i) (l .j) (l .at) (omega arith) (g .command-at .result) (g .command-at .ensures) (l .inv .4) (c .enum-told .given .1)
+    never-wrong (omega arith) (g .command-at .ensures) (g .before .before .loop .inv .4) (c .enum-told .given .1)
 
 pad-requires : tie.Need-pad-requires Inv-loop μ-loop
 pad-requires c κs =
-    let l = c .before .before .loop in
-    let a = c .before .before .before .before .before .before .args in
-    let r = end-room (a .script .now) (a .payload .now) (length (a .codewords .now)) (l .codewords) (l .i) (l .j) (l .at) (omega arith) (l .inv .4) in
+    let r = end-room (omega arith) (c .before .before .loop .inv .4) in
     (omega arith, omega arith)
 
 same-length-2 : tie.Need-same-length-2 Inv-loop μ-loop
@@ -211,8 +118,7 @@ returns-2 : tie.Need-returns-2 Inv-loop μ-loop
 returns-2 c =
     let p = c .before .before in
     let l = p .before .before .before .loop in
-    let a = p .before .before .before .before .before .before .before .args in
-    ended (a .script .now) (a .payload .now) (length (a .codewords .now)) (l .codewords) (l .i) (l .j) (l .at) (omega arith) (l .inv .4) (p .pad .last .0) (λ k. omega (arith, c .slice-known4 .given k)) (rw (l .inv .0) at (p .pad .ensures))
+    ended (omega arith) (l .inv .4) (p .pad .last .0) (λ k. omega (arith, c .slice-known4 .given k)) (rw (l .inv .0) at (p .pad .ensures))
 
 pub encode-spec : {M : Type 1} → statement M
 encode-spec =

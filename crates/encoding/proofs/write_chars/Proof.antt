@@ -1,13 +1,14 @@
 -- `write_chars` meets its contract. Assumes nothing.
-use mathlib.Core.Path.{_≡_, refl, sym, _∙_}
-use mathlib.Core.Bool.{true}
+use mathlib.Core.Path.{_≡_, refl, _∙_}
+use mathlib.Core.Bool.{true, not}
+use mathlib.Core.List.{[], _∷_}
 use Prim.Native.Nat.{_+_, _-_, _*_, _≤_}
 use native.Mathlib.Omega.{arith}
 use borrow.Author.Needs.{needs}
-use lib.ListN.{length, drop, length-drop}
-use Rattle.script.specs.Characters.{wordsOf, hasAll, beginsIn}
+use lib.ListN.{length, drop}
+use Rattle.script.specs.Characters.{wordsOf, hasAll, switchOf, beginsIn}
 use Rattle.encoding.specs.Written.{Doing}
-use Rattle.encoding.proofs.Doing.{begun, word-room, word-done, all-done, doing-as, same-words, other-words, never-lacking, end-words}
+use Rattle.encoding.proofs.Doing.{Behind, begun, word-room, word-done, all-done, doing-as, same-words, other-words, never-lacking, end-words}
 use Rattle.encoding.proofs.write_chars.Statement.{statement}
 use Rattle.encoding.proofs.write_chars.Tie as tie
 
@@ -26,117 +27,95 @@ loop-holds c =
     let a = s .args in
     (refl, omega arith, s .pre .1, rw (c .width .ensures .0) (s .pre .2), begun (c .width .result) (a .buf .now) (a .from) (wordsOf (a .mode) (beginsIn (a .mode)) (a .run .now)))
 
+-- behind a character of the present subset or region, and behind one of the other
+same : (c : tie.After-known-told Inv-loop μ-loop)
+    → let l = c .before .before .before .before .before .loop in
+    let y = c .before .before .before .before .before .before in
+    let a = y .before .before .before .before .args in
+    Behind (a .run .now) (a .mode) (l .j + y .before .step .result) (y .width .result) (a .buf .now) (a .from) (wordsOf (a .mode) (beginsIn (a .mode)) (a .run .now)) (l .buf) (l .at)
+    (c .before .g .given .0 .0 ∷ []) (l .first)
+unfolding beginsIn
+same c =
+    let g = c .before .before .before in
+    let l = g .before .before .loop in
+    let a = g .before .before .before .before .before .before .before .args in
+    same-words (a .run .now) (a .mode) (l .first) (l .j) (g .character-at .ensures) (g .before .before .before .before .step .ensures .0) (omega arith) (l .inv .2) (l .inv .4) (c .before .g .given .1)
+
+other : (c : tie.After-known-told2 Inv-loop μ-loop)
+    → let l = c .before .before .before .before .before .loop in
+    let y = c .before .before .before .before .before .before in
+    let a = y .before .before .before .before .args in
+    Behind (a .run .now) (a .mode) (l .j + y .before .step .result) (y .width .result) (a .buf .now) (a .from) (wordsOf (a .mode) (beginsIn (a .mode)) (a .run .now)) (l .buf) (l .at)
+    (switchOf (a .mode) ∷ c .before .g2 .given .0 .0 ∷ []) (not (l .first))
+unfolding beginsIn
+other c =
+    let g = c .before .before .before in
+    let l = g .before .before .loop in
+    let a = g .before .before .before .before .before .before .before .args in
+    other-words (a .run .now) (a .mode) (l .first) (l .j) (g .character-at .ensures) (g .before .before .before .before .step .ensures .0) (omega arith) (l .inv .2) (l .inv .4) (c .before .g2 .given .1)
+
 put-requires : tie.Need-put-requires Inv-loop μ-loop
+unfolding beginsIn
 put-requires c κs =
-    let k = c .before in
-    let gl = k .before .before .before in
-    let l = gl .before .before .loop in
-    let st = gl .before .before .before .before .step in
-    let a = gl .before .before .before .before .before .before .before .args in
-    let v = k .before .g .given in
-    let t = same-words (a .run .now) (a .mode) (l .first) (l .j) (v .0 .0) (st .result) (gl .character-at .result) (gl .character-at .ensures) (st .ensures .0) (v .1) in
-    let n = length-drop (l .j) (a .run .now) in
-    let d = doing-as (t .0) (l .inv .4) in
-    let r = word-room (8 * length (a .buf .now)) d (l .inv .3) in
-    (omega arith, omega arith, omega arith)
+    let l = c .before .before .before .before .before .before .loop in
+    let r = word-room (8 * length (l .buf)) (same (c .before) .doing) (rw (l .inv .0) (l .inv .3)) in
+    (omega arith, r, omega arith)
 
 loop-less : tie.Need-loop-less Inv-loop μ-loop
-loop-less c =
-    let k = c .before .before .before .before in
-    let gl = k .before .before .before in
-    let l = gl .before .before .loop in
-    let st = gl .before .before .before .before .step in
-    let a = gl .before .before .before .before .before .before .before .args in
-    let v = k .before .g .given in
-    let t = same-words (a .run .now) (a .mode) (l .first) (l .j) (v .0 .0) (st .result) (gl .character-at .result) (gl .character-at .ensures) (st .ensures .0) (v .1) in
-    let n = length-drop (l .j) (a .run .now) in
-    let d = doing-as (t .0) (l .inv .4) in
-    omega arith
+loop-less c = let t = same (c .before .before .before .before) in omega arith
 
 loop-again : tie.Need-loop-again Inv-loop μ-loop
+unfolding beginsIn
 loop-again c =
     let k = c .before .before .before .before in
-    let gl = k .before .before .before in
-    let l = gl .before .before .loop in
-    let st = gl .before .before .before .before .step in
-    let a = gl .before .before .before .before .before .before .before .args in
-    let v = k .before .g .given in
-    let t = same-words (a .run .now) (a .mode) (l .first) (l .j) (v .0 .0) (st .result) (gl .character-at .result) (gl .character-at .ensures) (st .ensures .0) (v .1) in
-    let n = length-drop (l .j) (a .run .now) in
-    let d = doing-as (t .0) (l .inv .4) in
+    let l = k .before .before .before .before .before .loop in
+    let t = same k in
     let p = c .before .before .put in
-    (p .kept .0 ∙ l .inv .0, omega arith, sym (t .1) ∙ l .inv .2, l .inv .3, word-done d (p .ensures))
+    (p .kept .0 ∙ l .inv .0, t .room, t .have, l .inv .3, word-done (t .doing) (p .ensures))
 
 put-requires-2 : tie.Need-put-requires-2 Inv-loop μ-loop
+unfolding beginsIn
 put-requires-2 c κs =
-    let k = c .before .before in
-    let gl = k .before .before .before in
-    let l = gl .before .before .loop in
-    let st = gl .before .before .before .before .step in
-    let a = gl .before .before .before .before .before .before .before .args in
-    let v = k .before .g2 .given in
-    let t = other-words (a .run .now) (a .mode) (l .first) (l .j) (v .0 .0) (st .result) (gl .character-at .result) (gl .character-at .ensures) (st .ensures .0) (v .1) in
-    let n = length-drop (l .j) (a .run .now) in
-    let d = doing-as (t .0) (l .inv .4) in
-    let r = word-room (8 * length (a .buf .now)) d (l .inv .3) in
-    (omega arith, omega arith, omega arith)
+    let l = c .before .before .before .before .before .before .before .loop in
+    let r = word-room (8 * length (l .buf)) (other (c .before .before) .doing) (rw (l .inv .0) (l .inv .3)) in
+    (omega arith, r, omega arith)
+
+-- the switch is written
+switched : (c : tie.After-put2 Inv-loop μ-loop)
+    → let l = c .before .before .before .before .before .before .before .before .loop in
+    let y = c .before .before .before .before .before .before .before .before .before in
+    let a = y .before .before .before .before .args in
+    Doing (y .width .result) (a .buf .now) (a .from) (wordsOf (a .mode) (beginsIn (a .mode)) (a .run .now)) (c .put2 .last .0) (c .put2 .result)
+    (c .before .before .before .before .g2 .given .0 .0 ∷ wordsOf (a .mode) (not (l .first)) (drop (l .j + y .before .step .result) (a .run .now)))
+switched c = word-done (other (c .before .before .before) .doing) (rw (c .before .switch-word .ensures) at (c .put2 .ensures))
 
 put-requires-3 : tie.Need-put-requires-3 Inv-loop μ-loop
+unfolding beginsIn
 put-requires-3 c κs =
-    let k = c .before .before .before .before .before .before in
-    let gl = k .before .before .before in
-    let l = gl .before .before .loop in
-    let st = gl .before .before .before .before .step in
-    let a = gl .before .before .before .before .before .before .before .args in
-    let v = k .before .g2 .given in
-    let t = other-words (a .run .now) (a .mode) (l .first) (l .j) (v .0 .0) (st .result) (gl .character-at .result) (gl .character-at .ensures) (st .ensures .0) (v .1) in
-    let n = length-drop (l .j) (a .run .now) in
-    let d = doing-as (t .0) (l .inv .4) in
-    let p = c .before .before .before .put2 in
-    let q = word-done d (rw (c .before .before .before .before .switch-word .ensures) at (p .ensures)) in
-    let r = word-room (8 * length (a .buf .now)) q (l .inv .3) in
-    (omega arith, omega arith, omega arith)
+    let p = c .before .before .before in
+    let l = p .before .before .before .before .before .before .before .before .loop in
+    let e = p .put2 .kept .0 ∙ l .inv .0 in
+    let r = word-room (8 * length (p .put2 .last .0)) (switched p) (rw e (l .inv .3)) in
+    (omega arith, r, omega arith)
 
 loop-less-2 : tie.Need-loop-less-2 Inv-loop μ-loop
-loop-less-2 c =
-    let before = c .before .before .before .before .before .before .before .before .before in
-    let k = before in
-    let gl = k .before .before .before in
-    let l = gl .before .before .loop in
-    let st = gl .before .before .before .before .step in
-    let a = gl .before .before .before .before .before .before .before .args in
-    let v = k .before .g2 .given in
-    let t = other-words (a .run .now) (a .mode) (l .first) (l .j) (v .0 .0) (st .result) (gl .character-at .result) (gl .character-at .ensures) (st .ensures .0) (v .1) in
-    let n = length-drop (l .j) (a .run .now) in
-    let d = doing-as (t .0) (l .inv .4) in
-    omega arith
+loop-less-2 c = let t = other (c .before .before .before .before .before .before .before .before .before) in omega arith
 
 loop-again-2 : tie.Need-loop-again-2 Inv-loop μ-loop
+unfolding beginsIn
 loop-again-2 c =
-    let before = c .before .before .before .before .before .before .before .before .before in
-    let switch-word = c .before .before .before .before .before .before .before .switch-word in
-    let put2 = c .before .before .before .before .before .before .put2 in
-    let k = before in
-    let gl = k .before .before .before in
-    let l = gl .before .before .loop in
-    let st = gl .before .before .before .before .step in
-    let a = gl .before .before .before .before .before .before .before .args in
-    let v = k .before .g2 .given in
-    let t = other-words (a .run .now) (a .mode) (l .first) (l .j) (v .0 .0) (st .result) (gl .character-at .result) (gl .character-at .ensures) (st .ensures .0) (v .1) in
-    let n = length-drop (l .j) (a .run .now) in
-    let d = doing-as (t .0) (l .inv .4) in
-    let p = put2 in
-    let q = word-done d (rw (switch-word .ensures) at (p .ensures)) in
+    let p = c .before .before .before .before .before .before in
+    let l = p .before .before .before .before .before .before .before .before .loop in
+    let t = other (p .before .before .before) in
     let z = c .before .before .put3 in
-    (z .kept .0 ∙ p .kept .0 ∙ l .inv .0, omega arith, sym (t .1) ∙ l .inv .2, l .inv .3, word-done q (z .ensures))
+    (z .kept .0 ∙ p .put2 .kept .0 ∙ l .inv .0, t .room, t .have, l .inv .3, word-done (switched p) (z .ensures))
 
 returns : tie.Need-returns Inv-loop μ-loop
 returns c =
-    let gl = c .before .before in
-    let l = gl .before .before .loop in
-    let st = gl .before .before .before .before .step in
-    let a = gl .before .before .before .before .before .before .before .args in
-    never-lacking (a .run .now) (a .mode) (l .first) (l .j) 0 (st .result) (gl .character-at .result) (gl .character-at .ensures) (st .ensures .0) (l .inv .2) (c .enum-told .given .1)
+    let g = c .before .before in
+    let l = g .before .before .loop in
+    let a = g .before .before .before .before .before .before .before .args in
+    never-lacking (a .run .now) (a .mode) (l .first) (l .j) (g .character-at .ensures) (l .inv .2) (c .enum-told .given .1)
 
 put-requires-4 : tie.Need-put-requires-4 Inv-loop μ-loop
 put-requires-4 c κs =

@@ -35,7 +35,7 @@ loop-again c =
     let x = c .before .before .before .before .before .group in
     let y = c .before .before .before .before .group2 in
     let d = doing-as (six-digits (a .run .now) (l .j) (omega arith)) (l .inv .3) in
-    (p .kept .0 ∙ l .inv .0, omega arith, omega arith, two-done d (rw (x .ensures .0, y .ensures .0) at (rw (two-words (x .result) (y .result)) at (p .ensures))))
+    (p .kept .0 ∙ l .inv .0, omega arith, omega arith, two-done d (rw (x .ensures .0, y .ensures .0) at (rw (two-words 10 10 (x .result) (y .result)) at (p .ensures))))
 
 returns : tie.Need-returns Inv-loop μ-loop
 returns c =

@@ -1,41 +1,38 @@
 -- `bytes_run` meets its contract. Assumes nothing.
 use native.Mathlib.Nat.{sub-zero}
 use borrow.Author.Needs.{needs}
-use mathlib.Core.Path.{_≡_, _∙_, refl, sym}
+use mathlib.Core.Path.{_≡_, _∙_, refl}
+use mathlib.Core.List.{[], _∷_}
 use native.Mathlib.Omega.{arith}
 use Prim.Native.Nat.{_≤_, _*_, _-_, _+_}
 use lib.ListN.{length}
-use Rattle.bits.proofs.Words.{WordAt, word-read, word-cut}
-use Rattle.segments.proofs.Turns.{bytes-run-cut, bytes-run-done, bytes-run-more}
+use Rattle.bits.proofs.Words.{WordAt}
+use Rattle.segments.specs.Segments.{bytesRun}
 use Rattle.segments.specs.Positions.{bytesRunAt}
+use Rattle.segments.proofs.Turns.{Remains, remains-start, remains-cut, remains-word, remains-on, bytes-run-cut, bytes-run-done, bytes-run-more}
 use Rattle.segments.proofs.bytes_run.Statement.{statement}
 use Rattle.segments.proofs.bytes_run.Tie as tie
 
 abbrev Inv-loop : tie.InvT-loop
-Inv-loop s from out₀ to k at₀ n₀ i₀ out at n i = (length out ≡ length out₀) × (i ≤ k) × (at ≤ 8 * length s) × (n ≤ at) × (from ≤ at) × (to ≤ n) × (bytesRunAt s from to out₀ k ≡ bytesRunAt s at n out (k - i))
+Inv-loop s from out₀ to k at₀ n₀ i₀ out at n i = (length out ≡ length out₀) × (i ≤ k) × Remains 8 (bytesRunAt s from to out₀ k) s from to at n out (bytesRun (k - i))
 
 abbrev μ-loop : tie.MeasureT-loop
 μ-loop s from out₀ to k at₀ n₀ i₀ out at n i = 8 * length s - at
 
 loop-holds : tie.Need-loop-holds Inv-loop μ-loop
-loop-holds c = (refl, omega arith, omega arith, omega arith, omega arith, omega arith, simp sub-zero)
+loop-holds c = (refl, omega arith, simp sub-zero (remains-start (omega arith) (omega arith)))
 
 returns : tie.Need-returns Inv-loop μ-loop
 returns c =
     let b = c .before .before in
     let l = b .before .before .loop in
-    let a = b .before .before .before .before .before .args in
-    (rw (l .inv .6 ∙ bytes-run-cut (a .s .now) (l .at) (l .n) (l .out) (a .k - l .i) (omega arith) (word-cut 8 (l .at) (a .s .now) (b .read-bits .result) (b .read-bits .ensures) (c .enum-told .given .1))) refl, tt)
+    let k = b .before .before .before .before .before .args .k in
+    (rw (remains-cut (l .inv .2) (b .read-bits .ensures) (c .enum-told .given .1) (bytes-run-cut k (l .i) (omega arith))) refl, tt)
 
 -- what was read, where a word was read
 word : (c : tie.After-known-told Inv-loop μ-loop)
     → WordAt 8 (c .before .before .before .before .before .loop .at) (c .before .got .given .0 .0) (c .before .before .before .before .before .before .before .before .args .s .now)
-word c =
-    let got = c .before .got in
-    let b = c .before .before .before in
-    let l = b .before .before .loop in
-    let a = b .before .before .before .before .before .args in
-    word-read 8 (l .at) (a .s .now) (b .read-bits .result) (b .read-bits .ensures) (got .given .0 .0) (omega arith) (omega arith) (got .given .1)
+word c = let b = c .before .before .before in remains-word (b .before .before .loop .inv .2) (b .read-bits .ensures) (omega arith) (c .before .got .given .1)
 
 put-requires : tie.Need-put-requires Inv-loop μ-loop
 put-requires c κs = word (c .before) .small
@@ -45,27 +42,17 @@ loop-less c = let m = word (c .before .before .before .before) .room in omega ar
 
 loop-again : tie.Need-loop-again Inv-loop μ-loop
 loop-again c =
-    let k = c .before .before .before .before in
-    let l = k .before .before .before .before .before .loop in
-    let a = k .before .before .before .before .before .before .before .before .args in
-    let r = word k in
+    let e = c .before .before .before .before in
+    let l = e .before .before .before .before .before .loop in
+    let k = e .before .before .before .before .before .before .before .before .args .k in
+    let w = e .before .got .given .0 .0 in
     let p = c .before .before .put in
-    let e : a .k - l .i - 1 ≡ a .k - (l .i + 1) = omega arith in (
-      p .kept .0 ∙ l .inv .0,
-      omega arith,
-      omega arith,
-      omega arith,
-      omega arith,
-      omega arith,
-      l .inv .6 ∙ bytes-run-more (a .s .now) (l .at) (l .n) (l .out) (k .before .got .given .0 .0) (a .k - l .i) r (omega arith) ∙ rw (e, sym (p .ensures)),
-    )
+    (p .kept .0 ∙ l .inv .0, omega arith, remains-on (l .inv .2) (word e) (w ∷ []) (bytesRun (k - (l .i + 1))) (bytes-run-more w k (l .i) (omega arith)) (omega arith) (p .ensures))
 
 returns-2 : tie.Need-returns-2 Inv-loop μ-loop
 returns-2 c =
-    let start = c .before .before .before .before in
     let l = c .before .loop in
-    let a = start .args in
-    (rw (l .inv .6 ∙ bytes-run-done (a .s .now) (l .at) (l .n) (l .out) (a .k - l .i) (omega arith)) (refl, refl), (omega arith, omega arith, omega arith, omega arith))
+    (rw (bytes-run-done (c .before .before .before .before .args .k) (l .i) (l .inv .2) (omega arith)) (refl, refl), (omega arith, omega arith, omega arith, omega arith))
 
 pub bytes-run-spec : {M : Type 1} → statement M
 bytes-run-spec =
