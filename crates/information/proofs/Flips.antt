@@ -36,7 +36,6 @@ without (suc zero ∷ ks) (x ∷ g) (y ∷ h) zero e a b = by (eqb x y)
 without (suc (suc k) ∷ ks) (x ∷ g) (y ∷ h) zero e a b = absurd (omega arith)
 without (k ∷ ks) (x ∷ g) (y ∷ h) (suc p) e a b =
     let ih = without ks g h p e (omega arith) (omega arith) in
-    let n : ℕ = cond (eqb k 1 && not (eqb x y)) 1 0 in
     ap (λ (m : ℕ). cond (eqb k 1 && not (eqb x y)) 1 0 + m) ih ∙ swap (cond (eqb k 1 && not (eqb x y)) 1 0) (cond (eqb (getD g p 0) (getD h p 0)) 0 1) (infoFlips (set ks p 2) g h)
   where
     swap : (a b d : ℕ) → a + (b + d) ≡ b + (a + d)
