@@ -50,5 +50,5 @@ pub written-stream : (v mask w : ℕ) (s : List ℕ) → 1 ≤ v → ((i : ℕ) 
 written-stream v mask w s lo b h =
     let m = maskBit (sideOf v) mask in
     let q = squareOf m (layoutOf v) s in
-    stream-back m (layoutOf v) s (infoWritten (sideOf v) w q) b h (info-length (sideOf v) w q (omega arith) ∙ length-square m (layoutOf v) s)
+    stream-back m (layoutOf v) s (infoWritten (sideOf v) w q) b h (info-length (sideOf v) w q ∙ length-square m (layoutOf v) s)
     (λ p l e. info-else v w q lo p (λ z. let y : _≡_ {A = ℕ} 0 1 = sym e ∙ z in omega arith))

@@ -1,5 +1,6 @@
 -- Interleave: every stream place is reached, so that a stream that was interleaved is given back.
 use mathlib.Core.Path.{_≡_, refl, ap, ap₂, _∙_, sym, subst}
+use mathlib.Core.Bool.{Bool, true, false}
 use mathlib.Core.Logic.{_≢_, _⊎_, inl, inr}
 use mathlib.Core.List.{List, [], _∷_, _++_, map, append-assoc, append-nil}
 use Prim.Native.Nat.{ℕ, zero, suc, _+_, _-_, _*_, _/_, _%_, _<_, _≤_}
@@ -10,7 +11,7 @@ use lib.ListN.{length, getD, set, take, drop, replicate, length-set, length-repl
 use lib.Seq.{getD-set-same, getD-set-other, ext-getD, drop-cons, take-set-lt, drop-set-lt, take-suc-set, length-take-le, getD-take, take-all}
 use Rattle.bits.specs.Bits.{storeAt}
 use Rattle.codewords.specs.Codewords.{steps, starts, order, toStream, fromStream}
-use Rattle.codewords.specs.Inner.{Storing, Collecting, ToStream, FromStream}
+use Rattle.codewords.specs.Inner.{into, outOf, moved, goneOn, Moving, Moves}
 
 -- p is one of ps
 abbrev pub Among : ℕ → List ℕ → Type 0
@@ -156,177 +157,123 @@ pub steps-done : (n p : ℕ) → n ≤ p → steps p ((n + 12 - p) / 13) ≡ []
 unfolding steps
 steps-done n p h = let u : (n + 12 - p) / 13 ≡ 0 = omega arith in ap (steps p) u
 
--- the loops over the starts: codewords to the stream
-module _ (cs : List ℕ) where
-  store-begun : (out : List ℕ) → length out ≡ length cs → Storing cs out (starts (length cs) 0 (13 - 0)) 0
-  unfolding order
-  store-begun out e = record { size = e; rest = omega (arith, length-order (length cs)); left = stream-from cs out e }
+-- one codeword is moved, and none is left
+moved-one : (d : Bool) (cs out qs : List ℕ) (p i : ℕ) → i < length cs → length out ≡ length cs
+    → goneOn d cs (set out (into d p i) (getD cs (outOf d p i) 0)) qs (i + 1) ≡ goneOn d cs out (p ∷ qs) i
+unfolding storeAt
+moved-one true cs out qs p i h e =
+    ap (λ (x : ℕ). storeAt qs (drop x cs) (set out p (getD cs i 0))) (add-one i) ∙ sym (ap (λ (x : List ℕ). storeAt (p ∷ qs) x out) (drop-cons cs i 0 h))
+moved-one false cs out qs p i h e =
+    ap (λ (x : ℕ). take x (set out i (getD cs p 0)) ++ map (at cs) qs) (add-one i)
+    ∙ ap (λ (x : List ℕ). x ++ map (at cs) qs) (take-suc-set out i (getD cs p 0) (omega arith))
+    ∙ append-assoc (take i out) (getD cs p 0 ∷ []) (map (at cs) qs)
 
-  module _ (out : List ℕ) (i : ℕ) where
-    store-open : (s : ℕ) → s < 13 → Storing cs out (starts (length cs) s (13 - s)) i
-        → Storing cs out (steps s ((length cs + 12 - s) / 13) ++ starts (length cs) (s + 1) (13 - (s + 1))) i
-    store-open s h U = subst (λ (ps : List ℕ). Storing cs out ps i) (starts-open (length cs) s h) U
+moved-all : (d : Bool) (cs out : List ℕ) (i : ℕ) → length out ≤ i → goneOn d cs out [] i ≡ out
+unfolding storeAt
+moved-all true cs out i h = refl
+moved-all false cs out i h = append-nil (take i out) ∙ take-all i out h
 
-    store-shut : (p s : ℕ) → length cs ≤ p → Storing cs out (steps p ((length cs + 12 - p) / 13) ++ starts (length cs) (s + 1) (13 - (s + 1))) i
-        → Storing cs out (starts (length cs) (s + 1) (13 - (s + 1))) i
-    store-shut p s h U = subst (λ (ps : List ℕ). Storing cs out (ps ++ starts (length cs) (s + 1) (13 - (s + 1))) i) (steps-done (length cs) p h) U
+-- the places of the starts behind s, and those in front of them from p on
+abbrev later : ℕ → ℕ → List ℕ
+later n s = starts n (s + 1) (13 - (s + 1))
 
-    store-more : (p s : ℕ) → p < length cs → Storing cs out (steps p ((length cs + 12 - p) / 13) ++ starts (length cs) (s + 1) (13 - (s + 1))) i
-        → (i < length cs) × Storing cs (set out p (getD cs i 0)) (steps (p + 13) ((length cs + 12 - (p + 13)) / 13) ++ starts (length cs) (s + 1) (13 - (s + 1))) (i + 1)
-    unfolding storeAt
-    store-more p s h U =
-        let qs = steps (p + 13) ((length cs + 12 - (p + 13)) / 13) ++ starts (length cs) (s + 1) (13 - (s + 1)) in
-        let U′ : Storing cs out (p ∷ qs) i = subst (λ (ps : List ℕ). Storing cs out (ps ++ starts (length cs) (s + 1) (13 - (s + 1))) i) (steps-open (length cs) p h) U in
-        let l : i < length cs = omega arith in (
-          l,
-          record {
-            size = length-set out p (getD cs i 0) ∙ U .size;
-            rest = omega arith;
-            left = ap (λ (x : ℕ). storeAt qs (drop x cs) (set out p (getD cs i 0))) (add-one i) ∙ sym (ap (λ (x : List ℕ). storeAt (p ∷ qs) x out) (drop-cons cs i 0 l)) ∙ U′ .left;
-          },
-        )
+abbrev from : ℕ → ℕ → ℕ → List ℕ
+from n p s = steps p ((n + 12 - p) / 13) ++ later n s
 
-    store-done : (s : ℕ) → 13 ≤ s → Storing cs out (starts (length cs) s (13 - s)) i → out ≡ toStream cs
-    unfolding starts storeAt
-    store-done s h U =
-        let z : 13 - s ≡ 0 = omega arith in
-        sym (ap (λ (x : ℕ). storeAt (starts (length cs) s x) (drop i cs) out) z) ∙ U .left
-
--- and out of it
-module _ (s : List ℕ) where
-  abbrev at-place : ℕ → ℕ
-  at-place p = getD s p 0
-
-  collect-begun : (out : List ℕ) → length out ≡ length s → Collecting s out (starts (length s) 0 (13 - 0)) 0
+module _ (d : Bool) (cs : List ℕ) where
+  move-begun : (out : List ℕ) → length out ≡ length cs → Moving d cs out (starts (length cs) 0 (13 - 0)) 0
   unfolding order fromStream
-  collect-begun out e = record { size = e; rest = omega (arith, length-order (length s)); left = refl }
+  move-begun out e = record { size = e; rest = omega (arith, length-order (length cs)); left = all d }
+    where
+      all : (d : Bool) → goneOn d cs out (order (length cs)) 0 ≡ moved d cs
+      all true = stream-from cs out e
+      all false = refl
 
   module _ (out : List ℕ) (i : ℕ) where
-    collect-open : (k : ℕ) → k < 13 → Collecting s out (starts (length s) k (13 - k)) i
-        → Collecting s out (steps k ((length s + 12 - k) / 13) ++ starts (length s) (k + 1) (13 - (k + 1))) i
-    collect-open k h U = subst (λ (ps : List ℕ). Collecting s out ps i) (starts-open (length s) k h) U
+    move-more : (p s : ℕ) → p < length cs → Moving d cs out (from (length cs) p s) i
+        → (i < length cs) × Moving d cs (set out (into d p i) (getD cs (outOf d p i) 0)) (from (length cs) (p + 13) s) (i + 1)
+    move-more p s h U =
+        let qs = from (length cs) (p + 13) s in
+        let U′ : Moving d cs out (p ∷ qs) i = subst (λ (ps : List ℕ). Moving d cs out (ps ++ later (length cs) s) i) (steps-open (length cs) p h) U in
+        let l : i < length cs = omega arith in
+        (l, record { size = length-set out _ _ ∙ U .size; rest = omega arith; left = moved-one d cs out qs p i l (U .size) ∙ U′ .left })
 
-    collect-shut : (p k : ℕ) → length s ≤ p → Collecting s out (steps p ((length s + 12 - p) / 13) ++ starts (length s) (k + 1) (13 - (k + 1))) i
-        → Collecting s out (starts (length s) (k + 1) (13 - (k + 1))) i
-    collect-shut p k h U = subst (λ (ps : List ℕ). Collecting s out (ps ++ starts (length s) (k + 1) (13 - (k + 1))) i) (steps-done (length s) p h) U
-
-    collect-more : (p k : ℕ) → p < length s → Collecting s out (steps p ((length s + 12 - p) / 13) ++ starts (length s) (k + 1) (13 - (k + 1))) i
-        → (i < length s) × Collecting s (set out i (getD s p 0)) (steps (p + 13) ((length s + 12 - (p + 13)) / 13) ++ starts (length s) (k + 1) (13 - (k + 1))) (i + 1)
-    collect-more p k h U =
-        let qs = steps (p + 13) ((length s + 12 - (p + 13)) / 13) ++ starts (length s) (k + 1) (13 - (k + 1)) in
-        let U′ : Collecting s out (p ∷ qs) i = subst (λ (ps : List ℕ). Collecting s out (ps ++ starts (length s) (k + 1) (13 - (k + 1))) i) (steps-open (length s) p h) U in
-        let l : i < length s = omega arith in (
-          l,
-          record {
-            size = length-set out i (getD s p 0) ∙ U .size;
-            rest = omega arith;
-            left = ap (λ (x : ℕ). take x (set out i (getD s p 0)) ++ map at-place qs) (add-one i)
-                ∙ ap (λ (x : List ℕ). x ++ map at-place qs) (take-suc-set out i (getD s p 0) (omega arith))
-                ∙ append-assoc (take i out) (getD s p 0 ∷ []) (map at-place qs) ∙ U′ .left;
-          },
-        )
-
-    collect-done : (k : ℕ) → 13 ≤ k → Collecting s out (starts (length s) k (13 - k)) i → out ≡ fromStream s
+    move-done : (s : ℕ) → 13 ≤ s → Moving d cs out (starts (length cs) s (13 - s)) i → out ≡ moved d cs
     unfolding starts
-    collect-done k h U =
-        let z : 13 - k ≡ 0 = omega arith in
-        let e : starts (length s) k (13 - k) ≡ [] = ap (starts (length s) k) z in
-        let n : i ≡ length s = omega (arith, ap length e) in
-        let f : take i out ++ map at-place (starts (length s) k (13 - k)) ≡ out = ap (λ (ps : List ℕ). take i out ++ map at-place ps) e ∙ append-nil (take i out) ∙ take-all i out (omega arith) in
-        sym f ∙ U .left
+    move-done s h U =
+        let z : 13 - s ≡ 0 = omega arith in
+        let e : starts (length cs) s (13 - s) ≡ [] = ap (starts (length cs) s) z in
+        sym (ap (λ (ps : List ℕ). goneOn d cs out ps i) e ∙ moved-all d cs out i (omega (arith, ap length e))) ∙ U .left
 
--- To the stream: within one start, places p, p + 13, .. are left
-pub record StoreStart (total : ℕ) (cs out₀ out : List ℕ) (start n p : ℕ) : Type 0 where
+-- Within one start, places p, p + 13, .. are left.
+pub record MoveStart (d : Bool) (total : ℕ) (cs out₀ out : List ℕ) (start n p : ℕ) : Type 0 where
   pub few : total ≤ 65535
   pub room : total ≤ length out
   pub whole : total ≤ length cs
   pub kept : length out ≡ length out₀
   pub beyond : drop total out ≡ drop total out₀
-  pub storing : Storing (take total cs) (take total out) (steps p ((length (take total cs) + 12 - p) / 13) ++ starts (length (take total cs)) (start + 1) (13 - (start + 1))) n
+  pub moving : Moving d (take total cs) (take total out) (from (length (take total cs)) p start) n
 
-module _ {total : ℕ} {cs out₀ : List ℕ} {start : ℕ} where
-  pub store-enter : {i : ℕ} → ToStream total cs out₀ start i → start < 13 → StoreStart total cs out₀ out₀ start i start
-  store-enter {i} t h = record { few = t .few; room = t .room; whole = t .whole; kept = refl; beyond = refl; storing = store-open (take total cs) (take total out₀) i start h (t .storing) }
+both-below : (d : Bool) {t p n : ℕ} → p < t → n < t → (into d p n < t) × (outOf d p n < t)
+both-below true a b = (a, b)
+both-below false a b = (b, a)
 
-  module _ {out : List ℕ} {n p : ℕ} (s : StoreStart total cs out₀ out start n p) where
-    store-length : length (take total cs) ≡ total
-    store-length = length-take-le total cs (s .whole)
+module _ {d : Bool} {total : ℕ} {cs out₀ : List ℕ} {start : ℕ} where
+  pub move-enter : {i : ℕ} → Moves d total cs out₀ start i → start < 13 → MoveStart d total cs out₀ out₀ start i start
+  move-enter {i} t h = record {
+    few = t .few;
+    room = t .room;
+    whole = t .whole;
+    kept = refl;
+    beyond = refl;
+    moving = subst (λ (ps : List ℕ). Moving d (take total cs) (take total out₀) ps i) (starts-open (length (take total cs)) start h) (t .moving);
+  }
 
-    pub store-place : p < total → n < total
-    store-place h = let l = store-length in omega (arith, store-more (take total cs) (take total out) n p start (omega arith) (s .storing) .0)
+  module _ {out : List ℕ} {n p : ℕ} (s : MoveStart d total cs out₀ out start n p) where
+    lent : length (take total cs) ≡ total
+    lent = length-take-le total cs (s .whole)
 
-    pub store-turn : p < total → StoreStart total cs out₀ (set out p (getD cs n 0)) start (n + 1) (p + 13)
-    store-turn h =
-        let l = store-length in
-        let k : n < total = store-place h in
-        let x = getD cs n 0 in
-        let e : getD (take total cs) n 0 ≡ getD cs n 0 = getD-take total cs n 0 k in
-        let w : set (take total out) p (getD (take total cs) n 0) ≡ take total (set out p (getD cs n 0)) =
-        ap (set (take total out) p) e ∙ sym (take-set-lt total out p (getD cs n 0) h) in
+    turned : p < total → (n < length (take total cs))
+        × Moving d (take total cs) (set (take total out) (into d p n) (getD (take total cs) (outOf d p n) 0)) (from (length (take total cs)) (p + 13) start) (n + 1)
+    turned h = move-more d (take total cs) (take total out) n p start (omega (arith, lent)) (s .moving)
+
+    pub move-place : p < total → n < total
+    move-place h = omega (arith, lent, turned h .0)
+
+    pub move-turn : p < total → MoveStart d total cs out₀ (set out (into d p n) (getD cs (outOf d p n) 0)) start (n + 1) (p + 13)
+    move-turn h =
+        let b = both-below d h (move-place h) in
+        let x = getD cs (outOf d p n) 0 in
+        let w : set (take total out) (into d p n) (getD (take total cs) (outOf d p n) 0) ≡ take total (set out (into d p n) (getD cs (outOf d p n) 0)) =
+        ap (set (take total out) (into d p n)) (getD-take total cs (outOf d p n) 0 (b .1)) ∙ sym (take-set-lt total out (into d p n) x (b .0)) in
         record {
           few = s .few;
-          room = omega (arith, length-set out p (getD cs n 0));
+          room = omega (arith, length-set out (into d p n) x);
           whole = s .whole;
-          kept = length-set out p (getD cs n 0) ∙ s .kept;
-          beyond = drop-set-lt total out p (getD cs n 0) h ∙ s .beyond;
-          storing = subst (λ (o : List ℕ). Storing (take total cs) o (steps (p + 13) ((length (take total cs) + 12 - (p + 13)) / 13) ++ starts (length (take total cs)) (start + 1) (13 - (start + 1))) (n + 1)) w
-              (store-more (take total cs) (take total out) n p start (omega arith) (s .storing) .1);
+          kept = length-set out (into d p n) x ∙ s .kept;
+          beyond = drop-set-lt total out (into d p n) x (b .0) ∙ s .beyond;
+          moving = subst (λ (o : List ℕ). Moving d (take total cs) o (from (length (take total cs)) (p + 13) start) (n + 1)) w (turned h .1);
         }
 
-    pub store-leave : total ≤ p → ToStream total cs out (start + 1) n
-    store-leave h = let l = store-length in record { few = s .few; room = s .room; whole = s .whole; storing = store-shut (take total cs) (take total out) n p start (omega arith) (s .storing) }
-
-pub store-first : (total : ℕ) (cs out : List ℕ) → total ≤ length out → total ≤ length cs → total ≤ 65535 → ToStream total cs out 0 0
-store-first total cs out a b d = record { few = d; room = a; whole = b; storing = store-begun (take total cs) (take total out) (length-take-le total out a ∙ sym (length-take-le total cs b)) }
-
-pub store-last : (out₀ : List ℕ) {total : ℕ} {cs out : List ℕ} {start i : ℕ} → ToStream total cs out start i → 13 ≤ start → drop total out ≡ drop total out₀ → out ≡ toStream (take total cs) ++ drop total out₀
-store-last out₀ {total} {cs} {out} {start} {i} t h e =
-    sym (take-append-drop total out) ∙ ap₂ _++_ (store-done (take total cs) (take total out) i start h (t .storing)) e
-
--- Out of the stream: within one start, places p, p + 13, .. are left
-pub record CollectStart (total : ℕ) (ss out₀ out : List ℕ) (start n p : ℕ) : Type 0 where
-  pub few : total ≤ 65535
-  pub room : total ≤ length out
-  pub whole : total ≤ length ss
-  pub kept : length out ≡ length out₀
-  pub beyond : drop total out ≡ drop total out₀
-  pub collecting : Collecting (take total ss) (take total out) (steps p ((length (take total ss) + 12 - p) / 13) ++ starts (length (take total ss)) (start + 1) (13 - (start + 1))) n
-
-module _ {total : ℕ} {ss out₀ : List ℕ} {start : ℕ} where
-  pub collect-enter : {i : ℕ} → FromStream total ss out₀ start i → start < 13 → CollectStart total ss out₀ out₀ start i start
-  collect-enter {i} t h = record { few = t .few; room = t .room; whole = t .whole; kept = refl; beyond = refl; collecting = collect-open (take total ss) (take total out₀) i start h (t .collecting) }
-
-  module _ {out : List ℕ} {n p : ℕ} (s : CollectStart total ss out₀ out start n p) where
-    collect-length : length (take total ss) ≡ total
-    collect-length = length-take-le total ss (s .whole)
-
-    pub collect-place : p < total → n < total
-    collect-place h = let l = collect-length in omega (arith, collect-more (take total ss) (take total out) n p start (omega arith) (s .collecting) .0)
-
-    pub collect-turn : p < total → CollectStart total ss out₀ (set out n (getD ss p 0)) start (n + 1) (p + 13)
-    collect-turn h =
-        let l = collect-length in
-        let k : n < total = collect-place h in
-        let x = getD ss p 0 in
-        let e : getD (take total ss) p 0 ≡ getD ss p 0 = getD-take total ss p 0 h in
-        let w : set (take total out) n (getD (take total ss) p 0) ≡ take total (set out n (getD ss p 0)) =
-        ap (set (take total out) n) e ∙ sym (take-set-lt total out n (getD ss p 0) k) in
+    pub move-leave : total ≤ p → Moves d total cs out (start + 1) n
+    move-leave h =
+        let e = steps-done (length (take total cs)) p (omega (arith, lent)) in
         record {
           few = s .few;
-          room = omega (arith, length-set out n (getD ss p 0));
+          room = s .room;
           whole = s .whole;
-          kept = length-set out n (getD ss p 0) ∙ s .kept;
-          beyond = drop-set-lt total out n (getD ss p 0) k ∙ s .beyond;
-          collecting = subst (λ (o : List ℕ). Collecting (take total ss) o (steps (p + 13) ((length (take total ss) + 12 - (p + 13)) / 13) ++ starts (length (take total ss)) (start + 1) (13 - (start + 1))) (n + 1)) w
-              (collect-more (take total ss) (take total out) n p start (omega arith) (s .collecting) .1);
+          moving = subst (λ (ps : List ℕ). Moving d (take total cs) (take total out) (ps ++ later (length (take total cs)) start) n) e (s .moving);
         }
 
-    pub collect-leave : total ≤ p → FromStream total ss out (start + 1) n
-    collect-leave h = let l = collect-length in record { few = s .few; room = s .room; whole = s .whole; collecting = collect-shut (take total ss) (take total out) n p start (omega arith) (s .collecting) }
+pub move-first : (d : Bool) (total : ℕ) (cs out : List ℕ) → total ≤ length out → total ≤ length cs → total ≤ 65535 → Moves d total cs out 0 0
+move-first d total cs out a b c = record {
+  few = c;
+  room = a;
+  whole = b;
+  moving = move-begun d (take total cs) (take total out) (length-take-le total out a ∙ sym (length-take-le total cs b));
+}
 
-pub collect-first : (total : ℕ) (ss out : List ℕ) → total ≤ length out → total ≤ length ss → total ≤ 65535 → FromStream total ss out 0 0
-collect-first total ss out a b d = record { few = d; room = a; whole = b; collecting = collect-begun (take total ss) (take total out) (length-take-le total out a ∙ sym (length-take-le total ss b)) }
-
-pub collect-last : (out₀ : List ℕ) {total : ℕ} {ss out : List ℕ} {start i : ℕ} → FromStream total ss out start i → 13 ≤ start → drop total out ≡ drop total out₀ → out ≡ fromStream (take total ss) ++ drop total out₀
-collect-last out₀ {total} {ss} {out} {start} {i} t h e =
-    sym (take-append-drop total out) ∙ ap₂ _++_ (collect-done (take total ss) (take total out) i start h (t .collecting)) e
+pub move-last : (d : Bool) (out₀ : List ℕ) {total : ℕ} {cs out : List ℕ} {start i : ℕ} → Moves d total cs out start i → 13 ≤ start
+    → drop total out ≡ drop total out₀ → out ≡ moved d (take total cs) ++ drop total out₀
+move-last d out₀ {total} {cs} {out} {start} {i} t h e =
+    sym (take-append-drop total out) ∙ ap₂ _++_ (move-done d (take total cs) (take total out) i start h (t .moving)) e

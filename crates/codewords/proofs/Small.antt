@@ -1,13 +1,14 @@
 -- Bits stay bits and bytes stay bytes on the way from a square to its stream and back.
-use mathlib.Core.Path.{sym, ap, subst, _∙_}
+use mathlib.Core.Path.{sym, subst}
 use mathlib.Core.List.{List, [], _∷_}
 use Prim.Native.Nat.{ℕ, zero, suc, _+_, _-_, _<_}
 use native.Mathlib.Omega.{arith}
-use native.Mathlib.Decide.{decLt, ℕ-discrete}
+use native.Mathlib.Decide.{decLt}
 use lib.Bits.{xor-lt}
 use lib.Dec.{lit<}
 use lib.ListN.{length, getD, set, drop, replicate, getD-replicate, length-replicate, List·getD-eq-default}
-use lib.Seq.{getD-set-same, getD-set-other, set-out, getD-drop}
+use lib.Seq.{getD-drop}
+use Rattle.symbol.proofs.KindsLow.{set-any}
 use Rattle.bits.specs.Bits.{bitsOf, groups, firstWords, storeAt}
 use Rattle.codewords.specs.Codewords.{codewordsOf, dataBits, placed, order, toStream, fromStream, squareOf}
 use Rattle.codewords.specs.Inner.{streamIn}
@@ -49,20 +50,11 @@ codewords-below zero bs h j = omega arith
 codewords-below (suc n) bs h zero = value-bound bs 8 0 0 h (omega arith)
 codewords-below (suc n) bs h (suc j) = codewords-below n (drop 8 bs) (drop-below 2 8 bs h) j
 
-set-below : (n : ℕ) (xs : List ℕ) (p x : ℕ) → x < n → Below n xs → Below n (set xs p x)
-set-below n xs p x a h i = elim (ℕ-discrete i p) [
-  | yes e ↦ elim (decLt p (length xs)) [
-    | yes l ↦ subst (λ (y : ℕ). y < n) (sym (ap (λ (j : ℕ). getD (set xs p x) j 0) e ∙ getD-set-same xs p x 0 l)) a
-    | no l ↦ subst (λ (ys : List ℕ). getD ys i 0 < n) (sym (set-out xs p x (omega arith))) (h i)
-  ]
-  | no e ↦ subst (λ (y : ℕ). y < n) (sym (getD-set-other xs p i x 0 e)) (h i)
-]
-
 store-below : (n : ℕ) (ps cs s : List ℕ) → Below n cs → Below n s → Below n (storeAt ps cs s)
 unfolding storeAt
 store-below n [] cs s h g = g
 store-below n (p ∷ ps) [] s h g = g
-store-below n (p ∷ ps) (c ∷ cs) s h g = store-below n ps cs (set s p c) (λ i. h (suc i)) (set-below n s p c (h 0) g)
+store-below n (p ∷ ps) (c ∷ cs) s h g = store-below n ps cs (set s p c) (λ i. h (suc i)) (λ i. set-any (λ y. y < n) s p c i (h 0) (g i))
 
 zeros-below : (k : ℕ) → Below 256 (replicate k 0)
 zeros-below k i = elim (decLt i k) [

@@ -1,11 +1,12 @@
 // SPECIFICATION 6: the masks, and the codewords of a square as its stream and back (han_xin.rs: `masked`, first half of `decode_data`).
 // The data modules are read by `placement` and `small_marks` and written by `drawing`. Buffers are lent whole, with the count that is used.
 ghost use mathlib.Core.Path.{_≡_};
+ghost use mathlib.Core.Bool.{true, false};
 ghost use mathlib.Core.List.{_++_};
 ghost use Prim.Native.Nat.{_+_, _≤_, _<_};
 ghost use lib.ListN.{length, take, drop};
 ghost use Rattle.codewords.specs.Codewords.{maskAt, toStream, fromStream};
-ghost use Rattle.codewords.specs.Inner.{ToStream, FromStream};
+ghost use Rattle.codewords.specs.Inner.{Moves};
 
 // Whether data mask `mask` inverts (1) the module at i = row + 1 and j = column + 1.
 pub fn masked(mask: usize, i: usize, j: usize) -> usize
@@ -26,8 +27,8 @@ pub fn masked(mask: usize, i: usize, j: usize) -> usize
 
 // Codewords from the i-th on to the stream places start, start + 13, ..; answers the next i.
 fn store_start(out: &mut [u8], codewords: &[u8], total: usize, start: usize, i: usize) -> usize
-    requires { ⌜ ToStream total (now codewords) (now out) start i × (start < 13) ⌝ }
-    ensures { λ r. ⌜ ToStream total (now (codewords .entry)) (now (out .exit)) (start + 1) r × (drop total (now (out .exit)) ≡ drop total (now (out .entry))) ⌝ }
+    requires { ⌜ Moves true total (now codewords) (now out) start i × (start < 13) ⌝ }
+    ensures { λ r. ⌜ Moves true total (now (codewords .entry)) (now (out .exit)) (start + 1) r × (drop total (now (out .exit)) ≡ drop total (now (out .entry))) ⌝ }
 {
     let mut n = i;
     let mut p = start;
@@ -54,8 +55,8 @@ pub fn to_stream(out: &mut [u8], codewords: &[u8], total: usize)
 
 // Codewords from the i-th on out of the stream places start, start + 13, ..; answers the next i.
 fn collect_start(out: &mut [u8], stream: &[u8], total: usize, start: usize, i: usize) -> usize
-    requires { ⌜ FromStream total (now stream) (now out) start i × (start < 13) ⌝ }
-    ensures { λ r. ⌜ FromStream total (now (stream .entry)) (now (out .exit)) (start + 1) r × (drop total (now (out .exit)) ≡ drop total (now (out .entry))) ⌝ }
+    requires { ⌜ Moves false total (now stream) (now out) start i × (start < 13) ⌝ }
+    ensures { λ r. ⌜ Moves false total (now (stream .entry)) (now (out .exit)) (start + 1) r × (drop total (now (out .exit)) ≡ drop total (now (out .entry))) ⌝ }
 {
     let mut n = i;
     let mut p = start;

@@ -10,7 +10,7 @@ use lib.Dec.{lit<}
 use lib.Pow.{pow-mono}
 use lib.ListN.{set}
 use Rattle.information.specs.Information.{positionRow, positionColumn, infoPosition, copyWritten}
-use Rattle.information.specs.Inner.{ArmWritten, numberFrom, bitOf, bitsWritten}
+use Rattle.information.specs.Inner.{ArmWritten, numberFrom, bitOf, stored, bitsWritten}
 use Rattle.information.proofs.Read.{copy-written}
 use Rattle.information.proofs.Distinct.{row-lt, place-lt}
 
@@ -43,7 +43,7 @@ unfolding numberFrom
 number-more f n e d = ap₂ (λ (a b : ℕ). a * 2 + b) e d ∙ ap (numberFrom f) (sym (add-one n))
 
 pub write-more : (s : ℕ) (b : Bool) (w n : ℕ) (g₀ : List ℕ) {g : List ℕ} {i x : ℕ} → g ≡ bitsWritten s b w n g₀ → i ≡ infoPosition s b n → x ≡ bitOf w n → set g i x ≡ bitsWritten s b w (n + 1) g₀
-unfolding bitsWritten
+unfolding stored
 write-more s b w n g₀ {g} {i} {x} e d f =
     ap (λ (l : List ℕ). set l i x) e ∙ ap₂ (λ (j y : ℕ). set (bitsWritten s b w n g₀) j y) d f ∙ ap (λ (m : ℕ). bitsWritten s b w m g₀) (sym (add-one n))
 
@@ -56,5 +56,5 @@ pub arm-next : {s : ℕ} {second : Bool} {w a b c : ℕ} {g g' g'' : List ℕ} �
 arm-next x y = record { is = λ h e. y .is h (x .is h e) }
 
 pub arms-all : {s : ℕ} {second : Bool} {w : ℕ} {g g' : List ℕ} → ArmWritten s second w 0 34 g g' → g' ≡ copyWritten s second w g
-unfolding bitsWritten
+unfolding stored
 arms-all {s} {second} {w} {g} x = x .is g refl ∙ sym (copy-written s second w g)

@@ -2,7 +2,6 @@
 use mathlib.Core.Path.{_≡_, refl, sym, ap, _∙_}
 use mathlib.Core.Bool.{Bool, true, false, cond}
 use Prim.Native.Nat.{ℕ, _+_, _-_, _*_, _<_, _≤_}
-use native.Mathlib.Nat.{add-mul}
 use native.Mathlib.Omega.{arith}
 use lib.Dec.{ltb}
 use lib.ListN.{getD}
@@ -57,8 +56,6 @@ module _ (s : ℕ) (big : 23 ≤ s) where
   turned : (r c : ℕ) → r < s → c < s → s * s - 1 - (r * s + c) ≡ (s - 1 - r) * s + (s - 1 - c)
   turned r c h g =
       let a : (s - 1 - r + (r + 1)) * s ≡ s * s = ap (λ (k : ℕ). k * s) (let z : s - 1 - r + (r + 1) ≡ s = omega arith in z) in
-      let b : (s - 1 - r + (r + 1)) * s ≡ (s - 1 - r) * s + (r + 1) * s = add-mul (s - 1 - r) (r + 1) s in
-      let d : (r + 1) * s ≡ r * s + 1 * s = add-mul r 1 s in
       omega arith
 
 one : (v r c : ℕ) → r < sideOf v → c < sideOf v → ring (sideOf v) r c ≡ 8 → getD (layoutOf v) (r * sideOf v + c) 0 ≡ 1

@@ -3,91 +3,96 @@ use mathlib.Core.Path.{_≡_, refl, sym, ap, ap₂, _∙_}
 use mathlib.Core.Bool.{Bool, true, false, cond}
 use mathlib.Core.List.{List}
 use Prim.Native.Nat.{ℕ, zero, suc, _+_, _-_, _*_, _/_, _%_, _^_, _<_, _≤_}
-use native.Mathlib.Nat.{not-suc-le-zero, le-of-suc-le-suc, div-eq-of-lt}
+use native.Mathlib.Nat.{not-suc-le-zero, le-of-suc-le-suc}
 use native.Mathlib.Omega.{arith}
+use native.Mathlib.Decide.{ℕ-discrete}
 use lib.Dec.{eqb}
 use lib.Bits.{bitXor, differ, xor-step}
 use lib.Count.{ones, ones-step}
-use lib.Pow.{shr-shr}
 use lib.ListN.{length, getD, set, length-set}
 use lib.Seq.{getD-set-same, getD-set-other}
-use borrow.Author.Tests.{eqb-true, eqb-false}
 use Rattle.bits.specs.Bits.{lowBits, value, storeAt}
+use Rattle.bits.proofs.Words.{low-back}
 use Rattle.symbol.specs.Layout.{each}
+use Rattle.symbol.proofs.KindsLow.{set-any}
 use Rattle.information.specs.Information.{infoPosition, positions, copyOf, copyWritten}
-use Rattle.information.specs.Inner.{numberFrom, bitOf, bitsWritten}
+use Rattle.information.specs.Inner.{moduleOf, numberFrom, bitOf, stored, bitsWritten}
 use Rattle.information.proofs.Distinct.{place-lt, place-same, place-other}
 
 -- what a copy says, and what is written into one, turn by turn
-pub copy-is : (s : ℕ) (b : Bool) (g : List ℕ) → copyOf s b g ≡ numberFrom (λ n. getD g (infoPosition s b n) 0) 34
+pub copy-is : (s : ℕ) (b : Bool) (g : List ℕ) → copyOf s b g ≡ numberFrom (moduleOf s b g) 34
 unfolding copyOf positions each value numberFrom
 copy-is s b g = refl
 
 pub copy-written : (s : ℕ) (b : Bool) (w : ℕ) (g : List ℕ) → copyWritten s b w g ≡ bitsWritten s b w 34 g
-unfolding copyWritten positions each lowBits storeAt bitsWritten bitOf
+unfolding copyWritten positions each lowBits storeAt stored bitOf
 copy-written s b w g = refl
 
-pub number-same : (f h : ℕ → ℕ) (n : ℕ) → ((k : ℕ) → k < n → f k ≡ h k) → numberFrom f n ≡ numberFrom h n
+number-same : (f h : ℕ → ℕ) (n : ℕ) → ((k : ℕ) → k < n → f k ≡ h k) → numberFrom f n ≡ numberFrom h n
 unfolding numberFrom
 number-same f h zero e = refl
 number-same f h (suc n) e = ap₂ (λ (x y : ℕ). x * 2 + y) (number-same f h n (λ k l. e k (omega arith))) (e n (omega arith))
 
-pub number-bits : (w n : ℕ) → w < 2 ^ 34 → n ≤ 34 → numberFrom (bitOf w) n ≡ w / 2 ^ (34 - n)
-unfolding numberFrom bitOf
-number-bits w zero h l = sym (div-eq-of-lt h)
-number-bits w (suc n) h l =
-    let e : 34 - n ≡ 33 - n + 1 = omega arith in
-    let d : 34 - suc n ≡ 33 - n = omega arith in
-    let ih : numberFrom (bitOf w) n ≡ w / 2 ^ (34 - n) = number-bits w n h (omega arith) in
-    let s : w / 2 ^ (33 - n) / 2 ≡ w / 2 ^ (33 - n + 1) = shr-shr w (33 - n) 1 in
-    rw (ih, e, d, ← s) (omega arith)
+number-bits : (w : ℕ) → w < 2 ^ 34 → numberFrom (bitOf w) 34 ≡ w
+unfolding numberFrom bitOf lowBits value
+number-bits w h = low-back 34 w h
 
-module _ (s : ℕ) (big : 23 ≤ s) (b : Bool) (w : ℕ) (g : List ℕ) where
-  written-length : (n : ℕ) → length (bitsWritten s b w n g) ≡ length g
-  unfolding bitsWritten
-  written-length zero = refl
-  written-length (suc n) = length-set (bitsWritten s b w n g) (infoPosition s b n) (bitOf w n) ∙ written-length n
+-- elements stored at places
+module _ (place x : ℕ → ℕ) (g : List ℕ) where
+  pub stored-length : (n : ℕ) → length (stored place x n g) ≡ length g
+  unfolding stored
+  stored-length zero = refl
+  stored-length (suc n) = length-set (stored place x n g) (place n) (x n) ∙ stored-length n
 
-  written-else : (n p : ℕ) → ((k : ℕ) → k < n → p ≡ infoPosition s b k → ⊥) → getD (bitsWritten s b w n g) p 0 ≡ getD g p 0
-  unfolding bitsWritten
-  written-else zero p ne = refl
-  written-else (suc n) p ne =
-      getD-set-other (bitsWritten s b w n g) (infoPosition s b n) p (bitOf w n) 0 (ne n (omega arith)) ∙ written-else n p (λ k l. ne k (omega arith))
+  pub stored-else : (n p : ℕ) → ((k : ℕ) → k < n → p ≡ place k → ⊥) → getD (stored place x n g) p 0 ≡ getD g p 0
+  unfolding stored
+  stored-else zero p ne = refl
+  stored-else (suc n) p ne = getD-set-other (stored place x n g) (place n) p (x n) 0 (ne n (omega arith)) ∙ stored-else n p (λ k l. ne k (omega arith))
 
-  written-at : (n k : ℕ) → n ≤ 34 → k < n → s * s ≤ length g → getD (bitsWritten s b w n g) (infoPosition s b k) 0 ≡ bitOf w k
-  unfolding bitsWritten
-  written-at zero k h l room = absurd (not-suc-le-zero l)
-  written-at (suc n) k h l room = by (eqb k n) refl (λ m. written-at n k (omega arith) m room)
-    where
-      by : (t : Bool) → eqb k n ≡ t → (k < n → getD (bitsWritten s b w n g) (infoPosition s b k) 0 ≡ bitOf w k) → getD (set (bitsWritten s b w n g) (infoPosition s b n) (bitOf w n)) (infoPosition s b k) 0 ≡ bitOf w k
-      by true e ih =
-          let d : k ≡ n = eqb-true k n e in
-          rw d (getD-set-same (bitsWritten s b w n g) (infoPosition s b n) (bitOf w n) 0 (omega (arith, written-length n, place-lt s big b n h)))
-      by false e ih =
-          getD-set-other (bitsWritten s b w n g) (infoPosition s b n) (infoPosition s b k) (bitOf w n) 0 (λ q. eqb-false k n e (place-same s big b k n (omega arith) h q))
-          ∙ ih (omega (arith, eqb-false k n e))
+  stored-at : (n k : ℕ) → ((i j : ℕ) → i < n → j < n → place i ≡ place j → i ≡ j) → k < n → place k < length g → getD (stored place x n g) (place k) 0 ≡ x k
+  unfolding stored
+  stored-at zero k d l room = absurd (not-suc-le-zero l)
+  stored-at (suc n) k d l room = elim (ℕ-discrete k n) [
+    | yes e ↦ ap (λ (j : ℕ). getD (set (stored place x n g) (place n) (x n)) (place j) 0) e
+        ∙ getD-set-same (stored place x n g) (place n) (x n) 0 (omega (arith, stored-length n, ap place e)) ∙ ap x (sym e)
+    | no e ↦ getD-set-other (stored place x n g) (place n) (place k) (x n) 0 (λ q. e (d k n l (omega arith) q))
+        ∙ stored-at n k (λ i j a b. d i j (omega arith) (omega arith)) (omega arith) room
+  ]
 
+  pub stored-any : (P : ℕ → Type 0) → ((k : ℕ) → P (x k)) → ((i : ℕ) → P (getD g i 0)) → (n i : ℕ) → P (getD (stored place x n g) i 0)
+  unfolding stored
+  stored-any P a h zero i = h i
+  stored-any P a h (suc n) i = set-any P (stored place x n g) (place n) (x n) i (a n) (stored-any P a h n i)
+
+-- a copy that is written
+module _ (s : ℕ) (b : Bool) (w : ℕ) (g : List ℕ) where
   pub copy-length : length (copyWritten s b w g) ≡ length g
-  copy-length = rw copy-written (written-length 34)
+  copy-length = rw copy-written (stored-length (infoPosition s b) (bitOf w) g 34)
 
   pub copy-else : (p : ℕ) → ((k : ℕ) → k < 34 → p ≡ infoPosition s b k → ⊥) → getD (copyWritten s b w g) p 0 ≡ getD g p 0
-  copy-else = rw copy-written (written-else 34)
+  copy-else = rw copy-written (stored-else (infoPosition s b) (bitOf w) g 34)
 
-  -- a copy that was written is read
-  pub round : s * s ≤ length g → w < 2 ^ 34 → copyOf s b (copyWritten s b w g) ≡ w
-  round room h = rw (copy-is, copy-written) (
-      number-same (λ n. getD (bitsWritten s b w 34 g) (infoPosition s b n) 0) (bitOf w) 34 (λ k l. written-at 34 k (omega arith) l room)
-      ∙ number-bits w 34 h (omega arith)
-      ∙ (let z : w / 1 ≡ w = omega arith in z))
+  pub copy-bits : ((i : ℕ) → getD g i 0 < 2) → (i : ℕ) → getD (copyWritten s b w g) i 0 < 2
+  unfolding bitOf
+  copy-bits h = rw copy-written (stored-any (infoPosition s b) (bitOf w) g (λ y. y < 2) (λ k. omega arith) h 34)
+
+  -- it is read as it was written
+  pub round : 23 ≤ s → s * s ≤ length g → w < 2 ^ 34 → copyOf s b (copyWritten s b w g) ≡ w
+  round big room h =
+      copy-is s b (copyWritten s b w g)
+      ∙ number-same (moduleOf s b (copyWritten s b w g)) (bitOf w) 34
+      (λ k l. rw copy-written (stored-at (infoPosition s b) (bitOf w) g 34 k (place-same s big b) l (omega (arith, place-lt s big b k l))))
+      ∙ number-bits w h
 
 -- the second copy leaves the first
 pub round-first : (s : ℕ) (big : 23 ≤ s) (w u : ℕ) (g : List ℕ) → s * s ≤ length g → w < 2 ^ 34 → copyOf s false (copyWritten s true u (copyWritten s false w g)) ≡ w
 round-first s big w u g room h =
-    copy-is s false (copyWritten s true u (copyWritten s false w g))
-    ∙ number-same (λ n. getD (copyWritten s true u (copyWritten s false w g)) (infoPosition s false n) 0) (λ n. getD (copyWritten s false w g) (infoPosition s false n) 0) 34
-    (λ k l. copy-else s big true u (copyWritten s false w g) (infoPosition s false k) (λ m q e. place-other s big k m l q e))
-    ∙ sym (copy-is s false (copyWritten s false w g))
-    ∙ round s big false w g room h
+    let first = copyWritten s false w g in
+    copy-is s false (copyWritten s true u first)
+    ∙ number-same (moduleOf s false (copyWritten s true u first)) (moduleOf s false first) 34
+    (λ k l. copy-else s true u first (infoPosition s false k) (λ m q e. place-other s big k m l q e))
+    ∙ sym (copy-is s false first)
+    ∙ round s false w g big room h
 
 -- how many of f 0, .. f (n − 1) differ from those of h
 unfoldable pub differing : (ℕ → ℕ) → (ℕ → ℕ) → ℕ → ℕ

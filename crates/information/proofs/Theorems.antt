@@ -43,8 +43,8 @@ module _ (v k : ℕ) (g h : List ℕ) (lo : 1 ≤ v) (lg : length g ≡ sideOf v
     (bg : (i : ℕ) → getD g i 0 < 2) (bh : (i : ℕ) → getD h i 0 < 2)
     (first : copyOf (sideOf v) false g ≡ wordAt v k) (second : copyOf (sideOf v) true g ≡ wordAt v k) where
   pub flips-bound : wordDistance v (copyOf (sideOf v) false h) (copyOf (sideOf v) true h) k ≤ infoFlips (layoutOf v) g h
-  flips-bound = flips.flips-distance v k g h lo lg lh bg bh first second
+  flips-bound = flips.flips-distance v lo g h lg lh k bg bh first second
 
   -- .. and where at most 8 modules do, the nearest word is the one written.
   pub few-modules : v ≤ 84 → k < 16 → infoFlips (layoutOf v) g h ≤ 8 → nearestWord v (copyOf (sideOf v) false h) (copyOf (sideOf v) true h) ≡ k
-  few-modules hi small few = flips.flips-nearest v k g h lo hi small lg lh bg bh first second few
+  few-modules hi small few = flips.flips-nearest v lo g h lg lh k bg bh first second hi small few

@@ -3,7 +3,7 @@ use mathlib.Core.Path.{_≡_}
 use mathlib.Core.Bool.{Bool}
 use mathlib.Core.List.{List, [], _∷_}
 use Prim.Native.Nat.{ℕ, zero, suc, _+_, _-_, _*_, _/_, _%_, _^_, _<_}
-use lib.ListN.{set}
+use lib.ListN.{getD, set}
 use Rattle.information.specs.Information.{infoPosition}
 use Rattle.information.specs.declared.Best.{Best}
 
@@ -18,6 +18,10 @@ pub record Found (d : ℕ → ℕ) (k : ℕ) (b : Best) : Type 0 where
   pub at : b .distance ≡ d k
   pub small : b .word < 16
 
+-- module n of a copy in a square
+abbrev pub moduleOf : ℕ → Bool → List ℕ → ℕ → ℕ
+moduleOf s second g n = getD g (infoPosition s second n) 0
+
 -- the number with the bits f 0, .. f (n − 1), the first the highest
 unfoldable pub numberFrom : (ℕ → ℕ) → ℕ → ℕ
 numberFrom f zero = 0
@@ -27,10 +31,14 @@ numberFrom f (suc n) = numberFrom f n * 2 + f n
 unfoldable pub bitOf : ℕ → ℕ → ℕ
 bitOf w n = w / 2 ^ (33 - n) % 2
 
+-- x 0, .. x (n − 1) stored at their places, one after the other
+unfoldable pub stored : (ℕ → ℕ) → (ℕ → ℕ) → ℕ → List ℕ → List ℕ
+stored place x zero g = g
+stored place x (suc n) g = set (stored place x n g) (place n) (x n)
+
 -- the first n bits of a word written into a copy
-unfoldable pub bitsWritten : ℕ → Bool → ℕ → ℕ → List ℕ → List ℕ
-bitsWritten s second w zero g = g
-bitsWritten s second w (suc n) g = set (bitsWritten s second w n g) (infoPosition s second n) (bitOf w n)
+abbrev pub bitsWritten : ℕ → Bool → ℕ → ℕ → List ℕ → List ℕ
+bitsWritten s second w n g = stored (infoPosition s second) (bitOf w) n g
 
 -- bits from to below `to` of a word were written into a copy that held those before
 pub record ArmWritten (s : ℕ) (second : Bool) (w from to : ℕ) (g g' : List ℕ) : Type 0 where

@@ -7,8 +7,8 @@ ghost use lib.Dec.{ltb};
 ghost use lib.Bits.{bitXor};
 ghost use lib.Count.{ones};
 ghost use lib.ListN.{length, getD};
-ghost use Rattle.information.specs.Information.{timesX, plusIfOdd, gf16Mul, generatorTimes, remainder, wordOf, wordDistance, leastOf, nearestWord, positionRow, positionColumn, infoPosition, copyOf, copyWritten, infoWritten, isInfo, infoOf, infoAnswer, nearestOf, nearestAnswer};
-ghost use Rattle.information.specs.Inner.{Found, ArmWritten, numberFrom, bitOf};
+ghost use Rattle.information.specs.Information.{timesX, plusIfOdd, gf16Mul, generatorTimes, remainder, wordOf, wordDistance, nearestWord, positionRow, positionColumn, infoPosition, copyOf, copyWritten, infoWritten, isInfo, infoOf, infoAnswer, nearestOf, nearestAnswer};
+ghost use Rattle.information.specs.Inner.{Found, ArmWritten, moduleOf, numberFrom, bitOf};
 use symbol::Version;
 
 // What operation Information word answers.
@@ -260,8 +260,8 @@ fn wide8(x: u8) -> u64
 // The bits from to below to of a copy, behind those before. Called for one arm at a time: the compiler then knows the row or the column of
 // each bit and unrolls the loop.
 fn read_arm(square: &[u8], side: usize, second: bool, word: u64, from: usize, to: usize) -> u64
-    requires { ⌜ (23 ≤ side) × (side ≤ 189) × (side * side ≤ length (now square)) × ((i : ℕ) → getD (now square) i 0 < 2) × (from ≤ to) × (to ≤ 34) × (word ≡ numberFrom (λ n. getD (now square) (infoPosition side second n) 0) from) ⌝ }
-    ensures { λ r. ⌜ r ≡ numberFrom (λ n. getD (now (square .entry)) (infoPosition side second n) 0) to ⌝ }
+    requires { ⌜ (23 ≤ side) × (side ≤ 189) × (side * side ≤ length (now square)) × ((i : ℕ) → getD (now square) i 0 < 2) × (from ≤ to) × (to ≤ 34) × (word ≡ numberFrom (moduleOf side second (now square)) from) ⌝ }
+    ensures { λ r. ⌜ r ≡ numberFrom (moduleOf side second (now (square .entry))) to ⌝ }
 {
     let mut w = word;
     let mut n = from;

@@ -17,7 +17,7 @@ use Rattle.bits.specs.Bits.{value}
 use Rattle.placement.specs.Walk.{eightOf, run, behind, unmaskedAt, Gathered, Pushed, Aligned, Skipped, Goes, Leads, NoData, Next, Moves}
 use Rattle.placement.specs.declared.Run.{Run}
 use Rattle.placement.proofs.Eights.{eight-byte, eight-down}
-use Rattle.placement.proofs.Walk.{length-run, run-small, run-at, run-front, first-value, gathered-is, bits-small, goes-push, goes-skip}
+use Rattle.placement.proofs.Walk.{run-small, run-at, run-front, first-value, gathered-is, bits-small, goes-push, goes-skip}
 
 -- Zeros at a number's end.
 
@@ -168,7 +168,6 @@ module _ {ks sq row : List ℕ} (a : Aligned ks sq row) (bytes : (i : ℕ) → g
   unfolding run
   last-moves {r = r} lo hi e f m =
       let left = length ks - r .column in
-      let n : length (run 8 (unmaskedAt sq row (length ks - 8))) ≡ 8 = length-run 8 (unmaskedAt sq row (length ks - 8)) in
       let small = run-small 8 (unmaskedAt sq row (length ks - 8)) (bits-small (a .masked) (length ks - 8)) in
       m .go ks sq row (behind tail (8 - left))
       (record {

@@ -136,7 +136,7 @@ module _ (v l k : ℕ) (s p : List ℕ) (R : Ranges v l k) where
 
   pub mark-length : length mark ≡ sideOf v * sideOf v
   unfolding markOf
-  mark-length = info-length (sideOf v) (infoBits v l k) base (omega (arith, R .low)) ∙ base-length
+  mark-length = info-length (sideOf v) (infoBits v l k) base ∙ base-length
 
   pub mark-below : Below 2 mark
   unfolding markOf
@@ -168,7 +168,7 @@ module _ (v l k : ℕ) (s p : List ℕ) (R : Ranges v l k) where
 
     near : nearestWord v (copy false) (copy true) ≡ 4 * l + k
     near =
-        flips-nearest v (4 * l + k) mark h (R .low) (R .high) (omega (arith, R .level, R .mask)) mark-length size mark-below b first-copy second-copy few
+        flips-nearest v (R .low) mark h mark-length size (4 * l + k) mark-below b first-copy second-copy (R .high) (omega (arith, R .level, R .mask)) few
 
     versioned : isVersion v ≡ true
     versioned = version-is v (R .low) (R .high)
@@ -193,5 +193,5 @@ module _ (v l k : ℕ) (s p : List ℕ) (R : Ranges v l k) where
         omega (
           arith,
           ap (λ (x : NearestAnswer). x .distance) found,
-          flips-distance v (4 * l + k) mark h (R .low) mark-length size mark-below b first-copy second-copy,
+          flips-distance v (R .low) mark h mark-length size (4 * l + k) mark-below b first-copy second-copy,
         )

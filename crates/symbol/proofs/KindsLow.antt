@@ -1,14 +1,13 @@
 -- No kind is above 3: not in the corners, and not in a plot of the alignment.
-use mathlib.Core.Path.{sym, ap, subst, _∙_}
+use mathlib.Core.Path.{sym, subst}
 use mathlib.Core.Bool.{Bool, true, false, cond, not, _&&_}
 use mathlib.Core.List.{List, [], _∷_, _++_}
 use Prim.Native.Nat.{ℕ, zero, suc, _+_, _-_, _*_, _/_, _%_, _≤_}
 use native.Mathlib.Omega.{arith}
-use native.Mathlib.Decide.{decLt, ℕ-discrete}
+use native.Mathlib.Decide.{decLt}
 use lib.Dec.{ltb, eqb}
 use lib.IntN.{ℤ, pos, _+ℤ_, _-ℤ_}
-use lib.ListN.{length, getD, set, List·getD-eq-default}
-use lib.Seq.{getD-set-same, getD-set-other, set-out}
+use lib.ListN.{getD, set, List·getD-eq-default}
 use Rattle.symbol.specs.Version.{sideOf}
 use Rattle.symbol.specs.Layout.{Plot, plot, placeAt, plotOne, plotAll, each, when, light, dark, odd, ring, finderAt, cornerAt, corners, threeAt, assistant, rowEnds, columnEnds, lineModule, lineLeft, lineDown, crossing, crossings, alignment, layoutOf, mOf, rowLine, columnLine, stepOf}
 use Rattle.symbol.specs.Inner.{cornerKind, table}
@@ -70,14 +69,13 @@ corner-low s r c = one (ltb (ring s r c) 7) (eqb (ring s r c) 7) (eqb (ring s r 
     one false false true = omega arith
     one false false false = omega arith
 
-set-low : (g : List ℕ) (p k i : ℕ) → k ≤ 3 → getD g i 0 ≤ 3 → getD (set g p k) i 0 ≤ 3
-set-low g p k i a b = elim (ℕ-discrete i p) [
-  | yes e ↦ elim (decLt p (length g)) [
-    | yes l ↦ subst (λ (n : ℕ). n ≤ 3) (sym (ap (λ (j : ℕ). getD (set g p k) j 0) e ∙ getD-set-same g p k 0 l)) a
-    | no l ↦ subst (λ (m : List ℕ). getD m i 0 ≤ 3) (sym (set-out g p k (omega arith))) b
-  ]
-  | no e ↦ subst (λ (n : ℕ). n ≤ 3) (sym (getD-set-other g p i k 0 e)) b
-]
+-- what holds of an element that is stored and of those that were there holds of all
+pub set-any : (P : ℕ → Type 0) (g : List ℕ) (p x i : ℕ) → P x → P (getD g i 0) → P (getD (set g p x) i 0)
+set-any P [] p x i a b = b
+set-any P (y ∷ g) zero x zero a b = a
+set-any P (y ∷ g) zero x (suc i) a b = b
+set-any P (y ∷ g) (suc p) x zero a b = b
+set-any P (y ∷ g) (suc p) x (suc i) a b = set-any P g p x i a b
 
 plots-low : (s : ℕ) (ps : List Plot) (g : List ℕ) → Low ps → ((i : ℕ) → getD g i 0 ≤ 3) → (i : ℕ) → getD (plotAll s ps g) i 0 ≤ 3
 unfolding plotAll plotOne
@@ -85,7 +83,7 @@ plots-low s [] g none h i = h i
 plots-low s (plot x y k ∷ ps) g (more a l) h i = plots-low s ps (plotOne s x y k g) l (λ j. by (ltb (placeAt s x y) (s * s) && eqb (getD g (placeAt s x y) 0) 0) j) i
   where
     by : (b : Bool) (j : ℕ) → getD (cond b (set g (placeAt s x y) k) g) j 0 ≤ 3
-    by true j = set-low g (placeAt s x y) k j a (h j)
+    by true j = set-any (λ n. n ≤ 3) g (placeAt s x y) k j a (h j)
     by false j = h j
 
 pub layout-low : (v i : ℕ) → getD (layoutOf v) i 0 ≤ 3

@@ -1,30 +1,31 @@
 -- `collect_start` meets its contract. Assumes nothing.
-use Rattle.codewords.proofs.Interleave.{CollectStart, collect-enter, collect-place, collect-turn, collect-leave}
+use Rattle.codewords.proofs.Interleave.{MoveStart, move-enter, move-place, move-turn, move-leave}
+use mathlib.Core.Bool.{false}
 use Prim.Native.Nat.{_-_}
 use native.Mathlib.Omega.{arith}
 use Rattle.codewords.proofs.collect_start.Statement.{statement}
 use Rattle.codewords.proofs.collect_start.Tie as tie
 
 abbrev Inv-loop : tie.InvT-loop
-Inv-loop out₀ stream total start i n₀ p₀ out n p = CollectStart total stream out₀ out start n p
+Inv-loop out₀ stream total start i n₀ p₀ out n p = MoveStart false total stream out₀ out start n p
 
 abbrev μ-loop : tie.MeasureT-loop
 μ-loop out₀ stream total start i n₀ p₀ out n p = total - p
 
 loop-holds : tie.Need-loop-holds Inv-loop μ-loop
-loop-holds c = collect-enter (c .pre .0) (c .pre .1)
+loop-holds c = move-enter (c .pre .0) (c .pre .1)
 
 slice-write-out : tie.Need-slice-write-out Inv-loop μ-loop
-slice-write-out c = omega (arith, collect-place (c .before .before .loop .inv) (c .before .loop-test .taken))
+slice-write-out c = omega (arith, move-place (c .before .before .loop .inv) (c .before .loop-test .taken))
 
 add-n : tie.Need-add-n Inv-loop μ-loop
-add-n c = omega (arith, collect-place (c .before .before .loop .inv) (c .before .loop-test .taken))
+add-n c = omega (arith, move-place (c .before .before .loop .inv) (c .before .loop-test .taken))
 
 loop-again : tie.Need-loop-again Inv-loop μ-loop
-loop-again c = collect-turn (c .before .before .loop .inv) (c .before .loop-test .taken)
+loop-again c = move-turn (c .before .before .loop .inv) (c .before .loop-test .taken)
 
 returns : tie.Need-returns Inv-loop μ-loop
-returns c = (collect-leave (c .before .loop .inv) (c .loop-test .left), c .before .loop .inv .beyond)
+returns c = (move-leave (c .before .loop .inv) (c .loop-test .left), c .before .loop .inv .beyond)
 
 pub collect-start-spec : {M : Type 1} → statement M
 collect-start-spec =

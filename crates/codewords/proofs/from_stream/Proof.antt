@@ -1,6 +1,7 @@
 -- `from_stream` meets its contract. Assumes nothing.
-use Rattle.codewords.proofs.Interleave.{collect-first, collect-last}
-use Rattle.codewords.specs.Inner.{FromStream}
+use Rattle.codewords.proofs.Interleave.{move-first, move-last}
+use Rattle.codewords.specs.Inner.{Moves}
+use mathlib.Core.Bool.{false}
 use lib.ListN.{length, drop}
 use Prim.Native.Nat.{_-_, _≤_}
 use mathlib.Core.Path.{_≡_, refl, _∙_}
@@ -9,7 +10,7 @@ use Rattle.codewords.proofs.from_stream.Statement.{statement}
 use Rattle.codewords.proofs.from_stream.Tie as tie
 
 abbrev Inv-loop : tie.InvT-loop
-Inv-loop out₀ stream total i₀ start₀ out i start = FromStream total stream out start i × (drop total out ≡ drop total out₀) × (start ≤ 13) × (length out ≡ length out₀)
+Inv-loop out₀ stream total i₀ start₀ out i start = Moves false total stream out start i × (drop total out ≡ drop total out₀) × (start ≤ 13) × (length out ≡ length out₀)
 
 abbrev μ-loop : tie.MeasureT-loop
 μ-loop out₀ stream total i₀ start₀ out i start = 13 - start
@@ -17,7 +18,7 @@ abbrev μ-loop : tie.MeasureT-loop
 loop-holds : tie.Need-loop-holds Inv-loop μ-loop
 loop-holds c =
     let start = c .before .before in
-    (collect-first (start .args .total) (start .args .stream .now) (start .args .out .now) (start .pre .0) (start .pre .1) (start .pre .2), refl, omega arith, refl)
+    (move-first false (start .args .total) (start .args .stream .now) (start .args .out .now) (start .pre .0) (start .pre .1) (start .pre .2), refl, omega arith, refl)
 
 collect-start-requires : tie.Need-collect-start-requires Inv-loop μ-loop
 collect-start-requires c κs = (c .before .before .loop .inv .0, c .before .loop-test .taken)
@@ -29,7 +30,7 @@ loop-again c =
     (collect-start .ensures .0, collect-start .ensures .1 ∙ loop .inv .1, omega arith, collect-start .kept .0 ∙ loop .inv .3)
 
 returns : tie.Need-returns Inv-loop μ-loop
-returns c = collect-last (c .before .before .before .before .args .out .now) (c .before .loop .inv .0) (c .loop-test .left) (c .before .loop .inv .1)
+returns c = move-last false (c .before .before .before .before .args .out .now) (c .before .loop .inv .0) (c .loop-test .left) (c .before .loop .inv .1)
 
 pub from-stream-spec : {M : Type 1} → statement M
 from-stream-spec =

@@ -1,6 +1,7 @@
 -- `to_stream` meets its contract. Assumes nothing.
-use Rattle.codewords.proofs.Interleave.{store-first, store-last}
-use Rattle.codewords.specs.Inner.{ToStream}
+use Rattle.codewords.proofs.Interleave.{move-first, move-last}
+use Rattle.codewords.specs.Inner.{Moves}
+use mathlib.Core.Bool.{true}
 use lib.ListN.{length, drop}
 use Prim.Native.Nat.{_-_, _≤_}
 use mathlib.Core.Path.{_≡_, refl, _∙_}
@@ -9,7 +10,7 @@ use Rattle.codewords.proofs.to_stream.Statement.{statement}
 use Rattle.codewords.proofs.to_stream.Tie as tie
 
 abbrev Inv-loop : tie.InvT-loop
-Inv-loop out₀ codewords total i₀ start₀ out i start = ToStream total codewords out start i × (drop total out ≡ drop total out₀) × (start ≤ 13) × (length out ≡ length out₀)
+Inv-loop out₀ codewords total i₀ start₀ out i start = Moves true total codewords out start i × (drop total out ≡ drop total out₀) × (start ≤ 13) × (length out ≡ length out₀)
 
 abbrev μ-loop : tie.MeasureT-loop
 μ-loop out₀ codewords total i₀ start₀ out i start = 13 - start
@@ -17,7 +18,7 @@ abbrev μ-loop : tie.MeasureT-loop
 loop-holds : tie.Need-loop-holds Inv-loop μ-loop
 loop-holds c =
     let start = c .before .before in
-    (store-first (start .args .total) (start .args .codewords .now) (start .args .out .now) (start .pre .0) (start .pre .1) (start .pre .2), refl, omega arith, refl)
+    (move-first true (start .args .total) (start .args .codewords .now) (start .args .out .now) (start .pre .0) (start .pre .1) (start .pre .2), refl, omega arith, refl)
 
 store-start-requires : tie.Need-store-start-requires Inv-loop μ-loop
 store-start-requires c κs = (c .before .before .loop .inv .0, c .before .loop-test .taken)
@@ -29,7 +30,7 @@ loop-again c =
     (store-start .ensures .0, store-start .ensures .1 ∙ loop .inv .1, omega arith, store-start .kept .0 ∙ loop .inv .3)
 
 returns : tie.Need-returns Inv-loop μ-loop
-returns c = store-last (c .before .before .before .before .args .out .now) (c .before .loop .inv .0) (c .loop-test .left) (c .before .loop .inv .1)
+returns c = move-last true (c .before .before .before .before .args .out .now) (c .before .loop .inv .0) (c .loop-test .left) (c .before .loop .inv .1)
 
 pub to-stream-spec : {M : Type 1} → statement M
 to-stream-spec =

@@ -2,7 +2,7 @@
 use lib.ListN.{getD}
 use Rattle.information.proofs.Copies.{number-small, number-more}
 use Rattle.information.specs.Information.{infoPosition}
-use Rattle.information.specs.Inner.{numberFrom}
+use Rattle.information.specs.Inner.{moduleOf, numberFrom}
 use Prim.Native.Nat.{ℕ, _-_, _≤_}
 use mathlib.Core.Path.{_≡_, ap, _∙_}
 use borrow.Author.Needs.{needs}
@@ -11,7 +11,7 @@ use Rattle.information.proofs.read_arm.Statement.{statement}
 use Rattle.information.proofs.read_arm.Tie as tie
 
 abbrev Inv-loop : tie.InvT-loop
-Inv-loop square side second word from to w₀ n₀ w n = (n ≤ to) × (w ≡ numberFrom (λ k. getD square (infoPosition side second k) 0) n)
+Inv-loop square side second word from to w₀ n₀ w n = (n ≤ to) × (w ≡ numberFrom (moduleOf side second square) n)
 
 abbrev μ-loop : tie.MeasureT-loop
 μ-loop square side second word from to w₀ n₀ w n = to - n
@@ -44,7 +44,7 @@ returns : tie.Need-returns Inv-loop μ-loop
 returns c =
     let start = c .before .before .before in
     let loop = c .before .loop in
-    loop .inv .1 ∙ ap (numberFrom (λ k. getD (start .args .square .now) (infoPosition (start .args .side) (start .args .second) k) 0)) (let e : loop .n ≡ start .args .to = omega arith in e)
+    loop .inv .1 ∙ ap (numberFrom (moduleOf (start .args .side) (start .args .second) (start .args .square .now))) (let e : loop .n ≡ start .args .to = omega arith in e)
 
 pub read-arm-spec : {M : Type 1} → statement M
 read-arm-spec =

@@ -20,7 +20,6 @@ push-requires : tie.Need-push-requires
 push-requires c κs =
     let start = c .before .before .before .before .before .before in
     let w = c .before .before .before .least .result in
-    let few = c .before .before .before .least .ensures .1 in
     let e : 8 ≡ c .before .before .before .least .result + (8 - c .before .before .before .least .result) = omega arith in
     (start .pre .0, omega arith, shr-lt w (8 - w) (subst (λ (n : ℕ). c .gather .result < 2 ^ n) e (c .gather .ensures .small)), omega arith)
 

@@ -34,8 +34,7 @@ loop-holds c =
 mask-row-requires : tie.Need-mask-row-requires Inv-loop μ-loop
 mask-row-requires c κs =
     let columns = c .before .before .before .before .before .columns .ensures in
-    let taken = c .before .before .loop-test .taken in
-    let side = c .before .before .before .before .before .before .before .before .before .before .pre .2 in (omega arith, omega arith, columns-fewer (omega arith) columns, columns, c .before .before .before .loop .inv .0)
+    (omega arith, omega arith, columns-fewer (omega arith) columns, columns, c .before .before .before .loop .inv .0)
 
 mul-at : tie.Need-mul-at Inv-loop μ-loop
 mul-at c = omega (arith, row-inside (c .before .before .before .before .before .loop .i) (c .before .before .before .before .before .before .before .before .before .before .before .before .args .side) (c .before .before .before .before .loop-test .taken))

@@ -28,7 +28,6 @@ line-down-requires : tie.Need-line-down-requires
 line-down-requires c κs =
     let x = c .before .before .before .before .before .before .before .before .column-of in
     let y = c .before .before .before .before .before .before .before .row-of in
-    let kept = c .before .before .before .before .line-left .kept .0 in
     let step = c .step2 .ensures .1 in
     (omega arith, omega arith, inside-call (x .ok) (x .ensures .1), inside-call (y .ok) (y .ensures .1), step .0, omega arith)
 

@@ -1,5 +1,5 @@
 -- `line_left` meets its contract.
-use Prim.Native.Nat.{_+_, _≤_, _<_}
+use Prim.Native.Nat.{_+_, _<_}
 use lib.IntN.{natAbs}
 use lib.ListN.{length}
 use mir.Syntax.{w64}
@@ -32,7 +32,6 @@ returns : tie.Need-returns
 returns c =
     let start = c .before .before .before .before .before .before .before in
     let least = c .before .before .before .before .least .ensures in
-    let l : start .args .side ≤ natAbs (toZ w64 (ofZ w64 (start .args .y))) + 1 = c .if1 .taken in
     numbered (λ x y. lineLeft x y (start .args .width)) (start .fits .x) (start .fits .y) (start .pre .2 .whole) (start .pre .3 .whole)
     (two-runs (start .args .side) _ _ (column start) (row start) (start .args .width) _ 0 0
     (start .pre .1) (least .0) (least .1) (least .2) (omega arith) (λ p a b. absurd (omega arith)) (λ p j a b d e. absurd (omega arith))
