@@ -69,7 +69,7 @@
  * THREADS, MEMORY. There is no state between calls, no heap, no input or output: threads may call at the same time, each with its
  * own buffers. A call needs at most HX_SIZE_STACK bytes of stack.
  *
- * What the functions do is defined in crates/squares/specs and proved; crates/squares/proofs/Theorems.antt has the theorem.
+ * What the functions do is defined in crates/marks/specs and proved; crates/marks/proofs/Theorems.antt has the theorem.
  */
 #ifndef HAN_XIN_H
 #define HAN_XIN_H

@@ -39,8 +39,8 @@ struct Part {
 const PARTS: [Part; 4] = [
     Part {
         name: "blocks",
-        compare: blocks::compare,
-        record: blocks::record,
+        compare: block_table::compare,
+        record: block_table::record,
     },
     Part {
         name: "symbol",
@@ -63,7 +63,7 @@ const PARTS: [Part; 4] = [
 const BENCHES: [(&str, fn(&mut sheet::Sheet)); 6] = [
     ("read", squares::reading),
     ("write", squares::writing_speed),
-    ("blocks", blocks::bench),
+    ("blocks", block_table::bench),
     ("segments", segments::bench),
     ("symbol", symbol::bench),
     ("stack", |_| squares::stack()),

@@ -1,12 +1,8 @@
 -- Bits written behind others: the bits before, then those of a number, as the bits of four bytes.
-use mathlib.Core.Path.{_≡_, ap, _∙_, sym}
-use mathlib.Core.List.{List, [], _∷_, _++_, append-nil, flatMap}
-use Prim.Native.Nat.{ℕ, zero, suc, _+_, _-_, _*_, _/_, _%_, _^_, _<_, _≤_}
-use native.Mathlib.Nat.{mod-lt, suc-mul, mul-le-mul-right, mul-assoc, add-mul}
-use native.Mathlib.Omega.{arith}
-use lib.ListN.{length, getD, take, drop, length-append}
+use Rattle.general.proofs.Names.{_≡_, ap, _∙_, sym, List, [], _∷_, _++_, append-nil, flatMap, ℕ, zero, suc, _+_, _-_, _*_, _/_, _%_, _^_, _<_, _≤_, mod-lt}
+use Rattle.general.proofs.Names.{suc-mul, mul-le-mul-right, mul-assoc, add-mul, arith, length, getD, take, drop, length-append, sets, sets-eq, take-at}
+use Rattle.general.proofs.Names.{take-append-le, length-take-le}
 use lib.Pow.{shr-shr, shl-shr, shl-exact, shl-lt, shr-lt, high, split, pow-pos, pow-add}
-use lib.Seq.{sets, sets-eq, take-at, take-append-le, length-take-le}
 use Rattle.bits.specs.Bits.{lowBits, bitsOf, wordBits}
 use Rattle.bits.specs.Four.{fourOf}
 use Rattle.bits.proofs.Words.{length-low}

@@ -1,12 +1,8 @@
 -- Bytes from bits and back: the bytes that bits come to have these bits, and the bits of bytes come to the bytes.
-use mathlib.Core.Path.{_≡_, refl, ap, _∙_, sym}
-use mathlib.Core.List.{List, [], _∷_, flatMap}
-use Prim.Native.Nat.{ℕ, zero, suc, _+_, _-_, _*_, _/_, _%_, _^_, _<_, _≤_}
-use native.Mathlib.Nat.{pow-succ', add-mul, mul-assoc, add-assoc, mod-eq-of-lt, mul-add-div-right, add-mul-mod-self-right, add-comm}
-use native.Mathlib.Omega.{arith}
-use lib.ListN.{length, getD, take, drop, take-append-drop, length-drop}
+use Rattle.general.proofs.Names.{_≡_, refl, ap, _∙_, sym, List, [], _∷_, flatMap, ℕ, zero, suc, _+_, _-_, _*_, _/_, _%_, _^_, _<_, _≤_, pow-succ', add-mul}
+use Rattle.general.proofs.Names.{mul-assoc, add-assoc, mod-eq-of-lt, mul-add-div-right, add-mul-mod-self-right, add-comm, arith, length, getD, take, drop}
+use Rattle.general.proofs.Names.{take-append-drop, length-drop, getD-drop, length-take-le}
 use lib.Pow.{pow-add, pow-pos, high}
-use lib.Seq.{getD-drop, length-take-le}
 use Rattle.bits.specs.Bits.{lowBits, bitsOf, value, words, wordBits}
 use Rattle.bits.proofs.Words.{words-none, words-more, word-back}
 

@@ -1,10 +1,5 @@
 -- Within the data, the bit reader gives what the bits from its position on say. Assumes nothing.
-use mathlib.Core.Path.{_≡_}
-use mathlib.Core.List.{List}
-use Prim.Native.Nat.{ℕ, _*_, _≤_}
-use native.Mathlib.Omega.{arith}
-use borrow.Author.Tests.{le-ltb}
-use lib.ListN.{length, drop}
+use Rattle.general.proofs.Names.{_≡_, List, ℕ, _*_, _≤_, arith, le-ltb, length, drop}
 use Rattle.bits.specs.Bits.{bitsOf, readBits}
 use Rattle.bits.specs.Read.{readAt}
 

@@ -1,13 +1,7 @@
 -- Laws of bits that are read: the bit at a position, how many are left, and how large a number of n bits is.
-use mathlib.Core.Path.{_≡_, refl}
-use mathlib.Core.List.{List, [], _∷_, flatMap}
-use Prim.Native.Nat.{ℕ, zero, suc, _+_, _-_, _*_, _/_, _%_, _^_, _<_, _≤_}
-use native.Mathlib.Nat.{zero-div, zero-mod, add-zero, zero-add, lt-of-lt-of-le, pow-suc}
-use native.Mathlib.Omega.{arith}
-use lib.ListN.{length, getD, take, drop, length-drop}
+use Rattle.general.proofs.Names.{_≡_, refl, List, [], _∷_, flatMap, ℕ, zero, suc, _+_, _-_, _*_, _/_, _%_, _^_, _<_, _≤_, zero-div, zero-mod, add-zero}
+use Rattle.general.proofs.Names.{zero-add, lt-of-lt-of-le, pow-suc, arith, length, getD, take, drop, length-drop, getD-drop, lt-leb}
 use lib.Pow.{pow-mono}
-use lib.Seq.{getD-drop}
-use borrow.Author.Tests.{lt-leb}
 use Rattle.bits.specs.declared.Word.the-variants.{Cut}
 use Rattle.bits.specs.Bits.{lowBits, bitsOf, value, readBits, wordBits}
 

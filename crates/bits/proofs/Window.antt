@@ -1,13 +1,8 @@
 -- Bits read by bytes: the bytes that hold some bits, as one number, shifted and cut.
-use mathlib.Core.Path.{_≡_, refl, _∙_, sym}
-use mathlib.Core.List.{List, [], _∷_, _++_, flatMap}
-use Prim.Native.Nat.{ℕ, zero, suc, _+_, _-_, _*_, _/_, _%_, _^_, _<_, _≤_}
-use native.Mathlib.Nat.{mod-eq-of-lt, lt-of-lt-of-le, one-mul}
-use native.Mathlib.Omega.{arith}
-use borrow.Author.Tests.{le-leb}
-use lib.ListN.{length, getD, take, drop, length-drop}
+use Rattle.general.proofs.Names.{_≡_, refl, _∙_, sym, List, [], _∷_, _++_, flatMap, ℕ, zero, suc, _+_, _-_, _*_, _/_, _%_, _^_, _<_, _≤_, mod-eq-of-lt}
+use Rattle.general.proofs.Names.{lt-of-lt-of-le, one-mul, arith, le-leb, length, getD, take, drop, length-drop, take-add, drop-drop, length-take-le}
+use Rattle.general.proofs.Names.{getD-drop, take-at, drop-at}
 use lib.Pow.{high, low, pow-mono, shl-exact}
-use lib.Seq.{take-add, drop-drop, length-take-le, getD-drop, take-at, drop-at}
 use Rattle.bits.specs.declared.Word.the-variants.{Value}
 use Rattle.bits.specs.Bits.{lowBits, bitsOf, value, readBits, wordBits}
 use Rattle.bits.proofs.Reading.{length-left, bit-lt}

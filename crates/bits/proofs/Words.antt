@@ -1,15 +1,8 @@
 -- Laws of words: what `read_bits` says of the words from a position on, and words that are written and read back.
-use mathlib.Core.Path.{_≡_, refl, ap, _∙_}
-use mathlib.Core.Bool.{Bool, true, false}
-use mathlib.Core.List.{List, [], _∷_, _++_, append-assoc, flatMap}
-use Prim.Native.Nat.{ℕ, zero, suc, _+_, _*_, _/_, _%_, _^_, _<_, _≤_}
-use native.Mathlib.Nat.{div-eq-of-lt, div-eq-sub-div, mod-one, pow-succ', add-mul, mul-assoc, add-assoc, mod-eq-of-lt, zero-mul, zero-add, mul-suc, add-zero}
-use native.Mathlib.Numerals.{add-one, one-add}
-use native.Mathlib.Omega.{arith}
-use borrow.Author.Tests.{leb-true, leb-false}
-use lib.Dec.{leb}
-use lib.ListN.{length, getD, take, drop, set, length-drop, length-append}
-use lib.Seq.{sets, drop-drop, take-at, drop-at}
+use Rattle.general.proofs.Names.{_≡_, refl, ap, _∙_, Bool, true, false, List, [], _∷_, _++_, append-assoc, flatMap, ℕ, zero, suc, _+_, _*_, _/_, _%_, _^_}
+use Rattle.general.proofs.Names.{_<_, _≤_, div-eq-of-lt, div-eq-sub-div, mod-one, pow-succ', add-mul, mul-assoc, add-assoc, mod-eq-of-lt, zero-mul}
+use Rattle.general.proofs.Names.{zero-add, mul-suc, add-zero, add-one, one-add, arith, leb-true, leb-false, leb, length, getD, take, drop, set, length-drop}
+use Rattle.general.proofs.Names.{length-append, sets, drop-drop, take-at, drop-at}
 use lib.Pow.{mod-pow-add}
 use Rattle.bits.specs.declared.Word.{Word}
 use Rattle.bits.specs.declared.Word.the-variants.{Value, Cut}

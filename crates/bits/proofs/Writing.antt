@@ -1,13 +1,7 @@
 -- Laws of writing: a flipped bit of a byte is a changed bit of the list, and what a turn of `write_bits` does.
-use mathlib.Core.Path.{_≡_, refl, ap, _∙_, sym}
-use mathlib.Core.Logic.{⊎-elim}
-use mathlib.Core.List.{List, [], _∷_, _++_, flatMap}
-use Prim.Native.Nat.{ℕ, zero, suc, _+_, _-_, _*_, _/_, _%_, _^_, _<_, _≤_}
-use native.Mathlib.Nat.{mul-mod-left, div-eq-of-lt, pow-suc, div-self, le-of-suc-le-suc, one-mul, not-suc-le-zero, eq-or-lt-of-le}
-use native.Mathlib.Omega.{arith}
-use lib.ListN.{length, getD, set}
-use lib.Seq.{sets, set-append-left, set-getD}
-use lib.Bits.{bitXor, xor-shr, xor-mod, xor-zero-r}
+use Rattle.general.proofs.Names.{_≡_, refl, ap, _∙_, sym, ⊎-elim, List, [], _∷_, _++_, flatMap, ℕ, zero, suc, _+_, _-_, _*_, _/_, _%_, _^_, _<_, _≤_}
+use Rattle.general.proofs.Names.{mul-mod-left, div-eq-of-lt, pow-suc, div-self, le-of-suc-le-suc, one-mul, not-suc-le-zero, eq-or-lt-of-le, arith, length}
+use Rattle.general.proofs.Names.{getD, set, sets, set-append-left, set-getD, bitXor, xor-shr, xor-mod, xor-zero-r}
 use lib.Pow.{pow-add, shl-shr, pow-lt, pow-pos, shl-exact}
 use Rattle.bits.specs.Bits.{lowBits, bitsOf, wordBits}
 use Rattle.bits.proofs.Reading.{bit-at}

@@ -5,11 +5,11 @@ ghost use mathlib.Core.List.{_++_};
 ghost use Prim.Native.Nat.{_+_, _≤_, _<_};
 ghost use lib.Dec.{T};
 ghost use lib.ListN.{length, drop};
-ghost use Rattle.blocks.specs.Blocks.{batch, shapes, totalSize, totalData, rowHolds};
-ghost use Rattle.blocks.specs.Inner.{Sound};
-ghost use Rattle.blockwise.specs.Blockwise.{streamOf};
-ghost use Rattle.blockwise.specs.Inner.{blocksIn, writing, poured, Room};
-use blockwise::Batch;
+ghost use Rattle.block_table.specs.Blocks.{batch, shapes, totalSize, totalData, rowHolds};
+ghost use Rattle.block_table.specs.Inner.{Sound};
+ghost use Rattle.blocks.specs.Blockwise.{streamOf};
+ghost use Rattle.blocks.specs.Inner.{blocksIn, writing, poured, Room};
+use blocks::Batch;
 
 // The blocks of a batch, the first at `to`, of the data from `from` on. The table for their parity is made once for all of them.
 fn write_many(stream: &mut [u8], to: usize, data: &[u8], from: usize, b: Batch)
@@ -26,7 +26,7 @@ fn write_many(stream: &mut [u8], to: usize, data: &[u8], from: usize, b: Batch)
     let mut left = b.count;
     while 0 < left {
         let end = into + (b.info + b.parity);
-        blockwise::copy(stream, into, data, at, b.info);
+        blocks::copy(stream, into, data, at, b.info);
         parity::write_with(&rows, &mut stream[into..end], b.info);
         into = end;
         at += b.info;
@@ -40,7 +40,7 @@ fn write_one(stream: &mut [u8], to: usize, data: &[u8], from: usize, b: Batch)
     ensures { λ _. ⌜ now (stream .exit) ≡ poured writing (batch 1 (b .info) (b .parity)) to from (now («data» .entry)) (now (stream .entry)) ⌝ }
 {
     let end = to + (b.info + b.parity);
-    blockwise::copy(stream, to, data, from, b.info);
+    blocks::copy(stream, to, data, from, b.info);
     parity::write_short(&mut stream[to..end], b.info);
 }
 
@@ -50,7 +50,7 @@ fn write_batch(stream: &mut [u8], to: usize, data: &[u8], from: usize, b: Batch)
         × Room writing (blocksIn b) to from (now «data») (now stream) ⌝ }
     ensures { λ _. ⌜ now (stream .exit) ≡ poured writing (blocksIn b) to from (now («data» .entry)) (now (stream .entry)) ⌝ }
 {
-    if blockwise::is_one_short(b) {
+    if blocks::is_one_short(b) {
         write_one(stream, to, data, from, b);
         return;
     }
@@ -68,7 +68,7 @@ pub fn write_blocks(stream: &mut [u8], data: &[u8], row: &[u8])
     let mut from: usize = 0;
     let mut k: usize = 0;
     while k < 3 {
-        let b = blockwise::batch_of(row, k);
+        let b = blocks::batch_of(row, k);
         write_batch(stream, n, data, from, b);
         n += b.count * (b.info + b.parity);
         from += b.count * b.info;

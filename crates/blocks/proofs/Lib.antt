@@ -1,4 +1,9 @@
 -- The files of laws, those that others rest on first.
-pub mod Rows
-pub mod Cuts
+pub mod Splice
+pub mod Rule
+pub mod Corrects
+pub mod Pours
+pub mod Settle
+pub mod Written
 pub mod Theorems
+pub mod Answers

@@ -1,9 +1,112 @@
--- What only inner functions use. Nobody has to believe it.
-use mathlib.Core.List.{List, [], _∷_}
-use Prim.Native.Nat.{_<_, _≤_}
-use Rattle.blocks.specs.Blocks.{Shape, size}
+-- What inner functions say of each other, and those of `block_writer`. Nobody has to believe it: the contracts of `correct_blocks`,
+-- `data_length`, `gather_data` and `write_blocks` do not cite it.
+use mathlib.Core.Path.{_≡_}
+use mathlib.Core.List.{List, [], _∷_, _++_, foldr}
+use Prim.Native.Nat.{ℕ, zero, suc, _+_, _*_, _≤_}
+use lib.ListN.{length, take, drop, getD}
+use Rattle.reed_solomon.specs.Block.{parityOf}
+use Rattle.corrector.specs.Correct.{BlockOutcome, correctOf}
+use Rattle.corrector.specs.declared.Correction.{Correction}
+use Rattle.corrector.specs.declared.Correction.the-variants as Correction
+use Rattle.parity.specs.Encode.{withParity}
+use Rattle.block_table.specs.Blocks.{Shape, size, batch, shapes}
+use Rattle.blocks.specs.declared.Batch.{Batch}
+use Rattle.blocks.specs.declared.Blocks.{Blocks}
+use Rattle.blocks.specs.declared.Blocks.the-variants.{Corrected, Refused}
 
--- each block has data and parity, and at most 255 codewords
-pub data Sound : List Shape → Type 0 where
-  none : Sound []
-  more : {b : Shape} {bs : List Shape} → 0 < b .info → 0 < b .parity → size b ≤ 255 → Sound bs → Sound (b ∷ bs)
+-- batch k of a row, and as it is read
+abbrev pub batchOf : List ℕ → ℕ → Batch
+batchOf r k = record { count = getD r (3 * k) 0; info = getD r (3 * k + 1) 0; parity = getD r (3 * k + 2) 0 }
+
+pub record Reads (r : List ℕ) (k : ℕ) (b : Batch) : Type 0 where
+  pub is : b ≡ batchOf r k
+  pub info : b .info ≤ 255
+  pub parity : b .parity ≤ 255
+  pub «data» : b .count * b .info ≤ 65025
+
+-- the blocks of a batch
+abbrev pub blocksIn : Batch → List Shape
+blocksIn b = batch (b .count) (b .info) (b .parity)
+
+-- the blocks of a row from batch k on
+unfoldable pub behind : ℕ → List ℕ → List Shape
+behind zero r = shapes r
+behind (suc zero) r = blocksIn (batchOf r 1) ++ blocksIn (batchOf r 2)
+behind (suc (suc zero)) r = blocksIn (batchOf r 2)
+behind (suc (suc (suc k))) r = []
+
+-- s with xs in the place of its n bytes from a on
+unfoldable pub spliced : ℕ → ℕ → List ℕ → List ℕ → List ℕ
+spliced a n xs s = take a s ++ (xs ++ drop (a + n) s)
+
+-- Blocks corrected one after the other.
+
+-- the answer for blocks, and the stream that is left
+pub record Pass : Type 0 where
+  pub answer : Blocks
+  pub stream : List ℕ
+
+-- the answer for a block as that for blocks
+unfoldable pub answerOf : Correction → Blocks
+answerOf (Correction.Corrected n) = Corrected n
+answerOf Correction.Unfit = Refused
+answerOf Correction.OutOfReach = Refused
+
+-- n corrections more
+abbrev pub more : ℕ → Blocks → Blocks
+more n (Corrected m) = Corrected (n + m)
+more n Refused = Refused
+
+abbrev pub plus : ℕ → Pass → Pass
+plus n q = record { answer = more n (q .answer); stream = q .stream }
+
+-- behind a block with a refusal number, or 0, that leaves the stream s: what the other blocks come to, or nothing more
+abbrev pub onward : ℕ → ℕ → List ℕ → Pass → Pass
+onward zero n s q = plus n q
+onward (suc k) n s q = record { answer = Refused; stream = s }
+
+-- what the corrector gives for the block at the place a
+abbrev pub outcomeAt : Shape → ℕ → List ℕ → BlockOutcome
+outcomeAt b a s = correctOf 0x163 1 (b .parity) (take (size b) (drop a s))
+
+abbrev pub leftAt : Shape → ℕ → List ℕ → List ℕ
+leftAt b a s = spliced a (size b) (outcomeAt b a s .block) s
+
+-- the blocks from a on
+unfoldable pub passed : List Shape → ℕ → List ℕ → Pass
+passed [] a s = record { answer = Corrected 0; stream = s }
+passed (b ∷ bs) a s = onward (outcomeAt b a s .number) (outcomeAt b a s .count) (leftAt b a s) (passed bs (a + size b) (leftAt b a s))
+
+pub record Corrects (bs : List Shape) (a : ℕ) (s s′ : List ℕ) (r : Blocks) : Type 0 where
+  pub is : record { answer = r; stream = s′ } ≡ passed bs a s
+
+-- Something of each block of t put in its place in s, one after the other.
+
+-- how many codewords a block fills in s, how many it has in t, and what it makes of those
+pub record Way : Type 0 where
+  pub fills : Shape → ℕ
+  pub takes : Shape → ℕ
+  pub makes : Shape → List ℕ → List ℕ
+
+abbrev pub gathering : Way
+gathering = record { fills = λ b. b .info; takes = λ b. size b; makes = λ b t. take (b .info) t }
+
+abbrev pub writing : Way
+writing = record {
+  fills = λ b. size b;
+  takes = λ b. b .info;
+  makes = λ b t. withParity (take (b .info) t) (parityOf 0x163 1 (b .parity) (take (b .info) t));
+}
+
+unfoldable pub sum : (Shape → ℕ) → List Shape → ℕ
+sum f bs = foldr (λ b n. f b + n) 0 bs
+
+-- the blocks of t from f on, put into s from a on
+unfoldable pub poured : Way → List Shape → ℕ → ℕ → List ℕ → List ℕ → List ℕ
+poured w [] a f t s = s
+poured w (b ∷ bs) a f t s = poured w bs (a + w .fills b) (f + w .takes b) t (spliced a (w .fills b) (w .makes b (drop f t)) s)
+
+-- there is room for them
+pub record Room (w : Way) (bs : List Shape) (a f : ℕ) (t s : List ℕ) : Type 0 where
+  pub into : a + sum (w .fills) bs ≤ length s
+  pub out : f + sum (w .takes) bs ≤ length t

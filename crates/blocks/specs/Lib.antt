@@ -1,4 +1,3 @@
--- SPECIFICATION 7: the block table and blocks.
-pub mod Table
-pub mod Blocks
+-- SPECIFICATION 7.5: blocks corrected and made, one after the other. `Inner` is for inner functions: nobody has to believe it.
+pub mod Blockwise
 pub mod Inner

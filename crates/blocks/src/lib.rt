@@ -1,98 +1,202 @@
-// SPECIFICATION 7.1 and 7.4: the block table, and the data modules of a layout (han_xin.rs: `TOTAL_CODEWORDS`, `BLOCKS`).
+// Blocks corrected, and their data gathered, one after the other (SPECIFICATION 7.2, 7.5). The row of the version and level is lent: three
+// batches of count, data, parity. The crate `block_writer` makes blocks of data.
 ghost use mathlib.Core.Path.{_≡_};
-ghost use mathlib.Core.List.{[], _∷_};
-ghost use Prim.Native.Nat.{ℕ, _+_, _<_, _≤_};
-ghost use lib.ListN.{length, getD, take};
-ghost use Rattle.blocks.specs.Blocks.{totalOf, rowOf, dataModules};
+ghost use mathlib.Core.Bool.{true};
+ghost use mathlib.Core.List.{_++_};
+ghost use Prim.Native.Nat.{_+_, _≤_, _<_};
+ghost use lib.Dec.{T};
+ghost use lib.ListN.{length, take, drop};
+ghost use Rattle.remainder.specs.Words.{Prepared};
+ghost use Rattle.block_table.specs.Blocks.{batch, shapes, totalSize, totalData, rowHolds, cut, joined, dataParts};
+ghost use Rattle.blocks.specs.Blockwise.{corrected, firstRefused, countOf, blocksOf, leftOf, numberOf, correctionsOf};
+ghost use Rattle.blocks.specs.Inner.{Reads, blocksIn, spliced, answerOf, Corrects, gathering, poured, Room};
+use corrector::Correction;
 
-pub mod table;
-
-use table::BLOCKS;
-use table::FIRST_BLOCKS;
-use table::TOTAL_CODEWORDS;
-
-// A version's codewords in all.
-pub fn total_codewords(version: usize) -> usize
-    requires { ⌜ (1 ≤ version) × (version ≤ 84) ⌝ }
-    ensures { λ r. ⌜ (r ≡ totalOf version) × (r ≤ 3886) ⌝ }
-{
-    TOTAL_CODEWORDS[version - 1] as usize
+// What became of the blocks: the count of all corrections, or refusal 6 (SPECIFICATION 2.7).
+pub enum Blocks {
+    Corrected(usize),
+    Refused,
 }
 
-// Nine numbers of a table, from one on.
-fn nine(table: &[u8], at: usize) -> [u8; 9]
-    requires { ⌜ (at ≤ 3015) × (at + 9 ≤ length (now table)) ⌝ }
-    ensures { λ r. ⌜ (length r ≡ 9) × ((k : ℕ) → k < 9 → getD r k 0 ≡ getD (now (table .entry)) (at + k) 0) ⌝ }
+// A batch of a row: so many blocks, each with so many data codewords, then so many of parity.
+pub struct Batch {
+    pub count: usize,
+    pub info: usize,
+    pub parity: usize,
+}
+
+// Batch k of the row.
+pub fn batch_of(row: &[u8], k: usize) -> Batch
+    requires { ⌜ (length (now row) ≡ 9) × (k < 3) ⌝ }
+    ensures { λ b. ⌜ Reads (now (row .entry)) k b ⌝ }
 {
-    let mut row = [0u8; 9];
+    Batch {
+        count: row[3 * k] as usize,
+        info: row[3 * k + 1] as usize,
+        parity: row[3 * k + 2] as usize,
+    }
+}
+
+// Whether a batch is one short block: a table for it would cost more than it saves.
+pub fn is_one_short(b: Batch) -> bool
+    requires { ⌜ (b .info ≤ 255) × (b .parity ≤ 255) ⌝ }
+    ensures { λ r. ⌜ (r ≡ true → b .count ≡ 1) ⌝ }
+{
+    if b.count != 1 {
+        return false;
+    }
+    b.info + b.parity < 64
+}
+
+// The corrector's answer for a block as the answer for blocks. No block of a row is unfit.
+fn answer(c: Correction) -> Blocks
+    ensures { λ r. ⌜ r ≡ answerOf c ⌝ }
+{
+    match c {
+        Correction::Corrected(n) => Blocks::Corrected(n),
+        Correction::Unfit => Blocks::Refused,
+        Correction::OutOfReach => Blocks::Refused,
+    }
+}
+
+// One block, lent to the corrector as a part of the stream from its place on.
+fn correct_block(rows: &[u64], stream: &mut [u8], from: usize, b: Batch) -> Blocks
+    requires { ⌜ Prepared (b .parity) (now rows) × (from + (b .info + b .parity) ≤ length (now stream)) ⌝ }
+    ensures { λ r. ⌜ Corrects (batch 1 (b .info) (b .parity)) from (now (stream .entry)) (now (stream .exit)) r ⌝ }
+{
+    let to = from + (b.info + b.parity);
+    answer(corrector::correct_with(rows, &mut stream[from..to], b.parity))
+}
+
+// The blocks of a batch, whose first begins at `from`. The corrector's table is made once for all of them.
+fn correct_many(stream: &mut [u8], from: usize, b: Batch) -> Blocks
+    requires { ⌜ from + totalSize (blocksIn b) ≤ length (now stream) ⌝ }
+    ensures { λ r. ⌜ Corrects (blocksIn b) from (now (stream .entry)) (now (stream .exit)) r ⌝ }
+{
+    if b.count == 0 {
+        return Blocks::Corrected(0);
+    }
+    let mut rows = [0u64; 512];
+    remainder::prepare(&mut rows, b.parity);
     let mut n: usize = 0;
-    while n < 9 {
-        row[n] = table[at + n];
-        n += 1;
+    let mut at = from;
+    let mut left = b.count;
+    while 0 < left {
+        let r = correct_block(&rows, stream, at, b);
+        let Blocks::Corrected(m) = r else {
+            return Blocks::Refused;
+        };
+        n += m;
+        at += b.info + b.parity;
+        left -= 1;
     }
-    row
+    Blocks::Corrected(n)
 }
 
-// The row of a version and level: three batches of count, data, parity. The table that is read is copied whole each time, so that a small
-// mark has a small one.
-pub fn block_row(version: usize, level: usize) -> [u8; 9]
-    requires { ⌜ (1 ≤ version) × (version ≤ 84) × (level ≤ 3) ⌝ }
-    ensures { λ r. ⌜ r ≡ rowOf version level ⌝ }
+// The only block of a batch, which is short.
+fn correct_one(stream: &mut [u8], from: usize, b: Batch) -> Blocks
+    requires { ⌜ from + (b .info + b .parity) ≤ length (now stream) ⌝ }
+    ensures { λ r. ⌜ Corrects (batch 1 (b .info) (b .parity)) from (now (stream .entry)) (now (stream .exit)) r ⌝ }
 {
-    let at = (4 * (version - 1) + level) * 9;
-    if version <= 10 {
-        let table = FIRST_BLOCKS;
-        return nine(&table, at);
-    }
-    let table = BLOCKS;
-    nine(&table, at)
+    let to = from + (b.info + b.parity);
+    answer(corrector::correct_short(&mut stream[from..to], b.parity))
 }
 
-fn data_module(kind: u8) -> u8
-    ensures { λ r. ⌜ (r ≡ dataModules (kind ∷ [])) × (r ≤ 1) ⌝ }
+// The blocks of a batch, whose first begins at `from`.
+fn correct_batch(stream: &mut [u8], from: usize, b: Batch) -> Blocks
+    requires { ⌜ (b .info ≤ 255) × (b .parity ≤ 255) × (from + totalSize (blocksIn b) ≤ length (now stream)) ⌝ }
+    ensures { λ r. ⌜ Corrects (blocksIn b) from (now (stream .entry)) (now (stream .exit)) r ⌝ }
 {
-    if kind == 0 {
-        return 1;
+    if is_one_short(b) {
+        return correct_one(stream, from, b);
     }
-    0
+    correct_many(stream, from, b)
 }
 
-// The data modules of a run. Their count is a byte, so that the compiler counts sixteen places at once.
-fn run_modules(kinds: &[u8], from: usize, to: usize) -> u8
-    requires { ⌜ (from ≤ to) × (to ≤ from + 128) × (to ≤ length (now kinds)) ⌝ }
-    ensures { λ r. ⌜ dataModules (take from (now (kinds .entry))) + r ≡ dataModules (take to (now (kinds .entry))) ⌝ }
+// All blocks of the stream, first to last, each set to its codeword in reach; the first that has none ends it.
+pub fn correct_blocks(stream: &mut [u8], row: &[u8]) -> Blocks
+    requires { ⌜ (length (now row) ≡ 9) × T (rowHolds (shapes (now row)) (totalSize (shapes (now row))))
+        × (totalSize (shapes (now row)) ≤ length (now stream)) ⌝ }
+    ensures { λ r.
+        let bs = shapes (now (row .entry)) in
+        let n = totalSize bs in
+        let s = now (stream .entry) in
+        ⌜ (numberOf r ≡ firstRefused (corrected bs (take n s)))
+        × (numberOf r ≡ 0 → (correctionsOf r ≡ countOf (corrected bs (take n s)))
+        × (now (stream .exit) ≡ joined (blocksOf (corrected bs (take n s))) ++ drop n s))
+        × (now (stream .exit) ≡ leftOf bs s) ⌝ }
 {
-    let mut count: u8 = 0;
-    let mut i = from;
-    while i < to {
-        count += data_module(kinds[i]);
-        i += 1;
+    let mut total: usize = 0;
+    let mut at: usize = 0;
+    let mut k: usize = 0;
+    while k < 3 {
+        let b = batch_of(row, k);
+        let r = correct_batch(stream, at, b);
+        let Blocks::Corrected(n) = r else {
+            return Blocks::Refused;
+        };
+        total += n;
+        at += b.count * (b.info + b.parity);
+        k += 1;
     }
-    count
+    Blocks::Corrected(total)
 }
 
-// Where the run that begins at i ends: n, or 128 places on.
-fn run_end(i: usize, n: usize) -> usize
-    requires { ⌜ i < n ⌝ }
-    ensures { λ r. ⌜ (i < r) × (r ≤ n) × (r ≤ i + 128) ⌝ }
+// n bytes of src, from the place `from` on, written to dst from the place `to` on.
+pub fn copy(dst: &mut [u8], to: usize, src: &[u8], from: usize, n: usize)
+    requires { ⌜ (to + n ≤ length (now dst)) × (from + n ≤ length (now src)) ⌝ }
+    ensures { λ _. ⌜ now (dst .exit) ≡ spliced to n (take n (drop from (now (src .entry)))) (now (dst .entry)) ⌝ }
 {
-    if n - i < 128 {
-        return n;
-    }
-    i + 128
-}
-
-// How many data modules the first n kinds have.
-pub fn data_modules(kinds: &[u8], n: usize) -> usize
-    requires { ⌜ n ≤ length (now kinds) ⌝ }
-    ensures { λ r. ⌜ r ≡ dataModules (take n (now (kinds .entry))) ⌝ }
-{
-    let mut count: usize = 0;
     let mut i: usize = 0;
     while i < n {
-        let end = run_end(i, n);
-        count += run_modules(kinds, i, end) as usize;
-        i = end;
+        dst[to + i] = src[from + i];
+        i += 1;
     }
-    count
+}
+
+// The data parts of a batch whose first block begins at `from`, joined from `to` on.
+fn gather_batch(out: &mut [u8], to: usize, stream: &[u8], from: usize, b: Batch)
+    requires { ⌜ Room gathering (blocksIn b) to from (now stream) (now out) ⌝ }
+    ensures { λ _. ⌜ now (out .exit) ≡ poured gathering (blocksIn b) to from (now (stream .entry)) (now (out .entry)) ⌝ }
+{
+    let mut into = to;
+    let mut at = from;
+    let mut left = b.count;
+    while 0 < left {
+        copy(out, into, stream, at, b.info);
+        into += b.info;
+        at += b.info + b.parity;
+        left -= 1;
+    }
+}
+
+// How many data codewords all blocks of the row have.
+pub fn data_length(row: &[u8]) -> usize
+    requires { ⌜ length (now row) ≡ 9 ⌝ }
+    ensures { λ r. ⌜ r ≡ totalData (shapes (now (row .entry))) ⌝ }
+{
+    let a = batch_of(row, 0);
+    let b = batch_of(row, 1);
+    let c = batch_of(row, 2);
+    a.count * a.info + (b.count * b.info + c.count * c.info)
+}
+
+// The data parts of all blocks of the stream, joined in block order at the front of out; the answer is their number.
+pub fn gather_data(out: &mut [u8], stream: &[u8], row: &[u8]) -> usize
+    requires { ⌜ (length (now row) ≡ 9) × (totalSize (shapes (now row)) ≤ length (now stream)) × (totalData (shapes (now row)) ≤ length (now out)) ⌝ }
+    ensures { λ r.
+        let bs = shapes (now (row .entry)) in
+        ⌜ (r ≡ totalData bs) × (now (out .exit) ≡ dataParts bs (cut bs (now (stream .entry))) ++ drop r (now (out .entry))) ⌝ }
+{
+    let mut n: usize = 0;
+    let mut from: usize = 0;
+    let mut k: usize = 0;
+    while k < 3 {
+        let b = batch_of(row, k);
+        gather_batch(out, n, stream, from, b);
+        n += b.count * b.info;
+        from += b.count * (b.info + b.parity);
+        k += 1;
+    }
+    n
 }

@@ -1,14 +1,10 @@
 -- From a stream to a square and back.
-use mathlib.Core.Path.{_≡_, ap, ap₂, _∙_, sym}
-use mathlib.Core.List.{List, [], _∷_, _++_, map}
-use Prim.Native.Nat.{ℕ, _+_, _*_, _<_, _≤_}
-use native.Mathlib.Omega.{arith}
-use lib.ListN.{length, getD, take, drop, take-append-drop}
+use Rattle.general.proofs.Names.{_≡_, ap, ap₂, _∙_, sym, List, [], _∷_, _++_, map, ℕ, _+_, _*_, _<_, _≤_, arith, length, getD, take, drop, take-append-drop}
 use Rattle.symbol.specs.Version.{sideOf}
 use Rattle.symbol.specs.Layout.{layoutOf}
 use Rattle.information.specs.Information.{infoWritten}
 use Rattle.information.proofs.Flips.{info-length, info-else}
-use Rattle.blocks.specs.Blocks.{dataModules}
+use Rattle.symbol.specs.Layout.{dataModules}
 use Rattle.bits.specs.Bits.{bitsOf}
 use Rattle.bits.proofs.Reading.{length-bits}
 use Rattle.codewords.specs.Codewords.{maskBit, codewordsOf, dataBits, placed, order, fromStream, toStream, squareOf}

@@ -1,9 +1,5 @@
 -- Bits of codewords, and codewords of bits.
-use mathlib.Core.Path.{_≡_, refl, ap, ap₂}
-use mathlib.Core.List.{List, [], _∷_, _++_, flatMap}
-use Prim.Native.Nat.{ℕ, zero, suc, _+_, _-_, _<_}
-use native.Mathlib.Omega.{arith}
-use lib.ListN.{length, drop}
+use Rattle.general.proofs.Names.{_≡_, refl, ap, ap₂, List, [], _∷_, _++_, flatMap, ℕ, zero, suc, _+_, _-_, _<_, arith, length, drop}
 use Rattle.bits.specs.Bits.{lowBits, bitsOf, wordBits, groups, firstWords}
 use Rattle.bits.proofs.Words.{value-low}
 use Rattle.codewords.specs.Codewords.{codewordsOf}

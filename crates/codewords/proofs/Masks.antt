@@ -1,8 +1,5 @@
 -- The four masks, as the code tells them apart.
-use mathlib.Core.Path.{_≡_, refl, sym, ap}
-use mathlib.Core.Logic.{_≢_}
-use Prim.Native.Nat.{ℕ, zero, suc, _+_, _-_, _/_, _%_, _<_}
-use native.Mathlib.Omega.{arith}
+use Rattle.general.proofs.Names.{_≡_, refl, sym, ap, _≢_, ℕ, zero, suc, _+_, _-_, _/_, _%_, _<_, arith}
 use Rattle.codewords.specs.Codewords.{maskAt, maskBit}
 
 pub mask-zero : (k i j : ℕ) → k ≡ 0 → 0 ≡ maskAt k i j

@@ -1,14 +1,9 @@
 -- Data bits into the data modules of a square and out of them.
-use mathlib.Core.Path.{_≡_, refl, sym, ap, ap₂, _∙_}
-use mathlib.Core.List.{List, [], _∷_}
-use Prim.Native.Nat.{ℕ, zero, suc, _<_, _≤_}
-use native.Mathlib.Nat.{le-of-suc-le-suc}
-use native.Mathlib.Omega.{arith}
-use lib.ListN.{length, getD, take}
-use lib.Bits.{bitXor, xor-self, xor-zero-r}
-use Rattle.information.proofs.Xor.{xor-assoc}
-use Rattle.blocks.specs.Blocks.{dataModules}
-use Rattle.blocks.proofs.Rows.{module-miss}
+use Rattle.general.proofs.Names.{_≡_, refl, sym, ap, ap₂, _∙_, List, [], _∷_, ℕ, zero, suc, _<_, _≤_, le-of-suc-le-suc, arith, length, getD, take, bitXor}
+use Rattle.general.proofs.Names.{xor-self, xor-zero-r}
+use Rattle.general.proofs.Xor.{xor-assoc}
+use Rattle.symbol.specs.Layout.{dataModules}
+use Rattle.symbol.proofs.DataModules.{module-miss}
 use Rattle.codewords.specs.Codewords.{dataBits, placed}
 
 xor-twice : (a b : ℕ) → bitXor (bitXor a b) b ≡ a

@@ -1,13 +1,6 @@
 -- Bits stay bits and bytes stay bytes on the way from a square to its stream and back.
-use mathlib.Core.Path.{sym, subst}
-use mathlib.Core.List.{List, [], _∷_}
-use Prim.Native.Nat.{ℕ, zero, suc, _+_, _-_, _<_}
-use native.Mathlib.Omega.{arith}
-use native.Mathlib.Decide.{decLt}
-use lib.Bits.{xor-lt}
-use lib.Dec.{lit<}
-use lib.ListN.{length, getD, set, drop, replicate, getD-replicate, length-replicate, List·getD-eq-default}
-use lib.Seq.{getD-drop}
+use Rattle.general.proofs.Names.{sym, subst, List, [], _∷_, ℕ, zero, suc, _+_, _-_, _<_, arith, decLt, xor-lt, lit<, length, getD, set, drop, replicate}
+use Rattle.general.proofs.Names.{getD-replicate, length-replicate, List·getD-eq-default, getD-drop}
 use Rattle.symbol.proofs.KindsLow.{set-any}
 use Rattle.bits.specs.Bits.{bitsOf, groups, firstWords, storeAt}
 use Rattle.codewords.specs.Codewords.{codewordsOf, dataBits, placed, order, toStream, fromStream, squareOf}

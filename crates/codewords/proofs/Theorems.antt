@@ -1,12 +1,9 @@
 -- What a customer may quote of the placement of codewords.
-use mathlib.Core.Path.{_≡_}
-use mathlib.Core.List.{List}
-use Prim.Native.Nat.{ℕ, _*_, _<_, _≤_}
-use lib.ListN.{length, getD}
+use Rattle.general.proofs.Names.{_≡_, List, ℕ, _*_, _<_, _≤_, length, getD}
 use Rattle.symbol.specs.Version.{sideOf}
 use Rattle.symbol.specs.Layout.{layoutOf}
 use Rattle.information.specs.Information.{infoWritten}
-use Rattle.blocks.specs.Blocks.{dataModules}
+use Rattle.symbol.specs.Layout.{dataModules}
 use Rattle.codewords.specs.Codewords.{maskBit, toStream, fromStream, squareOf}
 use Rattle.codewords.specs.Inner.{streamIn}
 use Rattle.codewords.proofs.Interleave as interleave

@@ -1,9 +1,7 @@
 -- An outcome's numbers and buffers from the answer.
-use mathlib.Core.Path.{_≡_, ap, subst}
-use mathlib.Core.List.{List}
+use Rattle.general.proofs.Names.{_≡_, ap, subst, List, ℕ}
 use Rattle.segments.specs.declared.Answer.{Answer}
 use Rattle.segments.specs.FromData.{DataOutcome, dataOutcome}
-use Prim.Native.Nat.{ℕ}
 use Rattle.comparison.specs.Scripts.{DataSays}
 
 pub fields : (r q : Answer) (p c : List ℕ) (o : DataOutcome) → dataOutcome r p c ≡ o → r ≡ q

@@ -5,7 +5,7 @@ use lib.Dec.{leb, ltb, eqb}
 use lib.ListN.{getD}
 use Rattle.symbol.specs.Version.{isVersion}
 use Rattle.information.specs.Information.{infoPosition}
-use Rattle.blocks.specs.Blocks.{totalOf, rowOf}
+use Rattle.block_table.specs.Blocks.{totalOf, rowOf}
 use Rattle.codewords.specs.Codewords.{maskAt}
 
 -- the codewords in all of a version, or 0

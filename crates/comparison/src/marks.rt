@@ -123,7 +123,7 @@ pub extern "C" fn hx_total(version: usize) -> usize
     if Version::MAX < version {
         return 0;
     }
-    blocks::total_codewords(version)
+    block_table::total_codewords(version)
 }
 
 // Number n of the row of a version and level, or 0.
@@ -143,7 +143,7 @@ pub extern "C" fn hx_block_number(version: usize, level: usize, n: usize) -> u8
     if 9 <= n {
         return 0;
     }
-    let row = blocks::block_row(version, level);
+    let row = block_table::block_row(version, level);
     row[n]
 }
 

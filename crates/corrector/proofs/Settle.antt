@@ -1,17 +1,6 @@
 -- A block is repaired exactly where it has a codeword in reach. Assumes nothing.
-use mathlib.Core.Path.{_≡_, refl, sym, ap, ap₂, _∙_}
-use mathlib.Core.Logic.{_≢_}
-use mathlib.Core.Bool.{Bool, true, false, cond, true≢false}
-use mathlib.Core.Option.{none, some}
-use mathlib.Core.List.{List, [], _∷_}
-use Prim.Native.Nat.{ℕ, suc, _+_, _≤_, _<_}
-use native.Mathlib.Omega.{arith}
-use native.Mathlib.Decide.{ℕ-discrete, decLt}
-use borrow.Author.Tests.{eq-eqb}
-use lib.Dec.{eqb}
-use lib.ListN.{length}
-use lib.Seq.{take-length}
-use lib.Bits.{xor-self, xor-zero-r}
+use Rattle.general.proofs.Names.{_≡_, refl, sym, ap, ap₂, _∙_, _≢_, Bool, true, false, cond, true≢false, none, some, List, [], _∷_, ℕ, suc, _+_, _≤_, _<_}
+use Rattle.general.proofs.Names.{arith, ℕ-discrete, decLt, eq-eqb, eqb, length, take-length, xor-self, xor-zero-r}
 use Rattle.field.specs.Field.{power}
 use Rattle.field.proofs.Field.{Passes, passes, sum-lt}
 use Rattle.field.proofs.Instances.{passes-163}
@@ -23,7 +12,8 @@ use Rattle.remainder.specs.Words.{tabled, Remains, Leaves}
 use Rattle.remainder.specs.Words as Words
 use Rattle.remainder.proofs.Lowered.{none-remains}
 use Rattle.corrector.specs.Correct.{refusedBlock, settled, correctOf}
-use Rattle.reed_solomon.specs.Inner.{Each, Syndromes, isClean, Shortest, locatorAt, Located, zerosOf, Errors, withoutAll, repaired}
+use Rattle.reed_solomon.specs.Inner.{Syndromes, isClean, Shortest, locatorAt, Located, zerosOf, Errors, withoutAll, repaired}
+use Rattle.general.specs.Each.{Each}
 use Rattle.reed_solomon.proofs.Sum.{add-zero-eq}
 use Rattle.reed_solomon.proofs.Search.{Bytes}
 use Rattle.reed_solomon.proofs.Distance.{differ-zeros}

@@ -1,22 +1,15 @@
 -- Bits into data modules.
-use mathlib.Core.Path.{_≡_, refl, ap, ap₂, _∙_, sym, subst}
-use mathlib.Core.Logic.{_≢_}
-use mathlib.Core.List.{List, [], _∷_, _++_, append-assoc, append-nil}
-use Prim.Native.Nat.{ℕ, zero, suc, _+_, _-_, _*_, _/_, _%_, _^_, _<_, _≤_}
-use native.Mathlib.Numerals.{add-one}
-use native.Mathlib.Omega.{arith}
-use native.Mathlib.Decide.{decLt, ℕ-discrete}
-use lib.Dec.{T, eqb, eqb→eq}
-use lib.ListN.{length, getD, take, drop, set, length-set, length-append, drop-of-length-le}
-use lib.Seq.{sets, sets-eq, length-sets, take-at, drop-at, drop-cons, drop-nil, take-suc, take-all, getD-take, getD-drop, length-take-le, drop-append-add}
-use lib.Bits.{bitXor, bitAnd, xor-lt, and-le-r}
-use Rattle.symbol.proofs.Finite.{upTo, every}
+use Rattle.general.proofs.Names.{_≡_, refl, ap, ap₂, _∙_, sym, subst, _≢_, List, [], _∷_, _++_, append-assoc, append-nil, ℕ, zero, suc, _+_, _-_, _*_, _/_}
+use Rattle.general.proofs.Names.{_%_, _^_, _<_, _≤_, add-one, arith, decLt, ℕ-discrete, T, eqb, eqb→eq, length, getD, take, drop, set, length-set}
+use Rattle.general.proofs.Names.{length-append, drop-of-length-le, sets, sets-eq, length-sets, take-at, drop-at, drop-cons, drop-nil, take-suc, take-all}
+use Rattle.general.proofs.Names.{getD-take, getD-drop, length-take-le, drop-append-add, bitXor, bitAnd, xor-lt, and-le-r}
+use Rattle.general.proofs.Finite.{upTo, every}
 use Rattle.bits.specs.Bits.{lowBits, bitsOf, value}
 use Rattle.bits.proofs.Reading.{length-bits, bit-lt, length-left}
 use Rattle.bits.proofs.Window.{window-none, window-more, window-read}
 use Rattle.bits.proofs.Bytes.{low-value, take-small}
-use Rattle.blocks.specs.Blocks.{dataModules}
-use Rattle.blocks.proofs.Rows.{module-hit, module-miss}
+use Rattle.symbol.specs.Layout.{dataModules}
+use Rattle.symbol.proofs.DataModules.{module-hit, module-miss}
 use Rattle.codewords.specs.Codewords.{placed}
 use Rattle.placement.specs.Walk.{eightOf, run, behind, bytesOf, Skipped}
 use Rattle.drawing.specs.Puts.{patternOf, getD₀, Drawn, Placing, PutBit, PutEight, Blank, Puts, PutsAll}

@@ -1,13 +1,9 @@
 -- A square written row by row.
-use mathlib.Core.Path.{_≡_, refl, ap, ap₂, _∙_, sym, subst}
-use mathlib.Core.List.{List, [], _∷_, _++_, append-assoc, append-nil}
-use Prim.Native.Nat.{ℕ, zero, suc, _+_, _-_, _*_, _<_, _≤_}
-use native.Mathlib.Omega.{arith}
-use lib.ListN.{length, getD, take, drop, length-append, length-drop, drop-of-length-le}
-use lib.Seq.{length-take-le, take-at, drop-at, take-all, drop-drop, drop-nil, getD-drop}
-use lib.Bits.{bitXor}
-use Rattle.blocks.specs.Blocks.{dataModules}
-use Rattle.blocks.proofs.Rows.{module-miss, modules-append}
+use Rattle.general.proofs.Names.{_≡_, refl, ap, ap₂, _∙_, sym, subst, List, [], _∷_, _++_, append-assoc, append-nil, ℕ, zero, suc, _+_, _-_, _*_, _<_, _≤_}
+use Rattle.general.proofs.Names.{arith, length, getD, take, drop, length-append, length-drop, drop-of-length-le, length-take-le, take-at, drop-at, take-all}
+use Rattle.general.proofs.Names.{drop-drop, drop-nil, getD-drop, bitXor}
+use Rattle.symbol.specs.Layout.{dataModules}
+use Rattle.symbol.proofs.DataModules.{module-miss, modules-append}
 use Rattle.codewords.specs.Codewords.{placed}
 use Rattle.masks.specs.Columns.{Row}
 use Rattle.drawing.specs.Puts.{patternOf, getD₀, Drawn, Placing, Blank}

@@ -6,7 +6,7 @@ use lib.ListN.{length, getD, take, drop, set}
 use lib.Seq.{sets}
 use lib.Bits.{bitXor}
 use Rattle.bits.specs.Bits.{bitsOf}
-use Rattle.blocks.specs.Blocks.{dataModules}
+use Rattle.symbol.specs.Layout.{dataModules}
 use Rattle.codewords.specs.Codewords.{placed}
 use Rattle.placement.specs.Walk.{run}
 use Rattle.drawing.specs.declared.Cursor.{Cursor}

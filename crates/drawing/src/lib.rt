@@ -6,7 +6,7 @@ ghost use Prim.Native.Nat.{ℕ, _+_, _-_, _*_, _/_, _≤_, _<_};
 ghost use lib.ListN.{length, getD, take, drop};
 ghost use lib.Seq.{sets};
 ghost use Rattle.bits.specs.Bits.{bitsOf, lowBits, value};
-ghost use Rattle.blocks.specs.Blocks.{dataModules};
+ghost use Rattle.symbol.specs.Layout.{dataModules};
 ghost use Rattle.codewords.specs.Codewords.{maskBit, placed};
 ghost use Rattle.placement.specs.Walk.{eightOf, behind, bytesOf};
 ghost use Rattle.drawing.specs.Puts.{patternOf, getD₀, Drawn, PutBit, PutEight, Blank, Puts, PutsAll};

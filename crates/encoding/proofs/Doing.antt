@@ -1,14 +1,8 @@
 -- Words that are left to write, and bits that are written one part after the other.
-use mathlib.Core.Path.{_≡_, refl, _∙_, sym, subst}
-use mathlib.Core.Bool.{Bool, true, false, not}
-use mathlib.Core.List.{List, [], _∷_, _++_, append-assoc, append-nil, flatMap}
-use Prim.Native.Nat.{ℕ, suc, _+_, _-_, _*_, _/_, _%_, _^_, _<_, _≤_}
-use native.Mathlib.Nat.{mul-suc, mul-zero, add-zero, mod-lt}
-use native.Mathlib.Numerals.{add-one}
-use native.Mathlib.Omega.{arith}
-use lib.ListN.{length, getD, take, drop, length-append, length-drop, drop-of-length-le}
+use Rattle.general.proofs.Names.{_≡_, refl, _∙_, sym, subst, Bool, true, false, not, List, [], _∷_, _++_, append-assoc, append-nil, flatMap, ℕ, suc, _+_}
+use Rattle.general.proofs.Names.{_-_, _*_, _/_, _%_, _^_, _<_, _≤_, mul-suc, mul-zero, add-zero, mod-lt, add-one, arith, length, getD, take, drop}
+use Rattle.general.proofs.Names.{length-append, length-drop, drop-of-length-le, drop-cons, drop-drop, take-all}
 use lib.Pow.{high, split, pow-pos}
-use lib.Seq.{drop-cons, drop-drop, take-all}
 use Rattle.bits.specs.Bits.{bitsOf, lowBits, wordBits}
 use Rattle.bits.proofs.Words.{length-low, length-words}
 use Rattle.bits.proofs.Bytes.{low-add}

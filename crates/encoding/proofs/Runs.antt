@@ -1,11 +1,6 @@
 -- The bits of one segment, part by part.
-use mathlib.Core.Path.{_≡_, refl, sym, ap, _∙_}
-use mathlib.Core.Bool.{true}
-use mathlib.Core.List.{List, _++_}
-use Prim.Native.Nat.{ℕ, zero, suc, _+_, _*_, _%_, _^_, _<_, _≤_}
-use native.Mathlib.Omega.{arith}
-use borrow.Author.Tests.{lt-ltb, le-ltb}
-use lib.ListN.{length, length-append}
+use Rattle.general.proofs.Names.{_≡_, refl, sym, ap, _∙_, true, List, _++_, ℕ, zero, suc, _+_, _*_, _%_, _^_, _<_, _≤_, arith, lt-ltb, le-ltb, length}
+use Rattle.general.proofs.Names.{length-append}
 use Rattle.bits.specs.Bits.{lowBits, wordBits}
 use Rattle.bits.proofs.Words.{length-low, length-words}
 use Rattle.script.specs.Writer.{numericWords, fourCode, modeHas, modeBits, eciBits}

@@ -1,14 +1,7 @@
 -- Segments that are left to write.
-use mathlib.Core.Path.{_≡_, refl, ap, _∙_, sym}
-use mathlib.Core.Bool.{Bool, true, false, cond}
-use mathlib.Core.Option.{Option, none, some}
-use mathlib.Core.List.{List, [], _∷_, _++_, append-assoc, append-nil, flatMap}
-use Prim.Native.Nat.{ℕ, zero, suc, _+_, _-_, _*_, _<_, _≤_}
-use native.Mathlib.Nat.{zero-add, add-zero}
-use native.Mathlib.Omega.{arith}
-use borrow.Author.Tests.{eq-eqb, ltb-true, ltb-false}
-use lib.Dec.{ltb, eqb}
-use lib.ListN.{length, getD, take, drop, replicate, length-append, length-drop}
+use Rattle.general.proofs.Names.{_≡_, refl, ap, _∙_, sym, Bool, true, false, cond, Option, none, some, List, [], _∷_, _++_, append-assoc, append-nil}
+use Rattle.general.proofs.Names.{flatMap, ℕ, zero, suc, _+_, _-_, _*_, _<_, _≤_, zero-add, add-zero, arith, eq-eqb, ltb-true, ltb-false, ltb, eqb, length}
+use Rattle.general.proofs.Names.{getD, take, drop, replicate, length-append, length-drop}
 use Rattle.bits.specs.Bits.{bitsOf, words}
 use Rattle.bits.proofs.Tests.{never}
 use Rattle.bits.proofs.Bytes.{words-bits}

@@ -1,12 +1,7 @@
 -- Bytes and bits that are set to zero from a place on.
-use mathlib.Core.Path.{_≡_, refl, ap, _∙_, sym}
-use mathlib.Core.List.{List, [], _∷_, _++_, append-nil, append-assoc, flatMap}
-use Prim.Native.Nat.{ℕ, zero, suc, _+_, _-_, _*_, _/_, _%_, _<_, _≤_}
-use native.Mathlib.Nat.{zero-div, zero-mod}
-use native.Mathlib.Numerals.{add-one}
-use native.Mathlib.Omega.{arith}
-use lib.ListN.{length, getD, take, drop, set, replicate, length-append, length-replicate, drop-of-length-le, replicate-append-replicate, take-append-drop}
-use lib.Seq.{set-at, drop-cons, length-take-le, take-nil, append-snoc}
+use Rattle.general.proofs.Names.{_≡_, refl, ap, _∙_, sym, List, [], _∷_, _++_, append-nil, append-assoc, flatMap, ℕ, zero, suc, _+_, _-_, _*_, _/_, _%_}
+use Rattle.general.proofs.Names.{_<_, _≤_, zero-div, zero-mod, add-one, arith, length, getD, take, drop, set, replicate, length-append, length-replicate}
+use Rattle.general.proofs.Names.{drop-of-length-le, replicate-append-replicate, take-append-drop, set-at, drop-cons, length-take-le, take-nil, append-snoc}
 use Rattle.bits.specs.Bits.{lowBits, bitsOf, wordBits}
 
 -- the bytes s with zeros from the place f to the place i

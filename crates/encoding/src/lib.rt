@@ -77,7 +77,7 @@ fn digit(run: &[u8], j: usize) -> usize
     requires { ⌜ j < length (now run) ⌝ }
     ensures { λ r. ⌜ (r ≡ getD (now (run .entry)) j 0 - 48) × (r < 256) ⌝ }
 {
-    script::saturating_sub(bits::wide(run[j]), 48)
+    script::values::saturating_sub(bits::wide(run[j]), 48)
 }
 
 // The three digits from a place of a run on, as a number.
@@ -165,7 +165,7 @@ fn write_run(buf: &mut [u8], from: usize, mode: usize, chars: &[u8]) -> usize
         return write_bytes(buf, next, chars);
     }
     if mode == segments::FOUR_BYTE {
-        return put(buf, at, 21, script::four_code(chars));
+        return put(buf, at, 21, script::values::four_code(chars));
     }
     write_chars(buf, at, mode, chars)
 }
@@ -215,13 +215,13 @@ pub fn encode(script: &[u8], payload: &[u8], codewords: &mut [u8])
     let mut j: usize = 0;
     let mut at: usize = 0;
     while i < script.len() {
-        let next = script::command_at(script, i);
+        let next = script::commands::command_at(script, i);
         match next {
             Command::Run(mode, n) => {
                 let end = j + n;
                 at = write_run(codewords, at, mode, &payload[j..end]);
                 j = end;
-                i += script::command_size(mode);
+                i += script::commands::command_size(mode);
             }
             Command::Eci(v) => {
                 at = write_eci(codewords, at, v);

@@ -1,13 +1,7 @@
 -- What stands in the table of a field: logarithms and powers, and so products and quotients. Assumes nothing.
-use mathlib.Core.Path.{_≡_, refl, sym, ap, _∙_, subst}
-use mathlib.Core.List.{List, [], _∷_, _++_}
-use Prim.Native.Nat.{ℕ, zero, suc, _+_, _-_, _*_, _%_, _^_, _≤_, _<_}
-use native.Mathlib.Omega.{arith}
-use native.Mathlib.Decide.{ℕ-discrete, decLt}
-use lib.Dec.{T}
-use lib.Bits.{bitXor, xor-block, xor-zero-l, xor-self}
-use lib.ListN.{length, getD, replicate, length-append, getD-replicate, List·getD-append}
-use lib.Seq.{getD-append-add, getD-append-seam}
+use Rattle.general.proofs.Names.{_≡_, refl, sym, ap, _∙_, subst, List, [], _∷_, _++_, ℕ, zero, suc, _+_, _-_, _*_, _%_, _^_, _≤_, _<_, arith, ℕ-discrete}
+use Rattle.general.proofs.Names.{decLt, T, bitXor, xor-block, xor-zero-l, xor-self, length, getD, replicate, length-append, getD-replicate}
+use Rattle.general.proofs.Names.{List·getD-append, getD-append-add, getD-append-seam}
 use Rattle.field.specs.Field.{raised, timesAlpha, power, powers, log, times, mul, orderTest}
 use Rattle.field.specs.Table.{each, logEntry, tableOf, polyOf, Field}
 use Rattle.field.proofs.Field.{Passes, passes, powers-length, powers-at, power-lt, power-log, mul-power, mul-comm, mul-assoc, mul-inverse, mul-one, times-zero}

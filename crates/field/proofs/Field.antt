@@ -1,16 +1,8 @@
 -- GF(256) for any polynomial that passes the order test: the laws of a field. Assumes nothing.
-use mathlib.Core.Path.{_≡_, refl, sym, ap, ap₂, _∙_, subst}
-use mathlib.Core.Bool.{Bool, true, false, cond, _&&_, not}
-use mathlib.Core.List.{List, [], _∷_}
-use Prim.Native.Nat.{ℕ, zero, suc, _+_, _-_, _*_, _/_, _%_, _≤_, _<_}
-use native.Mathlib.Omega.{arith}
-use lib.Dec.{T, leb, ltb, eqb, leb→le, ltb→lt, lt→ltb, eqb→eq}
-use lib.ListN.{length, getD}
-use lib.Bits.{bitXor, xor-shr, xor-lt, xor-zero-r, xor-self, xor-mod}
-use native.Mathlib.Nat.{le-of-suc-le-suc, eq-or-lt-of-le, zero-add, suc-add, add-comm, add-assoc}
+use Rattle.general.proofs.Names.{_≡_, refl, sym, ap, ap₂, _∙_, subst, Bool, true, false, cond, _&&_, not, List, [], _∷_, ℕ, zero, suc, _+_, _-_, _*_, _/_}
+use Rattle.general.proofs.Names.{_%_, _≤_, _<_, arith, T, leb, ltb, eqb, leb→le, ltb→lt, lt→ltb, eqb→eq, length, getD, bitXor, xor-shr, xor-lt, xor-zero-r}
+use Rattle.general.proofs.Names.{xor-self, xor-mod, le-of-suc-le-suc, eq-or-lt-of-le, zero-add, suc-add, add-comm, add-assoc, decLe, inl, inr, _≢_}
 use lib.Arith.{le→nltb}
-use native.Mathlib.Decide.{decLe}
-use mathlib.Core.Logic.{inl, inr, _≢_}
 use Rattle.field.specs.Field.{timesAlpha, raised, power, powers, find, log, times, mul, below, isOnto, isOnce, orderTest}
 use Rattle.field.proofs.Xor.{xor-double, xor-swap}
 

@@ -1,11 +1,6 @@
 -- What a customer may quote of the field. Each holds for any polynomial that passes the order test (SPECIFICATION 3.2). Elements are bytes;
 -- their sum is the xor, which is its own inverse. Assumes nothing.
-use mathlib.Core.Path.{_≡_, refl, sym, ap, ap₂, _∙_}
-use mathlib.Core.Logic.{_≢_}
-use Prim.Native.Nat.{ℕ, zero, suc, _+_, _-_, _%_, _<_}
-use native.Mathlib.Omega.{arith}
-use lib.Dec.{T}
-use lib.Bits.{bitXor}
+use Rattle.general.proofs.Names.{_≡_, refl, sym, ap, ap₂, _∙_, _≢_, ℕ, zero, suc, _+_, _-_, _%_, _<_, arith, T, bitXor}
 use Rattle.field.specs.Field.{timesAlpha, raised, power, log, times, mul, orderTest}
 use Rattle.field.proofs.Field as field
 use Rattle.field.proofs.Field.{Passes, passes}

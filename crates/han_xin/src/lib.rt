@@ -1,8 +1,8 @@
 // The operations on squares for a station program in C, on numbers and byte slices only (include/han_xin.h). What they mean stands in
 // squares/specs.
 ghost use mathlib.Core.Path.{_≡_};
-ghost use Rattle.squares.specs.Read.{readingOf, readOf, readKnownOf};
-ghost use Rattle.squares.specs.Write.{writingOf, writeOf};
+ghost use Rattle.marks.specs.Read.{readingOf, readOf, readKnownOf};
+ghost use Rattle.marks.specs.Write.{writingOf, writeOf};
 
 // SPECIFICATION 10.9: Read a square.
 #[no_mangle]

@@ -1,18 +1,13 @@
 -- Two words of one version differ in at least 9 bits, so up to 8 flips in both copies leave the nearest word as it was.
-use mathlib.Core.Path.{_≡_, refl, sym, ap, ap₂, subst, _∙_}
-use mathlib.Core.Bool.{Bool, true, false, cond, _||_}
-use Prim.Native.Nat.{ℕ, zero, suc, _+_, _-_, _*_, _/_, _%_, _^_, _<_, _≤_}
-use native.Mathlib.Omega.{arith}
-use lib.Dec.{T, eqb, ltb, leb, eqb→eq, leb→le, ltb→lt, lit<}
-use lib.Bits.{bitXor, xor-lt, xor-block, xor-self, xor-comm, xor-zero-l, xor-zero-r}
-use lib.ListN.{getD}
+use Rattle.general.proofs.Names.{_≡_, refl, sym, ap, ap₂, subst, _∙_, Bool, true, false, cond, _||_, ℕ, zero, suc, _+_, _-_, _*_, _/_, _%_, _^_, _<_, _≤_}
+use Rattle.general.proofs.Names.{arith, T, eqb, ltb, leb, eqb→eq, leb→le, ltb→lt, lit<, bitXor, xor-lt, xor-block, xor-self, xor-comm, xor-zero-l}
+use Rattle.general.proofs.Names.{xor-zero-r, getD, ltb-true, ltb-false, eqb-true, eqb-false}
 use lib.Pow.{shr-lt}
 use lib.Count.{ones, onesIn, ones-step}
-use borrow.Author.Tests.{ltb-true, ltb-false, eqb-true, eqb-false}
 use Rattle.information.specs.Information.{timesX, plusIfOdd, productFrom, gf16Mul, generatorTimes, remainder, wordOf, infoData, infoBits, wordAt, wordDistance, leastOf, nearestWord}
 use Rattle.information.specs.Inner.{differences}
-use Rattle.information.proofs.Xor.{xor-assoc, triangle}
-use Rattle.symbol.proofs.Finite.{upTo, every}
+use Rattle.general.proofs.Xor.{xor-assoc, triangle}
+use Rattle.general.proofs.Finite.{upTo, every}
 
 -- tests that antt computes: `generatorTimes` is linear and small, and 15 differences
 linear : T (upTo (λ n. eqb (generatorTimes (bitXor (n / 16) (n % 16))) (bitXor (generatorTimes (n / 16)) (generatorTimes (n % 16)))) 256)

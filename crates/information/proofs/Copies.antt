@@ -1,14 +1,7 @@
 -- What the functions on information modules need of numbers.
-use mathlib.Core.Path.{_≡_, refl, sym, ap, ap₂, subst, _∙_}
-use mathlib.Core.Bool.{Bool, true, false}
-use mathlib.Core.List.{List}
-use Prim.Native.Nat.{ℕ, zero, suc, _+_, _-_, _*_, _^_, _<_, _≤_}
-use native.Mathlib.Nat.{mul-le-mul, pow-suc}
-use native.Mathlib.Numerals.{add-one}
-use native.Mathlib.Omega.{arith}
-use lib.Dec.{lit<}
+use Rattle.general.proofs.Names.{_≡_, refl, sym, ap, ap₂, subst, _∙_, Bool, true, false, List, ℕ, zero, suc, _+_, _-_, _*_, _^_, _<_, _≤_, mul-le-mul}
+use Rattle.general.proofs.Names.{pow-suc, add-one, arith, lit<, set}
 use lib.Pow.{pow-mono}
-use lib.ListN.{set}
 use Rattle.information.specs.Information.{positionRow, positionColumn, infoPosition, copyWritten}
 use Rattle.information.specs.Inner.{ArmWritten, numberFrom, bitOf, stored, bitsWritten}
 use Rattle.information.proofs.Read.{copy-written}

@@ -1,12 +1,7 @@
 -- The 68 places are distinct, and lie inside.
-use mathlib.Core.Path.{_≡_, refl, sym, ap, subst, _∙_}
-use mathlib.Core.Bool.{Bool, true, false, cond}
-use Prim.Native.Nat.{ℕ, _+_, _-_, _*_, _/_, _%_, _<_, _≤_}
-use native.Mathlib.Nat.{mul-le-mul}
-use native.Mathlib.Omega.{arith}
+use Rattle.general.proofs.Names.{_≡_, refl, sym, ap, subst, _∙_, Bool, true, false, cond, ℕ, _+_, _-_, _*_, _/_, _%_, _<_, _≤_, mul-le-mul, arith, ltb}
+use Rattle.general.proofs.Names.{ltb-true, ltb-false}
 use lib.Arith.{digits-div, digits-mod, digits-lt}
-use lib.Dec.{ltb}
-use borrow.Author.Tests.{ltb-true, ltb-false}
 use Rattle.information.specs.Information.{positionRow, positionColumn, infoPosition}
 
 -- the arm that a place lies in

@@ -1,12 +1,6 @@
 -- At most 8 of the 68 information modules flipped: the nearest word is the one that was written.
-use mathlib.Core.Path.{_≡_, sym, ap, ap₂, _∙_}
-use mathlib.Core.Bool.{Bool, true, false, cond, not, _&&_}
-use mathlib.Core.List.{List, [], _∷_}
-use Prim.Native.Nat.{ℕ, zero, suc, _+_, _-_, _*_, _^_, _<_, _≤_}
-use native.Mathlib.Omega.{arith}
-use lib.Dec.{eqb}
-use lib.ListN.{length, getD, set}
-use lib.Bits.{bitXor}
+use Rattle.general.proofs.Names.{_≡_, sym, ap, ap₂, _∙_, Bool, true, false, cond, not, _&&_, List, [], _∷_, ℕ, zero, suc, _+_, _-_, _*_, _^_, _<_, _≤_}
+use Rattle.general.proofs.Names.{arith, eqb, length, getD, set, bitXor}
 use lib.Count.{ones}
 use Rattle.symbol.specs.Version.{sideOf}
 use Rattle.symbol.specs.Layout.{layoutOf}

@@ -1,11 +1,5 @@
 -- The 68 places are information modules of the layout.
-use mathlib.Core.Path.{_≡_, refl, sym, ap, _∙_}
-use mathlib.Core.Bool.{Bool, true, false, cond}
-use Prim.Native.Nat.{ℕ, _+_, _-_, _*_, _<_, _≤_}
-use native.Mathlib.Omega.{arith}
-use lib.Dec.{ltb}
-use lib.ListN.{getD}
-use borrow.Author.Tests.{lt-ltb, le-ltb, ltb-false}
+use Rattle.general.proofs.Names.{_≡_, refl, sym, ap, _∙_, Bool, true, false, cond, ℕ, _+_, _-_, _*_, _<_, _≤_, arith, ltb, getD, lt-ltb, le-ltb, ltb-false}
 use Rattle.symbol.specs.Version.{sideOf}
 use Rattle.symbol.specs.Layout.{edge, ring, cornerAt, layoutOf}
 use Rattle.symbol.proofs.Theorems.{corners-stay}

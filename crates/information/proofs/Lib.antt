@@ -1,5 +1,4 @@
 -- The files of laws, those that others rest on first.
-pub mod Xor
 pub mod Apart
 pub mod Products
 pub mod Distinct

@@ -1,15 +1,10 @@
 -- Laws of the gf16Mul in GF(16).
-use mathlib.Core.Path.{_≡_, refl, sym, ap, ap₂, subst, _∙_}
-use Prim.Native.Nat.{ℕ, suc, _+_, _-_, _*_, _/_, _<_, _≤_, _%_}
-use native.Mathlib.Numerals.{add-one}
+use Rattle.general.proofs.Names.{_≡_, refl, sym, ap, ap₂, subst, _∙_, ℕ, suc, _+_, _-_, _*_, _/_, _<_, _≤_, _%_, add-one, Bool, true, false, cond, arith}
+use Rattle.general.proofs.Names.{ltb→lt, ltb, bitXor}
 use Rattle.information.specs.Information.{leastOf, timesX, plusIfOdd, productFrom, generatorTimes, remainder}
 use Rattle.information.specs.Inner.{Found}
 use Rattle.information.specs.declared.Best.{Best}
-use mathlib.Core.Bool.{Bool, true, false, cond}
-use native.Mathlib.Omega.{arith}
-use lib.Dec.{ltb→lt, ltb}
-use lib.Bits.{bitXor}
-use Rattle.symbol.proofs.Finite.{every}
+use Rattle.general.proofs.Finite.{every}
 
 pub eight : (a : ℕ) → 16 ≤ 2 * a → a < 16 → bitXor (2 * a) 0x13 < 16
 eight a l h =

@@ -1,16 +1,8 @@
 -- A copy that was written is read; and the distance of two readings is the number of places that differ.
-use mathlib.Core.Path.{_≡_, refl, sym, ap, ap₂, _∙_}
-use mathlib.Core.Bool.{Bool, true, false, cond}
-use mathlib.Core.List.{List}
-use Prim.Native.Nat.{ℕ, zero, suc, _+_, _-_, _*_, _/_, _%_, _^_, _<_, _≤_}
-use native.Mathlib.Nat.{not-suc-le-zero, le-of-suc-le-suc}
-use native.Mathlib.Omega.{arith}
-use native.Mathlib.Decide.{ℕ-discrete}
-use lib.Dec.{eqb}
-use lib.Bits.{bitXor, differ, xor-step}
+use Rattle.general.proofs.Names.{_≡_, refl, sym, ap, ap₂, _∙_, Bool, true, false, cond, List, ℕ, zero, suc, _+_, _-_, _*_, _/_, _%_, _^_, _<_, _≤_}
+use Rattle.general.proofs.Names.{not-suc-le-zero, le-of-suc-le-suc, arith, ℕ-discrete, eqb, bitXor, differ, xor-step, length, getD, set, length-set}
+use Rattle.general.proofs.Names.{getD-set-same, getD-set-other}
 use lib.Count.{ones, ones-step}
-use lib.ListN.{length, getD, set, length-set}
-use lib.Seq.{getD-set-same, getD-set-other}
 use Rattle.bits.specs.Bits.{lowBits, value, storeAt}
 use Rattle.bits.proofs.Words.{low-back}
 use Rattle.symbol.specs.Layout.{each}

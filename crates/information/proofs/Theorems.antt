@@ -1,11 +1,6 @@
 -- What a customer may quote of the information words and modules.
-use mathlib.Core.Path.{_≡_}
-use mathlib.Core.Bool.{Bool, true, false}
-use mathlib.Core.List.{List}
-use Prim.Native.Nat.{ℕ, _*_, _^_, _<_, _≤_}
-use lib.Bits.{bitXor}
+use Rattle.general.proofs.Names.{_≡_, Bool, true, false, List, ℕ, _*_, _^_, _<_, _≤_, bitXor, length, getD}
 use lib.Count.{ones}
-use lib.ListN.{length, getD}
 use Rattle.symbol.specs.Version.{sideOf}
 use Rattle.symbol.specs.Layout.{layoutOf}
 use Rattle.information.specs.Information.{wordAt, wordDistance, nearestWord, infoPosition, copyOf, infoWritten, infoFlips}

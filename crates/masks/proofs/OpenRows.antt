@@ -1,13 +1,7 @@
 -- The masks of the rows of versions 1 to 3: a test that antt computes at all masks, rows and columns.
-use mathlib.Core.Path.{_≡_}
-use mathlib.Core.Bool.{Bool}
-use mathlib.Core.List.{List}
-use Prim.Native.Nat.{ℕ, _+_, _*_}
-use native.Mathlib.Omega.{arith}
-use lib.Dec.{T, eqb, eqb→eq}
-use lib.ListN.{length, getD}
+use Rattle.general.proofs.Names.{_≡_, Bool, List, ℕ, _+_, _*_, arith, T, eqb, eqb→eq, length, getD}
 use Rattle.bits.specs.Bits.{lowBits}
-use Rattle.symbol.proofs.Finite.{upTo, every}
+use Rattle.general.proofs.Finite.{upTo, every}
 use Rattle.codewords.specs.Codewords.{maskAt}
 use Rattle.masks.specs.Open.{OpenRows}
 

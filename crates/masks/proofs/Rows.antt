@@ -1,12 +1,7 @@
 -- Columns filled one by one, and a row.
-use mathlib.Core.Path.{_≡_, refl, ap, ap₂, _∙_, sym, subst}
-use mathlib.Core.Logic.{_≢_}
-use mathlib.Core.List.{List}
-use Prim.Native.Nat.{ℕ, zero, suc, _+_, _-_, _*_, _/_, _%_, _<_, _≤_}
-use native.Mathlib.Omega.{arith}
-use native.Mathlib.Decide.{decLt, ℕ-discrete}
-use lib.ListN.{length, getD, set, length-set, replicate, length-replicate, getD-replicate, List·getD-eq-default}
-use lib.Seq.{getD-set-same, getD-set-other}
+use Rattle.general.proofs.Names.{_≡_, refl, ap, ap₂, _∙_, sym, subst, _≢_, List, ℕ, zero, suc, _+_, _-_, _*_, _/_, _%_, _<_, _≤_, arith, decLt, ℕ-discrete}
+use Rattle.general.proofs.Names.{length, getD, set, length-set, replicate, length-replicate, getD-replicate, List·getD-eq-default, getD-set-same}
+use Rattle.general.proofs.Names.{getD-set-other}
 use Rattle.codewords.specs.Codewords.{maskAt}
 use Rattle.codewords.proofs.Masks.{mask-zero, mask-one, mask-two, mask-lt}
 use Rattle.masks.specs.Columns.{inverse, rest, Column, Columns, Row}

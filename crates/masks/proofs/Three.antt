@@ -1,14 +1,7 @@
 -- Mask 3 by products: one computed test of all rows and columns to 192.
-use mathlib.Core.Path.{_≡_, refl, ap₂, _∙_, subst}
-use mathlib.Core.Bool.{Bool}
-use mathlib.Core.List.{List}
-use Prim.Native.Nat.{ℕ, suc, _+_, _-_, _*_, _/_, _%_, _<_, _≤_}
-use native.Mathlib.Nat.{div-le-self, mul-le-mul-left}
-use native.Mathlib.Omega.{arith}
-use native.Mathlib.Decide.{decLt}
-use lib.Dec.{T, eqb, eqb→eq, ltb, ltb→lt}
-use lib.ListN.{getD}
-use Rattle.symbol.proofs.Finite.{upTo, every}
+use Rattle.general.proofs.Names.{_≡_, refl, ap₂, _∙_, subst, Bool, List, ℕ, suc, _+_, _-_, _*_, _/_, _%_, _<_, _≤_, div-le-self, mul-le-mul-left, arith}
+use Rattle.general.proofs.Names.{decLt, T, eqb, eqb→eq, ltb, ltb→lt, getD}
+use Rattle.general.proofs.Finite.{upTo, every}
 use Rattle.codewords.specs.Codewords.{maskAt}
 use Rattle.masks.specs.Columns.{inverse, rest, threeOf, Column}
 

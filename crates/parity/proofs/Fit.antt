@@ -1,10 +1,5 @@
 -- The refusal 5, and the block that is fit. Assumes nothing.
-use mathlib.Core.Path.{_≡_, ap, sym, _∙_}
-use mathlib.Core.Bool.{Bool, true, false, cond}
-use mathlib.Core.List.{List}
-use Prim.Native.Nat.{ℕ, _-_, _≤_}
-use native.Mathlib.Omega.{arith}
-use lib.ListN.{length}
+use Rattle.general.proofs.Names.{_≡_, ap, sym, _∙_, Bool, true, false, cond, List, ℕ, _-_, _≤_, arith, length}
 use Rattle.reed_solomon.specs.Block.{unfit}
 use Rattle.parity.specs.Encode.{Encoding, writtenOf, encodeOf}
 

@@ -1,16 +1,8 @@
 -- Data followed by bytes that make them a codeword: no other bytes do, the rest of the division does, and so it is the parity. Assumes
 -- nothing.
-use mathlib.Core.Path.{_≡_, refl, sym, ap, ap₂, _∙_, subst, fun-ext}
-use mathlib.Core.Bool.{Bool, true, false, cond}
-use mathlib.Core.Option.{some}
-use mathlib.Core.List.{List, [], _∷_, _++_}
-use Prim.Native.Nat.{ℕ, zero, suc, _+_, _-_, _≤_, _<_}
-use native.Mathlib.Omega.{arith}
-use native.Mathlib.Decide.{decLt}
-use borrow.Author.Tests.{eq-eqb}
-use lib.Dec.{eqb}
-use lib.ListN.{length, take, drop, replicate, length-append, length-drop, take-append-drop, List·getD-append, List·getD-eq-default}
-use lib.Seq.{ext-getD, getD-append-add, drop-append-seam, length-take-le, getD-take, getD-drop}
+use Rattle.general.proofs.Names.{_≡_, refl, sym, ap, ap₂, _∙_, subst, fun-ext, Bool, true, false, cond, some, List, [], _∷_, _++_, ℕ, zero, suc, _+_, _-_}
+use Rattle.general.proofs.Names.{_≤_, _<_, arith, decLt, eq-eqb, eqb, length, take, drop, replicate, length-append, length-drop, take-append-drop}
+use Rattle.general.proofs.Names.{List·getD-append, List·getD-eq-default, ext-getD, getD-append-add, drop-append-seam, length-take-le, getD-take, getD-drop}
 use Rattle.field.specs.Field.{power}
 use Rattle.field.specs.Table.{each}
 use Rattle.field.proofs.Field.{Passes}
@@ -18,7 +10,7 @@ use Rattle.field.proofs.Entries.{each-length, each-at}
 use Rattle.reed_solomon.specs.Sum.{seq, horner}
 use Rattle.reed_solomon.specs.Register.{stepped}
 use Rattle.reed_solomon.specs.Block.{distance, isCodeword, parityOf}
-use Rattle.reed_solomon.specs.Inner.{Each}
+use Rattle.general.specs.Each.{Each}
 use Rattle.reed_solomon.proofs.Search.{Bytes, Passing, passing-some}
 use Rattle.reed_solomon.proofs.Codeword.{eval-horner, zero-codeword, near-equal}
 use Rattle.reed_solomon.proofs.Massey.{zeros}

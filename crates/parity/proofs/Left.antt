@@ -1,14 +1,7 @@
 -- What is left of data by division, zeros taken off its end, follows them. Assumes nothing.
-use mathlib.Core.Path.{_≡_, refl, sym, ap, ap₂, _∙_}
-use mathlib.Core.Logic.{if-pos, if-neg}
-use mathlib.Core.List.{List, [], _∷_, _++_}
-use Prim.Native.Nat.{ℕ, suc, _+_, _-_, _*_, _%_, _≤_, _<_}
-use native.Mathlib.Omega.{arith}
-use native.Mathlib.Nat.{suc-mul}
-use native.Mathlib.Decide.{decLt}
-use lib.ListN.{length, take, drop, length-drop, take-append-drop, List·getD-eq-default}
-use lib.Seq.{ext-getD, getD-drop, getD-take, length-take-le}
-use lib.Bits.{bitXor, xor-zero-r, xor-zero-l}
+use Rattle.general.proofs.Names.{_≡_, refl, sym, ap, ap₂, _∙_, if-pos, if-neg, List, [], _∷_, _++_, ℕ, suc, _+_, _-_, _*_, _%_, _≤_, _<_, arith, suc-mul}
+use Rattle.general.proofs.Names.{decLt, length, take, drop, length-drop, take-append-drop, List·getD-eq-default, ext-getD, getD-drop, getD-take}
+use Rattle.general.proofs.Names.{length-take-le, bitXor, xor-zero-r, xor-zero-l}
 use Rattle.field.specs.Field.{power, mul}
 use Rattle.field.proofs.Field.{Passes, passes, mul-lt, mul-sum, mul-assoc, mul-power, mul-none, mul-comm, mul-one, power-pos, power-lt, sum-lt}
 use Rattle.field.proofs.Instances.{passes-163}
@@ -16,7 +9,7 @@ use Rattle.field.proofs.Entries.{mul-left-zero}
 use Rattle.field.proofs.Xor.{xor-assoc}
 use Rattle.reed_solomon.specs.Sum.{_⊕_, seq}
 use Rattle.reed_solomon.specs.Block.{evalFrom, eval}
-use Rattle.reed_solomon.specs.Inner.{Each}
+use Rattle.general.specs.Each.{Each}
 use Rattle.reed_solomon.proofs.Search.{Bytes}
 use Rattle.reed_solomon.proofs.Codeword.{zero-codeword}
 use Rattle.remainder.specs.declared.Register.{Register}

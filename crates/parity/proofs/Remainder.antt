@@ -1,13 +1,6 @@
 -- Polynomials as sequences: the generator, division by it, and the codeword that the rest makes. Assumes nothing.
-use mathlib.Core.Path.{_≡_, refl, sym, ap, ap₂, _∙_, subst, fun-ext}
-use mathlib.Core.List.{List}
-use mathlib.Core.Logic.{if-pos, if-neg}
-use Prim.Native.Nat.{ℕ, zero, suc, _+_, _-_, _%_, _≤_, _<_}
-use native.Mathlib.Omega.{arith}
-use native.Mathlib.Numerals.{add-one}
-use native.Mathlib.Nat.{add-zero, add-suc}
-use native.Mathlib.Decide.{ℕ-discrete, decLt}
-use lib.Bits.{xor-self, xor-zero-l, xor-zero-r}
+use Rattle.general.proofs.Names.{_≡_, refl, sym, ap, ap₂, _∙_, subst, fun-ext, List, if-pos, if-neg, ℕ, zero, suc, _+_, _-_, _%_, _≤_, _<_, arith, add-one}
+use Rattle.general.proofs.Names.{add-zero, add-suc, ℕ-discrete, decLt, xor-self, xor-zero-l, xor-zero-r}
 use Rattle.field.specs.Field.{power, mul}
 use Rattle.field.proofs.Xor.{xor-swap}
 use Rattle.field.proofs.Field.{Passes, mul-lt, mul-assoc, mul-one, sum-lt}
@@ -18,8 +11,9 @@ use Rattle.reed_solomon.specs.Register.{Tail, moved, stepped}
 use Rattle.reed_solomon.proofs.Sum.{mul-add}
 use Rattle.reed_solomon.proofs.Register.{moved-low, moved-high, stepped-low, stepped-high, stepped-tail}
 use Rattle.reed_solomon.proofs.Horner.{rooted, rooted-law, horner-ext}
-use Rattle.reed_solomon.specs.Inner.{Each, added}
-use Rattle.reed_solomon.proofs.Each.{each-same}
+use Rattle.reed_solomon.specs.Inner.{added}
+use Rattle.general.specs.Each.{Each}
+use Rattle.general.proofs.Each.{each-same}
 use Rattle.parity.specs.Inner.{Monic, Generator, Divided, copiedFrom}
 
 -- ---- arrays

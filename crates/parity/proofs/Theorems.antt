@@ -1,13 +1,6 @@
 -- What a customer may quote of the parity of data (SPECIFICATION 3.8). Each holds for any polynomial that passes the order test (3.2), any
 -- first root, and data of bytes with at most 255 places together with their parity. Assumes nothing.
-use mathlib.Core.Path.{_≡_, sym, ap, _∙_, subst}
-use mathlib.Core.Option.{some}
-use mathlib.Core.List.{List, _++_}
-use Prim.Native.Nat.{ℕ, _+_, _-_, _≤_}
-use native.Mathlib.Omega.{arith}
-use lib.Dec.{T}
-use lib.ListN.{length, length-append}
-use lib.Seq.{length-take-le, take-at}
+use Rattle.general.proofs.Names.{_≡_, sym, ap, _∙_, subst, some, List, _++_, ℕ, _+_, _-_, _≤_, arith, T, length, length-append, length-take-le, take-at}
 use Rattle.field.specs.Field.{orderTest}
 use Rattle.field.proofs.Field.{passes}
 use Rattle.reed_solomon.specs.Block.{isCodeword, parityOf}

@@ -4,7 +4,7 @@ ghost use Prim.Native.Nat.{_+_, _≤_, _<_};
 ghost use lib.ListN.{length};
 ghost use Rattle.field.specs.Table.{Field, polyOf};
 ghost use Rattle.reed_solomon.specs.Sum.{seq};
-ghost use Rattle.reed_solomon.specs.Inner.{Each};
+ghost use Rattle.general.specs.Each.{Each};
 ghost use Rattle.parity.specs.Inner.{Monic, Divided, copiedFrom, behindOf};
 use reed_solomon::locator;
 

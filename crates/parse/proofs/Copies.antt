@@ -1,11 +1,6 @@
 -- Bytes copied one after the other.
-use mathlib.Core.Path.{_≡_, _∙_, sym}
-use mathlib.Core.List.{List, _++_}
-use Prim.Native.Nat.{ℕ, suc, _+_, _<_}
-use native.Mathlib.Numerals.{add-one}
-use native.Mathlib.Omega.{arith}
-use lib.ListN.{length, getD, take, drop, set}
-use lib.Seq.{drop-cons, take-suc, set-at, append-snoc, length-take-le}
+use Rattle.general.proofs.Names.{_≡_, _∙_, sym, List, _++_, ℕ, suc, _+_, _<_, add-one, arith, length, getD, take, drop, set, drop-cons, take-suc, set-at}
+use Rattle.general.proofs.Names.{append-snoc, length-take-le}
 
 -- a turn of `copy`
 pub copy-more : (o s : List ℕ) (i : ℕ) → i < length o → i < length s → set (take i s ++ drop i o) i (getD s i 0) ≡ take (i + 1) s ++ drop (i + 1) o

@@ -1,14 +1,6 @@
 -- What each answer of `from_data` comes to.
-use mathlib.Core.Path.{_≡_, refl, sym, _∙_}
-use mathlib.Core.Bool.{true, false}
-use mathlib.Core.List.{List, _++_}
-use Prim.Native.Nat.{ℕ, _+_, _≤_, _<_}
-use native.Mathlib.Nat.{zero-add}
-use native.Mathlib.Omega.{arith}
-use borrow.Author.Tests.{eq-eqb, ne-eqb, lt-ltb, le-ltb}
-use lib.Dec.{ltb, eqb}
-use lib.ListN.{length, take, drop}
-use lib.Seq.{sets, sets-eq, take-append-seam}
+use Rattle.general.proofs.Names.{_≡_, refl, sym, _∙_, true, false, List, _++_, ℕ, _+_, _≤_, _<_, zero-add, arith, eq-eqb, ne-eqb, lt-ltb, le-ltb, ltb, eqb}
+use Rattle.general.proofs.Names.{length, take, drop, sets, sets-eq, take-append-seam}
 use Rattle.bits.proofs.Tests.{never}
 use Rattle.segments.specs.declared.Answer.the-variants.{Read, TooLong, Broken, Empty, PayloadFull, ScriptFull}
 use Rattle.segments.specs.declared.Count.{Count}

@@ -1,13 +1,8 @@
 -- Eight bytes as one number.
-use mathlib.Core.Path.{_≡_, refl, ap, ap₂, _∙_, sym}
-use mathlib.Core.List.{List, _∷_}
-use Prim.Native.Nat.{ℕ, zero, suc, _+_, _*_, _/_, _%_, _^_, _<_, _≤_}
-use native.Mathlib.Nat.{add-comm}
-use native.Mathlib.Omega.{arith}
+use Rattle.general.proofs.Names.{_≡_, refl, ap, ap₂, _∙_, sym, List, _∷_, ℕ, zero, suc, _+_, _*_, _/_, _%_, _^_, _<_, _≤_, add-comm, arith, bitXor}
+use Rattle.general.proofs.Names.{xor-block, getD}
 use lib.Arith.{digits-mod, digits-div}
-use lib.Bits.{bitXor, xor-block}
 use lib.Pow.{shr-shr}
-use lib.ListN.{getD}
 use Rattle.placement.specs.Walk.{fourOf, eightOf, byteOf, run, behind, bytesOf}
 
 four-lt : (a b c d : ℕ) → a < 256 → b < 256 → c < 256 → d < 256 → fourOf a b c d < 4294967296

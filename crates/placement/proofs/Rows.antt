@@ -1,14 +1,9 @@
 -- A square as its rows.
-use mathlib.Core.Path.{_≡_, refl, ap, ap₂, _∙_, sym, subst}
-use mathlib.Core.List.{List, [], _∷_, _++_, append-nil}
-use Prim.Native.Nat.{ℕ, zero, suc, _+_, _-_, _*_, _<_, _≤_}
-use native.Mathlib.Nat.{add-mul, one-mul, mul-le-mul-left}
-use native.Mathlib.Omega.{arith}
+use Rattle.general.proofs.Names.{_≡_, refl, ap, ap₂, _∙_, sym, subst, List, [], _∷_, _++_, append-nil, ℕ, zero, suc, _+_, _-_, _*_, _<_, _≤_, add-mul}
+use Rattle.general.proofs.Names.{one-mul, mul-le-mul-left, arith, length, getD, take, drop, length-append, length-drop, take-append-drop, drop-of-length-le}
+use Rattle.general.proofs.Names.{length-take-le, take-all, drop-drop, getD-drop, getD-take, bitXor}
 use lib.Arith.{digits-div, digits-mod}
-use lib.ListN.{length, getD, take, drop, length-append, length-drop, take-append-drop, drop-of-length-le}
 use lib.Pow.{pow-pos}
-use lib.Seq.{length-take-le, take-all, drop-drop, getD-drop, getD-take}
-use lib.Bits.{bitXor}
 use Rattle.bits.specs.Bits.{lowBits, firstWords, groups}
 use Rattle.bits.proofs.Words.{length-low}
 use Rattle.bits.proofs.Bytes.{take-small}

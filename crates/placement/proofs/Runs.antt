@@ -1,18 +1,10 @@
 -- Runs of modules of one sort.
-use mathlib.Core.Path.{_≡_, refl, ap, ap₂, _∙_, sym, subst}
-use mathlib.Core.Logic.{_≢_}
-use mathlib.Core.List.{List}
-use Prim.Native.Nat.{ℕ, zero, suc, _+_, _-_, _*_, _/_, _%_, _^_, _<_, _≤_, zero-le, suc-le-suc}
-use native.Mathlib.Nat.{mod-one, zero-div, zero-mod}
-use native.Mathlib.Numerals.{add-one}
-use native.Mathlib.Omega.{arith}
-use native.Mathlib.Decide.{decLt}
-use lib.Bits.{bitXor, bitAnd, bitOr, or-shr, and-shr, xor-shr, or-mod, and-mod, xor-mod, and-zero-r, xor-zero-r}
+use Rattle.general.proofs.Names.{_≡_, refl, ap, ap₂, _∙_, sym, subst, _≢_, List, ℕ, zero, suc, _+_, _-_, _*_, _/_, _%_, _^_, _<_, _≤_, zero-le, suc-le-suc}
+use Rattle.general.proofs.Names.{mod-one, zero-div, zero-mod, add-one, arith, decLt, bitXor, bitAnd, bitOr, or-shr, and-shr, xor-shr, or-mod, and-mod}
+use Rattle.general.proofs.Names.{xor-mod, and-zero-r, xor-zero-r, T, eqb, eqb→eq, length, getD, List·getD-eq-default}
 use lib.Count.{trailingZeros, under, trailing-le}
-use lib.Dec.{T, eqb, eqb→eq}
-use lib.ListN.{length, getD, List·getD-eq-default}
 use lib.Pow.{shr-shr, mod-pow-add, mod-mod-pow, field}
-use Rattle.symbol.proofs.Finite.{upTo, every}
+use Rattle.general.proofs.Finite.{upTo, every}
 use Rattle.bits.specs.Bits.{value}
 use Rattle.placement.specs.Walk.{eightOf, run, behind, unmaskedAt, Gathered, Pushed, Aligned, Skipped, Goes, Leads, NoData, Next, Moves}
 use Rattle.placement.specs.declared.Run.{Run}

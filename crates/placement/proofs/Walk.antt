@@ -1,18 +1,9 @@
 -- Bits behind bits, and the walk over a row.
-use mathlib.Core.Path.{_≡_, refl, ap, ap₂, _∙_, sym, subst}
-use mathlib.Core.Logic.{_≢_}
-use mathlib.Core.List.{List, [], _∷_, _++_, append-assoc}
-use Prim.Native.Nat.{ℕ, zero, suc, _+_, _-_, _*_, _/_, _%_, _^_, _<_, _≤_}
-use native.Mathlib.Nat.{mod-lt, mod-eq-of-lt, pow-le-pow-right}
-use native.Mathlib.Omega.{arith}
-use native.Mathlib.Numerals.{add-one}
-use native.Mathlib.Decide.{decLt}
-use lib.Dec.{lit<}
-use lib.ListN.{length, getD, take, drop, set, length-set, length-append}
+use Rattle.general.proofs.Names.{_≡_, refl, ap, ap₂, _∙_, sym, subst, _≢_, List, [], _∷_, _++_, append-assoc, ℕ, zero, suc, _+_, _-_, _*_, _/_, _%_, _^_}
+use Rattle.general.proofs.Names.{_<_, _≤_, mod-lt, mod-eq-of-lt, pow-le-pow-right, arith, add-one, decLt, lit<, length, getD, take, drop, set, length-set}
+use Rattle.general.proofs.Names.{length-append, take-at, drop-at, drop-cons, take-suc-set, bitXor, xor-lt}
 use lib.Arith.{digits-lt}
 use lib.Pow.{pow-pos, pow-add, shl-lt, shr-shr, split, high, low, field, mod-mod-pow}
-use lib.Seq.{take-at, drop-at, drop-cons, take-suc-set}
-use lib.Bits.{bitXor, xor-lt}
 use Rattle.bits.specs.Bits.{lowBits, value, firstWords, groups}
 use Rattle.bits.proofs.Words.{length-low, low-back}
 use Rattle.bits.proofs.Bytes.{value-add, value-small, low-value}

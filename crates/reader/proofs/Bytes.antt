@@ -1,18 +1,10 @@
 -- The greatest byte of a square says whether all are modules. Assumes nothing.
-use mathlib.Core.Path.{_≡_, refl, sym, ap, _∙_}
-use mathlib.Core.Logic.{inl, inr, _≢_}
-use mathlib.Core.Bool.{Bool, true, false}
-use mathlib.Core.List.{List, [], _∷_}
-use Prim.Native.Nat.{ℕ, _+_, _*_, _≤_, _<_}
-use native.Mathlib.Omega.{arith}
-use native.Mathlib.Decide.{ℕ-discrete, decLt}
-use borrow.Author.Tests.{eq-eqb, ne-eqb}
-use lib.Dec.{eqb}
-use lib.ListN.{length, getD, List·getD-eq-default}
-use Rattle.squares.specs.Read.{firstRefusal, unless, areModules}
+use Rattle.general.proofs.Names.{_≡_, refl, sym, ap, _∙_, inl, inr, _≢_, Bool, true, false, List, [], _∷_, ℕ, _+_, _*_, _≤_, _<_, arith, ℕ-discrete, decLt}
+use Rattle.general.proofs.Names.{eq-eqb, ne-eqb, eqb, length, getD, List·getD-eq-default}
+use Rattle.marks.specs.Read.{firstRefusal, unless, areModules}
 use Rattle.reader.specs.Inner.{Greater, Greatest}
-use Rattle.squares.proofs.Refusals.{unless-true, first-skips, first-takes}
-use Rattle.squares.proofs.Modules.{modules-below, below-modules}
+use Rattle.marks.proofs.Refusals.{unless-true, first-skips, first-takes}
+use Rattle.marks.proofs.Modules.{modules-below, below-modules}
 
 -- the greatest of the first n bytes
 pub record Greatest-to (sq : List ℕ) (n r : ℕ) : Type 0 where

@@ -1,14 +1,6 @@
 -- How a reading opens: the receipt, the first refusals, and what is read when they are passed. Assumes nothing.
-use mathlib.Core.Path.{_≡_, refl, sym, ap, subst, _∙_}
-use mathlib.Core.Logic.{_≢_}
-use mathlib.Core.Bool.{Bool, true, false, cond}
-use mathlib.Core.List.{List, [], _∷_}
-use Prim.Native.Nat.{ℕ, _*_, _≤_, _<_}
-use native.Mathlib.Omega.{arith}
-use native.Mathlib.Decide.{ℕ-discrete}
-use borrow.Author.Tests.{le-leb, lt-leb}
-use lib.Dec.{eqb, leb}
-use lib.ListN.{length, getD}
+use Rattle.general.proofs.Names.{_≡_, refl, sym, ap, subst, _∙_, _≢_, Bool, true, false, cond, List, [], _∷_, ℕ, _*_, _≤_, _<_, arith, ℕ-discrete, le-leb}
+use Rattle.general.proofs.Names.{lt-leb, eqb, leb, length, getD}
 use Rattle.symbol.specs.Version.{sideOf, isSide, sideVersion, sideRefusal, versionOf}
 use Rattle.symbol.specs.Version.{sideNumber as sideNumber}
 use Rattle.symbol.specs.declared.Version.{Version}
@@ -17,13 +9,13 @@ use Rattle.symbol.specs.declared.FromSide.the-variants as from-side
 use Rattle.information.specs.declared.NearestInfo.{NearestInfo}
 use Rattle.information.specs.declared.NearestInfo.the-variants.{Nearest, NoVersion}
 use Rattle.information.specs.Information.{isInfo, copyOf, NearestAnswer, nearestOf, nearestAnswer}
-use Rattle.blocks.specs.Blocks.{hasBlocks}
-use Rattle.squares.specs.Receipt.{refusalReceipt}
-use Rattle.squares.specs.Read.{Reading, readingOf, refused, firstRefusal, unless, areModules, distanceIn, readRefusal, knownRefusal, bodyOf, withReceipt, readOf, readKnownOf, nearestIn}
-use Rattle.squares.proofs.Refusals.{true-unless, unless-true, unless-false, first-skips, first-takes, first-left, first-none, eqb-fact}
-use Rattle.squares.proofs.Modules.{modules-below, nearest-bits}
-use Rattle.squares.proofs.Marks.{ranges, version-is}
-use Rattle.squares.proofs.Starts.{in-body, no-receipt, in-refusal, side-range, side-back, level-range, mask-range}
+use Rattle.block_table.specs.Blocks.{hasBlocks}
+use Rattle.marks.specs.Receipt.{refusalReceipt}
+use Rattle.marks.specs.Read.{Reading, readingOf, refused, firstRefusal, unless, areModules, distanceIn, readRefusal, knownRefusal, bodyOf, withReceipt, readOf, readKnownOf, nearestIn}
+use Rattle.marks.proofs.Refusals.{true-unless, unless-true, unless-false, first-skips, first-takes, first-left, first-none, eqb-fact}
+use Rattle.marks.proofs.Modules.{modules-below, nearest-bits}
+use Rattle.marks.proofs.Marks.{ranges, version-is}
+use Rattle.marks.proofs.Starts.{in-body, no-receipt, in-refusal, side-range, side-back, level-range, mask-range}
 use Rattle.receipts.specs.declared.Mark.{Mark}
 use Rattle.telling.specs.Inner.{Fitting, bodyOr1}
 use Rattle.reader.specs.Inner as near

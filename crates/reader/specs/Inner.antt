@@ -5,7 +5,7 @@ use mathlib.Core.List.{List}
 use Prim.Native.Nat.{ℕ, _*_, _<_, _≤_}
 use lib.ListN.{length, getD}
 use Rattle.symbol.specs.Version.{sideOf}
-use Rattle.squares.specs.Read.{levelIn, maskIn, distanceIn}
+use Rattle.marks.specs.Read.{levelIn, maskIn, distanceIn}
 use Rattle.receipts.specs.declared.Mark.{Mark}
 
 -- the greater of two

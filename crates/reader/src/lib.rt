@@ -5,7 +5,7 @@ ghost use Prim.Native.Nat.{ℕ, _*_, _<_, _≤_};
 ghost use lib.Dec.{eqb};
 ghost use lib.ListN.{length, getD};
 ghost use Rattle.symbol.specs.Version.{sideOf};
-ghost use Rattle.squares.specs.Read.{firstRefusal, unless, areModules, readingOf, readOf, readKnownOf};
+ghost use Rattle.marks.specs.Read.{firstRefusal, unless, areModules, readingOf, readOf, readKnownOf};
 ghost use Rattle.telling.specs.Inner.{Fitting, bodyOr1};
 ghost use Rattle.reader.specs.Inner.{Greater, Greatest, Nearest, Roomy};
 use information::NearestInfo;

@@ -1,13 +1,6 @@
 -- What is told of an answer, and of an outcome. Assumes nothing.
-use mathlib.Core.Path.{_≡_, sym, ap, subst, _∙_}
-use mathlib.Core.Logic.{inl, inr}
-use mathlib.Core.Bool.{Bool, true, false, cond}
-use mathlib.Core.List.{List, _++_}
-use Prim.Native.Nat.{ℕ, _+_, _-_, _≤_, _<_}
-use lib.Dec.{ltb, eqb}
-use lib.ListN.{length, take, drop, length-append, length-drop}
-use lib.Seq.{take-at}
-use native.Mathlib.Omega.{arith}
+use Rattle.general.proofs.Names.{_≡_, sym, ap, subst, _∙_, inl, inr, Bool, true, false, cond, List, _++_, ℕ, _+_, _-_, _≤_, _<_, ltb, eqb, length, take}
+use Rattle.general.proofs.Names.{drop, length-append, length-drop, take-at, arith}
 use Rattle.segments.specs.declared.Answer.{Answer}
 use Rattle.segments.specs.declared.Answer.the-variants.{Read}
 use Rattle.segments.specs.Script.{Segment, payloadOf, scriptOf}

@@ -1,14 +1,8 @@
 -- The receipt, byte by byte. Assumes nothing.
-use mathlib.Core.Path.{_≡_, sym, ap, _∙_}
-use mathlib.Core.Logic.{_≢_}
-use mathlib.Core.List.{List, [], _∷_}
-use Prim.Native.Nat.{ℕ, _/_, _%_, _≤_, _<_}
-use native.Mathlib.Omega.{arith}
-use borrow.Author.Tests.{eq-eqb, ne-eqb}
-use lib.ListN.{length, replicate}
-use lib.Seq.{ext-getD}
-use Rattle.reed_solomon.specs.Inner.{Each, copied}
-use Rattle.squares.specs.Receipt.{receiptOf, refusalReceipt}
+use Rattle.general.proofs.Names.{_≡_, sym, ap, _∙_, _≢_, List, [], _∷_, ℕ, _/_, _%_, _≤_, _<_, arith, eq-eqb, ne-eqb, length, replicate, ext-getD}
+use Rattle.reed_solomon.specs.Inner.{copied}
+use Rattle.general.specs.Each.{Each}
+use Rattle.marks.specs.Receipt.{receiptOf, refusalReceipt}
 use Rattle.receipts.specs.Inner.{receiptIn}
 use Rattle.receipts.specs.declared.Mark.{Mark}
 use Rattle.receipts.specs.declared.Told.{Told}

@@ -7,7 +7,7 @@ use Prim.Native.Nat.{ℕ, _<_}
 use lib.Dec.{eqb}
 use Rattle.segments.specs.declared.Answer.{Answer}
 use Rattle.segments.specs.FromData.{DataOutcome, dataOutcome}
-use Rattle.squares.specs.Receipt.{receiptOf, refusalReceipt}
+use Rattle.marks.specs.Receipt.{receiptOf, refusalReceipt}
 use Rattle.receipts.specs.declared.Mark.{Mark}
 use Rattle.receipts.specs.declared.Told.{Told}
 

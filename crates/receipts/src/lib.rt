@@ -2,10 +2,10 @@
 ghost use mathlib.Core.Path.{_≡_};
 ghost use Prim.Native.Nat.{_%_, _<_, _≤_};
 ghost use lib.ListN.{length};
-ghost use Rattle.blocks.specs.Blocks.{shapes, totalSize, totalData, cut, dataParts};
+ghost use Rattle.block_table.specs.Blocks.{shapes, totalSize, totalData, cut, dataParts};
 ghost use Rattle.segments.specs.FromData.{fromData};
 ghost use Rattle.receipts.specs.Inner.{receiptIn, Small, Refuses, Answers, Tells};
-ghost use Rattle.squares.specs.Receipt.{receiptOf, refusalReceipt};
+ghost use Rattle.marks.specs.Receipt.{receiptOf, refusalReceipt};
 use segments::Answer;
 
 // What a square is read with: its version, level and mask, and how far the information was from theirs.
@@ -141,7 +141,7 @@ fn tell_data(
     requires { ⌜ (length (now row) ≡ 9) × (totalSize (shapes (now row)) ≤ length (now stream)) × (totalData (shapes (now row)) ≤ length (now «data»)) × (totalData (shapes (now row)) ≤ 3886) × (count < 65536) ⌝ }
     ensures { λ r. ⌜ Tells count (fromData (dataParts (shapes (now (row .entry))) (cut (shapes (now (row .entry))) (now (stream .entry)))) (now (payload .entry)) (now (script .entry))) r (now (payload .exit)) (now (script .exit)) ⌝ }
 {
-    let n = blockwise::gather_data(data, stream, row);
+    let n = blocks::gather_data(data, stream, row);
     told_of(
         parse::from_data_with(&data[..n], payload, script, spare, stream),
         count,
@@ -160,7 +160,7 @@ pub fn tell_segments(
     requires { ⌜ (length (now row) ≡ 9) × (totalSize (shapes (now row)) ≤ length (now stream)) × (totalData (shapes (now row)) ≤ 3886) × (count < 65536) ⌝ }
     ensures { λ r. ⌜ Tells count (fromData (dataParts (shapes (now (row .entry))) (cut (shapes (now (row .entry))) (now (stream .entry)))) (now (payload .entry)) (now (script .entry))) r (now (payload .exit)) (now (script .exit)) ⌝ }
 {
-    if blockwise::data_length(row) <= 155 {
+    if blocks::data_length(row) <= 155 {
         let mut data = [0u8; 155];
         return tell_data(stream, &mut data, spare, row, count, payload, script);
     }

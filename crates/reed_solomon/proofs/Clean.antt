@@ -1,10 +1,5 @@
 -- Whether all syndromes are zero: one test, and what it says. Assumes nothing.
-use mathlib.Core.Path.{_≡_, refl, sym, subst}
-use mathlib.Core.Logic.{_≢_}
-use mathlib.Core.Bool.{Bool, true, false}
-use mathlib.Core.List.{List}
-use Prim.Native.Nat.{ℕ, _<_}
-use lib.Dec.{T, eqb, eqb→eq}
+use Rattle.general.proofs.Names.{_≡_, refl, sym, subst, _≢_, Bool, true, false, List, ℕ, _<_, T, eqb, eqb→eq}
 use Rattle.field.proofs.Field.{below-at}
 use Rattle.reed_solomon.specs.Sum.{seq}
 use Rattle.reed_solomon.specs.Inner.{isClean}

@@ -1,13 +1,6 @@
 -- A block's values are its syndromes, and two codewords differ in more places than they have parity. Assumes nothing.
-use mathlib.Core.Path.{_≡_, refl, sym, ap, ap₂, _∙_, subst}
-use mathlib.Core.Bool.{Bool, true, false, _&&_}
-use mathlib.Core.List.{List, [], _∷_, _++_}
-use Prim.Native.Nat.{ℕ, zero, suc, _+_, _%_, _≤_, _<_}
-use native.Mathlib.Omega.{arith}
-use lib.Dec.{T, eqb, eqb→eq}
-use lib.ListN.{length, getD, drop, drop-of-length-le}
-use lib.Seq.{drop-cons, ext-getD}
-use lib.Bits.{xor-self}
+use Rattle.general.proofs.Names.{_≡_, refl, sym, ap, ap₂, _∙_, subst, Bool, true, false, _&&_, List, [], _∷_, _++_, ℕ, zero, suc, _+_, _%_, _≤_, _<_, arith}
+use Rattle.general.proofs.Names.{T, eqb, eqb→eq, length, getD, drop, drop-of-length-le, drop-cons, ext-getD, xor-self}
 use Rattle.field.specs.Field.{power, mul, below}
 use Rattle.field.proofs.Field.{Passes, below-at, sum-lt}
 use Rattle.reed_solomon.specs.Sum.{_⊕_, seq, horner, syndrome}

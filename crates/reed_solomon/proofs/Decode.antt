@@ -1,13 +1,7 @@
 -- What the syndromes say of a codeword in reach: the locator's roots are the places of the errors, and the errors are the quotients that
 -- the code computes. Assumes nothing.
-use mathlib.Core.Path.{_≡_, refl, sym, ap, _∙_, subst}
-use mathlib.Core.Logic.{_≢_}
-use mathlib.Core.List.{List}
-use Prim.Native.Nat.{ℕ, suc, _+_, _-_, _*_, _%_, _≤_, _<_}
-use native.Mathlib.Omega.{arith}
-use native.Mathlib.Decide.{ℕ-discrete}
-use lib.ListN.{length}
-use lib.Bits.{xor-self, xor-zero-r}
+use Rattle.general.proofs.Names.{_≡_, refl, sym, ap, _∙_, subst, _≢_, List, ℕ, suc, _+_, _-_, _*_, _%_, _≤_, _<_, arith, ℕ-discrete, length, xor-self}
+use Rattle.general.proofs.Names.{xor-zero-r}
 use Rattle.field.specs.Field.{power, mul}
 use Rattle.field.proofs.Field.{Passes, mul-comm, mul-assoc, sum-lt}
 use Rattle.field.proofs.Field.{mul-sum as sum-mul}

@@ -1,16 +1,6 @@
 -- The number of places in which two blocks differ, and which places these are. Assumes nothing.
-use mathlib.Core.Path.{_≡_, refl, sym, ap, _∙_, subst}
-use mathlib.Core.Logic.{_≢_}
-use mathlib.Core.Bool.{Bool, true, false, cond}
-use mathlib.Core.List.{List, [], _∷_}
-use Prim.Native.Nat.{ℕ, zero, suc, _+_, _-_, _≤_, _<_, zero-le}
-use native.Mathlib.Omega.{arith}
-use native.Mathlib.Numerals.{add-one}
-use native.Mathlib.Nat.{add-zero}
-use native.Mathlib.Decide.{ℕ-discrete}
-use borrow.Author.Tests.{eq-eqb, ne-eqb}
-use lib.Dec.{T, eqb, eqb→eq, eqb-refl}
-use lib.ListN.{length, getD}
+use Rattle.general.proofs.Names.{_≡_, refl, sym, ap, _∙_, subst, _≢_, Bool, true, false, cond, List, [], _∷_, ℕ, zero, suc, _+_, _-_, _≤_, _<_, zero-le}
+use Rattle.general.proofs.Names.{arith, add-one, add-zero, ℕ-discrete, eq-eqb, ne-eqb, T, eqb, eqb→eq, eqb-refl, length, getD}
 use Rattle.field.proofs.Field.{Passes}
 use Rattle.reed_solomon.specs.Sum.{seq, horner, degree, locator}
 use Rattle.reed_solomon.proofs.Sum.{Null}

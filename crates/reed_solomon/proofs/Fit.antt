@@ -1,13 +1,5 @@
 -- Which lengths and parities a block has, test by test. Assumes nothing.
-use mathlib.Core.Path.{_≡_}
-use mathlib.Core.Logic.{_≢_}
-use mathlib.Core.Bool.{true, false}
-use mathlib.Core.List.{List}
-use Prim.Native.Nat.{ℕ, _≤_, _<_}
-use native.Mathlib.Omega.{arith}
-use native.Mathlib.Decide.{ℕ-discrete, decLt}
-use borrow.Author.Tests.{eq-eqb, ne-eqb, le-leb, lt-leb, le-ltb, lt-ltb}
-use lib.ListN.{length}
+use Rattle.general.proofs.Names.{_≡_, _≢_, true, false, List, ℕ, _≤_, _<_, arith, ℕ-discrete, decLt, eq-eqb, ne-eqb, le-leb, lt-leb, le-ltb, lt-ltb, length}
 use Rattle.reed_solomon.specs.Block.{unfit}
 
 module _ (parity : ℕ) (w : List ℕ) where

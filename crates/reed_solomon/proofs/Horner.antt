@@ -1,11 +1,7 @@
 -- Polynomials by Horner's rule, highest coefficient first: as sums, divided by x + a, how many roots they have, and what they make of the
 -- syndromes of a word. Assumes nothing.
-use mathlib.Core.Path.{_≡_, refl, sym, ap, ap₂, _∙_, subst}
-use mathlib.Core.List.{List, [], _∷_}
-use Prim.Native.Nat.{ℕ, zero, suc, _+_, _-_, _*_, _%_, _≤_, _<_}
-use native.Mathlib.Omega.{arith}
-use lib.ListN.{length}
-use lib.Bits.{xor-self, xor-zero-r}
+use Rattle.general.proofs.Names.{_≡_, refl, sym, ap, ap₂, _∙_, subst, List, [], _∷_, ℕ, zero, suc, _+_, _-_, _*_, _%_, _≤_, _<_, arith, length, xor-self}
+use Rattle.general.proofs.Names.{xor-zero-r}
 use Rattle.field.specs.Field.{raised, power, mul}
 use Rattle.field.proofs.Xor.{xor-assoc, xor-swap}
 use Rattle.field.proofs.Field.{Passes, mul-lt, mul-comm, mul-assoc, mul-one, mul-power, sum-lt}

@@ -4,7 +4,6 @@ pub mod Peel
 pub mod Register
 pub mod Horner
 pub mod LocatorLaws
-pub mod Each
 pub mod Fit
 pub mod Search
 pub mod Distance

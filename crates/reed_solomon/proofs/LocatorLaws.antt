@@ -1,12 +1,6 @@
 -- The polynomial with given places as its roots makes the syndromes of each word that is zero elsewhere. Assumes nothing.
-use mathlib.Core.Path.{_≡_, refl, ap, ap₂, _∙_}
-use mathlib.Core.Logic.{ite, if-pos, if-neg}
-use mathlib.Core.List.{List, [], _∷_}
-use Prim.Native.Nat.{ℕ, zero, suc, _-_, _%_, _≤_, _<_}
-use native.Mathlib.Omega.{arith}
-use native.Mathlib.Decide.{ℕ-discrete}
-use lib.ListN.{length}
-use lib.Bits.{xor-self}
+use Rattle.general.proofs.Names.{_≡_, refl, ap, ap₂, _∙_, ite, if-pos, if-neg, List, [], _∷_, ℕ, zero, suc, _-_, _%_, _≤_, _<_, arith, ℕ-discrete, length}
+use Rattle.general.proofs.Names.{xor-self}
 use Rattle.field.specs.Field.{mul}
 use Rattle.field.proofs.Field.{Passes, mul-lt}
 use Rattle.field.proofs.Entries.{mul-left-zero, mul-right-zero}

@@ -1,13 +1,6 @@
 -- The error at a root, as the code computes it. Assumes nothing.
-use mathlib.Core.Path.{_≡_, refl, sym, ap, ap₂, _∙_, subst, subst₃}
-use mathlib.Core.List.{List}
-use Prim.Native.Nat.{ℕ, suc, _+_, _-_, _*_, _/_, _%_, _≤_, _<_}
-use native.Mathlib.Omega.{arith}
-use native.Mathlib.Numerals.{add-one}
-use native.Mathlib.Nat.{mul-le-mul}
-use native.Mathlib.Decide.{ℕ-discrete}
-use lib.ListN.{length, set, length-set}
-use lib.Seq.{getD-set-same, getD-set-other}
+use Rattle.general.proofs.Names.{_≡_, refl, sym, ap, ap₂, _∙_, subst, subst₃, List, ℕ, suc, _+_, _-_, _*_, _/_, _%_, _≤_, _<_, arith, add-one, mul-le-mul}
+use Rattle.general.proofs.Names.{ℕ-discrete, length, set, length-set, getD-set-same, getD-set-other}
 use Rattle.field.specs.Field.{raised, power, mul}
 use Rattle.field.proofs.Field.{Passes, mul-lt, mul-assoc, mul-one, mul-power, power-period}
 use Rattle.reed_solomon.specs.Sum.{_⊕_, seq, sum, horner, degree}

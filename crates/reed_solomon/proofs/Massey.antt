@@ -1,21 +1,16 @@
 -- The steps of Berlekamp and Massey's algorithm on arrays. Assumes nothing.
-use mathlib.Core.Path.{_≡_, refl, sym, ap, _∙_, subst, subst₂, subst₃, fun-ext}
-use mathlib.Core.List.{List}
-use Prim.Native.Nat.{ℕ, suc, _+_, _-_, _≤_, _<_}
-use native.Mathlib.Omega.{arith}
-use native.Mathlib.Numerals.{add-one}
-use native.Mathlib.Decide.{ℕ-discrete, decLt}
-use lib.ListN.{length, set, replicate, length-set, length-replicate, getD-replicate, List·getD-eq-default}
-use lib.Seq.{getD-set-same, getD-set-other}
-use lib.Bits.{xor-zero-r}
+use Rattle.general.proofs.Names.{_≡_, refl, sym, ap, _∙_, subst, subst₂, subst₃, fun-ext, List, ℕ, suc, _+_, _-_, _≤_, _<_, arith, add-one, ℕ-discrete}
+use Rattle.general.proofs.Names.{decLt, length, set, replicate, length-set, length-replicate, getD-replicate, List·getD-eq-default, getD-set-same}
+use Rattle.general.proofs.Names.{getD-set-other, xor-zero-r}
 use Rattle.field.specs.Field.{mul}
 use Rattle.field.proofs.Field.{Passes, mul-lt, sum-lt}
 use Rattle.field.proofs.Entries.{mul-right-zero}
 use Rattle.reed_solomon.specs.Sum.{_⊕_, seq}
 use Rattle.reed_solomon.specs.Register.{discrepancy, Makes, Tail, moved, stepped, State}
 use Rattle.reed_solomon.proofs.Register.{moved-low, moved-high, stepped-low, stepped-tail, massey, kept, stayed, grown}
-use Rattle.reed_solomon.specs.Inner.{Each, added, copied, Register, Shortest}
-use Rattle.reed_solomon.proofs.Each.{each-same, each-next, Above, above-next, above-end}
+use Rattle.reed_solomon.specs.Inner.{added, copied, Register, Shortest}
+use Rattle.general.specs.Each.{Each}
+use Rattle.general.proofs.Each.{each-same, each-next, Above, above-next, above-end}
 
 -- f plus q times g moved up by m places: below m nothing is added
 module _ (poly q m : ℕ) (g : List ℕ) where

@@ -1,13 +1,6 @@
 -- The codeword in reach of a block, and the parity of data: what each search finds. Assumes nothing.
-use mathlib.Core.Path.{_≡_, sym, subst, _∙_}
-use mathlib.Core.Bool.{Bool, _&&_}
-use mathlib.Core.Option.{none, some}
-use mathlib.Core.List.{List}
-use Prim.Native.Nat.{ℕ, _+_, _/_, _≤_}
-use native.Mathlib.Omega.{arith}
-use native.Mathlib.Decide.{decLt}
-use lib.Dec.{T, leb, ltb, eqb, leb→le, le→leb, ltb→lt, lt→ltb, eqb→eq, eqb-refl}
-use lib.ListN.{length, getD, List·getD-eq-default}
+use Rattle.general.proofs.Names.{_≡_, sym, subst, _∙_, Bool, _&&_, none, some, List, ℕ, _+_, _/_, _≤_, arith, decLt, T, leb, ltb, eqb, leb→le, le→leb}
+use Rattle.general.proofs.Names.{ltb→lt, lt→ltb, eqb→eq, eqb-refl, length, getD, List·getD-eq-default}
 use Rattle.field.specs.Field.{below}
 use Rattle.field.proofs.Field.{Passes, T-and, below-at}
 use Rattle.reed_solomon.specs.Block.{isWord, isCodeword, distance, inReach, nearest}

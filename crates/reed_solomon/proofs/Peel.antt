@@ -1,14 +1,7 @@
 -- A word with no more places that are not zero than it has syndromes in a row that are is zero. Place by place: with c k not zero, each
 -- c i is multiplied by X i + X k, which makes a word without the place k whose syndromes are S (j + 1) + X k S j. Assumes nothing.
-use mathlib.Core.Path.{_≡_, sym, ap, ap₂, _∙_, subst}
-use mathlib.Core.Logic.{_≢_}
-use mathlib.Core.List.{List, [], _∷_}
-use Prim.Native.Nat.{ℕ, zero, suc, _+_, _-_, _*_, _%_, _≤_, _<_}
-use native.Mathlib.Omega.{arith}
-use native.Mathlib.Nat.{le-of-suc-le-suc, not-suc-le-zero}
-use native.Mathlib.Decide.{ℕ-discrete, decLt}
-use lib.ListN.{length}
-use lib.Bits.{xor-self}
+use Rattle.general.proofs.Names.{_≡_, sym, ap, ap₂, _∙_, subst, _≢_, List, [], _∷_, ℕ, zero, suc, _+_, _-_, _*_, _%_, _≤_, _<_, arith, le-of-suc-le-suc}
+use Rattle.general.proofs.Names.{not-suc-le-zero, ℕ-discrete, decLt, length, xor-self}
 use Rattle.field.specs.Field.{power, times, mul}
 use Rattle.field.proofs.Field.{Passes, power-lt, power-pos, power-inj, mul-lt, mul-comm, mul-assoc, mul-power, mul-none, sum-lt}
 use Rattle.field.proofs.Field.{mul-sum as sum-mul}

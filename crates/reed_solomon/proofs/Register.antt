@@ -1,10 +1,6 @@
 -- Massey's bound, and that one step of Berlekamp and Massey's algorithm makes one value more. Assumes nothing.
-use mathlib.Core.Path.{_≡_, sym, ap, ap₂, _∙_}
-use mathlib.Core.Logic.{if-pos, if-neg}
-use Prim.Native.Nat.{ℕ, suc, _+_, _-_, _%_, _≤_, _<_}
-use native.Mathlib.Omega.{arith}
-use native.Mathlib.Decide.{ℕ-discrete, decLt, decLe}
-use lib.Bits.{xor-self, xor-zero-r}
+use Rattle.general.proofs.Names.{_≡_, sym, ap, ap₂, _∙_, if-pos, if-neg, ℕ, suc, _+_, _-_, _%_, _≤_, _<_, arith, ℕ-discrete, decLt, decLe, xor-self}
+use Rattle.general.proofs.Names.{xor-zero-r}
 use Rattle.field.specs.Field.{mul}
 use Rattle.field.proofs.Field.{Passes, mul-assoc}
 use Rattle.field.proofs.Field.{mul-sum as sum-mul}

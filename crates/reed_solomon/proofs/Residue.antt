@@ -1,18 +1,14 @@
 -- Errors taken off the syndromes, and added to the block. Assumes nothing.
-use mathlib.Core.Path.{_≡_, sym, ap, ap₂, _∙_, subst}
-use mathlib.Core.List.{List}
-use Prim.Native.Nat.{ℕ, suc, _+_, _-_, _*_, _/_, _%_, _≤_, _<_}
-use native.Mathlib.Omega.{arith}
-use lib.ListN.{length, set}
-use lib.Bits.{xor-zero-r}
+use Rattle.general.proofs.Names.{_≡_, sym, ap, ap₂, _∙_, subst, List, ℕ, suc, _+_, _-_, _*_, _/_, _%_, _≤_, _<_, arith, length, set, xor-zero-r}
 use Rattle.field.specs.Field.{power, mul}
 use Rattle.field.proofs.Xor.{xor-assoc}
 use Rattle.field.proofs.Field.{Passes, mul-assoc, mul-power, power-period}
 use Rattle.field.proofs.Entries.{mul-left-zero}
 use Rattle.reed_solomon.specs.Sum.{_⊕_, seq, sum, degree}
 use Rattle.reed_solomon.proofs.Sum.{sum-next}
-use Rattle.reed_solomon.specs.Inner.{Each, without, withoutAll, repaired}
-use Rattle.reed_solomon.proofs.Each.{each-same, each-next}
+use Rattle.reed_solomon.specs.Inner.{without, withoutAll, repaired}
+use Rattle.general.specs.Each.{Each}
+use Rattle.general.proofs.Each.{each-same, each-next}
 
 module _ (poly : ℕ) (P : Passes poly) (first y d : ℕ) where
   -- no error

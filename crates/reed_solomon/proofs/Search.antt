@@ -1,14 +1,6 @@
 -- What a search over all words of a length finds. Assumes nothing.
-use mathlib.Core.Path.{_≡_, refl, ap, _∙_, sym, subst}
-use mathlib.Core.Logic.{_⊎_, inl, inr}
-use mathlib.Core.Bool.{Bool, true, false, cond}
-use mathlib.Core.Option.{Option, none, some}
-use mathlib.Core.List.{List, [], _∷_, _++_, map}
-use Prim.Native.Nat.{ℕ, zero, suc, _<_}
-use native.Mathlib.Omega.{arith}
-use native.Mathlib.Nat.{le-of-suc-le-suc, eq-or-lt-of-le}
-use lib.Dec.{T}
-use lib.ListN.{length, getD}
+use Rattle.general.proofs.Names.{_≡_, refl, ap, _∙_, sym, subst, _⊎_, inl, inr, Bool, true, false, cond, Option, none, some, List, [], _∷_, _++_, map, ℕ}
+use Rattle.general.proofs.Names.{zero, suc, _<_, arith, le-of-suc-le-suc, eq-or-lt-of-le, T, length, getD}
 use Rattle.reed_solomon.specs.Block.{led, allWords, firstThat}
 
 -- a list of bytes

@@ -1,12 +1,6 @@
 -- Laws of sums: of products with a constant, of two sums in either order, of sums with few terms that are not zero. Assumes nothing.
-use mathlib.Core.Path.{_≡_, refl, sym, ap, ap₂, _∙_}
-use mathlib.Core.Logic.{_≢_}
-use Prim.Native.Nat.{ℕ, zero, suc, _+_, _%_, _≤_, _<_}
-use native.Mathlib.Omega.{arith}
-use native.Mathlib.Numerals.{add-one}
-use native.Mathlib.Nat.{add-zero, add-suc}
-use native.Mathlib.Decide.{ℕ-discrete}
-use lib.Bits.{bitXor, xor-self, xor-zero-r, xor-mod}
+use Rattle.general.proofs.Names.{_≡_, refl, sym, ap, ap₂, _∙_, _≢_, ℕ, zero, suc, _+_, _%_, _≤_, _<_, arith, add-one, add-zero, add-suc, ℕ-discrete, bitXor}
+use Rattle.general.proofs.Names.{xor-self, xor-zero-r, xor-mod}
 use Rattle.field.specs.Field.{mul}
 use Rattle.field.proofs.Xor.{xor-assoc, xor-swap}
 use Rattle.field.proofs.Field.{Passes, mul-comm, mul-assoc}

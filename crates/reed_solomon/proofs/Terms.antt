@@ -1,17 +1,14 @@
 -- The terms of the locator from one place to the next: a step makes those of the next place of those of one, and their sum is the locator's
 -- value there. Assumes nothing.
-use mathlib.Core.Path.{_≡_, refl, sym, ap, ap₂, _∙_, subst}
-use mathlib.Core.List.{List}
-use Prim.Native.Nat.{ℕ, suc, _+_, _-_, _*_, _%_, _≤_, _<_}
-use native.Mathlib.Omega.{arith}
-use lib.ListN.{length, set}
+use Rattle.general.proofs.Names.{_≡_, refl, sym, ap, ap₂, _∙_, subst, List, ℕ, suc, _+_, _-_, _*_, _%_, _≤_, _<_, arith, length, set}
 use Rattle.field.specs.Field.{raised, power, mul}
 use Rattle.field.proofs.Field.{Passes, mul-assoc, mul-one, mul-power}
 use Rattle.reed_solomon.specs.Sum.{_⊕_, seq, sum, degree}
 use Rattle.reed_solomon.proofs.Sum.{sum-ext, sum-next}
 use Rattle.reed_solomon.proofs.Horner.{horner-sum, horner-lt}
-use Rattle.reed_solomon.specs.Inner.{Each, Reduced, shifted, carried, Sums, Terms, locatorAt, Located}
-use Rattle.reed_solomon.proofs.Each.{each-next}
+use Rattle.reed_solomon.specs.Inner.{Reduced, shifted, carried, Sums, Terms, locatorAt, Located}
+use Rattle.general.specs.Each.{Each}
+use Rattle.general.proofs.Each.{each-next}
 use Rattle.reed_solomon.proofs.Values.{reduced-power}
 use Rattle.reed_solomon.proofs.Search.{Bytes}
 

@@ -1,14 +1,6 @@
 -- What a customer may quote of blocks (SPECIFICATION 3.6). Each holds for any polynomial that passes the order test (3.2), any first root,
 -- and blocks of at most 255 bytes. Assumes nothing.
-use mathlib.Core.Path.{_≡_}
-use mathlib.Core.Logic.{_≢_}
-use mathlib.Core.List.{List}
-use mathlib.Core.Option.{some}
-use Prim.Native.Nat.{ℕ, _+_, _≤_}
-use native.Mathlib.Omega.{arith}
-use native.Mathlib.Decide.{decLe}
-use lib.Dec.{T}
-use lib.ListN.{length}
+use Rattle.general.proofs.Names.{_≡_, _≢_, List, some, ℕ, _+_, _≤_, arith, decLe, T, length}
 use Rattle.field.specs.Field.{orderTest}
 use Rattle.field.proofs.Field.{passes}
 use Rattle.reed_solomon.specs.Block.{isCodeword, distance, inReach, nearest}

@@ -1,20 +1,15 @@
 -- The syndromes of a block, byte by byte. Assumes nothing.
-use mathlib.Core.Path.{_≡_, refl, sym, ap, _∙_}
-use mathlib.Core.List.{List, [], _∷_, _++_}
-use mathlib.Core.Logic.{inl, inr}
-use Prim.Native.Nat.{ℕ, suc, _+_, _*_, _≤_, _<_}
-use native.Mathlib.Omega.{arith}
-use native.Mathlib.Decide.{decLt}
-use lib.ListN.{length, drop, drop-of-length-le}
-use lib.Seq.{drop-cons}
+use Rattle.general.proofs.Names.{_≡_, refl, sym, ap, _∙_, List, [], _∷_, _++_, inl, inr, ℕ, suc, _+_, _*_, _≤_, _<_, arith, decLt, length, drop}
+use Rattle.general.proofs.Names.{drop-of-length-le, drop-cons}
 use Rattle.field.specs.Field.{power, mul}
 use Rattle.field.proofs.Field.{Passes, mul-assoc, mul-power, power-period}
 use Rattle.field.proofs.Field.{mul-sum as sum-mul}
 use Rattle.field.proofs.Xor.{xor-assoc}
 use Rattle.reed_solomon.specs.Sum.{_⊕_, seq}
 use Rattle.reed_solomon.specs.Block.{evalFrom}
-use Rattle.reed_solomon.specs.Inner.{Each, advanced, stepped, Reduced, Syndromes}
-use Rattle.reed_solomon.proofs.Each.{each-same}
+use Rattle.reed_solomon.specs.Inner.{advanced, stepped, Reduced, Syndromes}
+use Rattle.general.specs.Each.{Each}
+use Rattle.general.proofs.Each.{each-same}
 use Rattle.reed_solomon.proofs.Search.{Bytes}
 use Rattle.reed_solomon.proofs.Horner.{horner-lt}
 use Rattle.reed_solomon.proofs.Codeword.{eval-append, eval-horner}

@@ -11,12 +11,6 @@ use Rattle.reed_solomon.specs.Sum.{_⊕_, seq, sum, horner, degree}
 use Rattle.reed_solomon.specs.Register.{Makes, moved, State}
 use Rattle.reed_solomon.specs.Block.{evalFrom, eval}
 
--- the first n of s, each replaced by F of its place and itself; the rest as it was
-pub record Each (F : ℕ → ℕ → ℕ) (n : ℕ) (s s′ : List ℕ) : Type 0 where
-  pub size : length s′ ≡ length s
-  pub done : (i : ℕ) → i < n → seq s′ i ≡ F i (seq s i)
-  pub rest : (i : ℕ) → n ≤ i → seq s′ i ≡ seq s i
-
 -- ---- syndromes
 
 -- a syndrome with more bytes of the block behind those so far

@@ -6,7 +6,8 @@ ghost use lib.ListN.{length, set};
 ghost use Rattle.field.specs.Field.{mul};
 ghost use Rattle.field.specs.Table.{Field, polyOf};
 ghost use Rattle.reed_solomon.specs.Sum.{_⊕_, seq};
-ghost use Rattle.reed_solomon.specs.Inner.{Each, Reduced, shifted, carried, Sums, Located, zerosOf, stepped, SteppedTwo, numerator, denominator, Magnitude, ErrorAt, Errors, without, withoutAll, repaired};
+ghost use Rattle.reed_solomon.specs.Inner.{Reduced, shifted, carried, Sums, Located, zerosOf, stepped, SteppedTwo, numerator, denominator, Magnitude, ErrorAt, Errors, without, withoutAll, repaired};
+ghost use Rattle.general.specs.Each.{Each};
 use crate::syndromes::Four;
 use crate::syndromes::reduced;
 

@@ -5,7 +5,8 @@ ghost use lib.ListN.{length};
 ghost use Rattle.field.specs.Table.{Field, polyOf};
 ghost use Rattle.reed_solomon.specs.Sum.{seq};
 ghost use Rattle.reed_solomon.specs.Register.{discrepancy};
-ghost use Rattle.reed_solomon.specs.Inner.{Each, added, copied, Register, Shortest};
+ghost use Rattle.reed_solomon.specs.Inner.{added, copied, Register, Shortest};
+ghost use Rattle.general.specs.Each.{Each};
 
 // By how much the register f of length l misses s at r.
 fn discrepancy(field: &[u16; 1280], s: &[u8], f: &[u8], l: usize, r: usize) -> u8

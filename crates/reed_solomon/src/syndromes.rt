@@ -4,7 +4,8 @@ ghost use mathlib.Core.List.{[], _∷_};
 ghost use Prim.Native.Nat.{ℕ, _+_, _≤_, _<_};
 ghost use lib.ListN.{length, getD, drop};
 ghost use Rattle.field.specs.Table.{Field, polyOf};
-ghost use Rattle.reed_solomon.specs.Inner.{Each, advanced, Reduced, Syndromes, isClean};
+ghost use Rattle.reed_solomon.specs.Inner.{advanced, Reduced, Syndromes, isClean};
+ghost use Rattle.general.specs.Each.{Each};
 
 // The next byte.
 fn advance(field: &[u16; 1280], first: usize, s: &mut [u8], parity: usize, byte: u8)

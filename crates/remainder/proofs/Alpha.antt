@@ -1,11 +1,6 @@
 -- Each byte of a word times α, in one go.
-use mathlib.Core.Path.{_≡_, refl, sym, ap, ap₂, _∙_}
-use Prim.Native.Nat.{ℕ, zero, suc, _+_, _-_, _*_, _/_, _%_, _≤_, _<_}
-use native.Mathlib.Omega.{arith}
-use borrow.Author.Tests.{lt-ltb, le-ltb}
-use native.Mathlib.Decide.{decLt}
-use native.Mathlib.Nat.{add-mul, mul-assoc, mul-comm, add-comm}
-use lib.Bits.{bitXor, bitAnd, xor-block, and-block, and-mask, and-zero-r, xor-zero-r, xor-self}
+use Rattle.general.proofs.Names.{_≡_, refl, sym, ap, ap₂, _∙_, ℕ, zero, suc, _+_, _-_, _*_, _/_, _%_, _≤_, _<_, arith, lt-ltb, le-ltb, decLt, add-mul}
+use Rattle.general.proofs.Names.{mul-assoc, mul-comm, add-comm, bitXor, bitAnd, xor-block, and-block, and-mask, and-zero-r, xor-zero-r, xor-self}
 use Rattle.field.specs.Field.{timesAlpha, raised, mul, power, log}
 use Rattle.field.proofs.Field as Field
 use Rattle.field.proofs.Field.{Passes, raised-zero, raised-add, power-log, mul-lt, mul-sum, mul-power}

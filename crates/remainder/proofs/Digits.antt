@@ -1,9 +1,6 @@
 -- Horner's rule over the bytes of numbers and registers: sums, moves, and what is zero.
-use mathlib.Core.Path.{_≡_, refl, sym, ap, ap₂, _∙_}
-use Prim.Native.Nat.{ℕ, zero, suc, _+_, _-_, _*_, _/_, _%_, _^_, _<_}
-use native.Mathlib.Omega.{arith}
-use native.Mathlib.Nat.{div-add-mod', mod-lt}
-use lib.Bits.{bitXor, xor-shr, xor-mod}
+use Rattle.general.proofs.Names.{_≡_, refl, sym, ap, ap₂, _∙_, ℕ, zero, suc, _+_, _-_, _*_, _/_, _%_, _^_, _<_, arith, div-add-mod', mod-lt, bitXor}
+use Rattle.general.proofs.Names.{xor-shr, xor-mod}
 use Rattle.field.specs.Field.{mul}
 use Rattle.field.proofs.Xor.{xor-swap}
 use Rattle.field.proofs.Field.{Passes, mul-sum}

@@ -1,17 +1,7 @@
 -- The rows of a table, filled digit by digit.
-use mathlib.Core.Path.{_≡_, refl, sym, ap, ap₂, _∙_}
-use mathlib.Core.Bool.{false, _||_}
-use mathlib.Core.List.{List}
-use Prim.Native.Nat.{ℕ, zero, suc, _+_, _-_, _*_, _%_, _^_, _≤_, _<_}
-use native.Mathlib.Omega.{arith}
-use borrow.Author.Tests.{lt-leb}
-use native.Mathlib.Decide.{decLt}
-use native.Mathlib.Nat.{add-zero}
-use native.Mathlib.Numerals.{add-one}
-use lib.Dec.{T, eqb, leb, eqb→eq}
-use lib.ListN.{length, getD}
+use Rattle.general.proofs.Names.{_≡_, refl, sym, ap, ap₂, _∙_, false, _||_, List, ℕ, zero, suc, _+_, _-_, _*_, _%_, _^_, _≤_, _<_, arith, lt-leb, decLt}
+use Rattle.general.proofs.Names.{add-zero, add-one, T, eqb, leb, eqb→eq, length, getD, bitXor, xor-block, xor-shifted, xor-comm}
 use lib.Pow.{pow-pos, pow-add}
-use lib.Bits.{bitXor, xor-block, xor-shifted, xor-comm}
 use Rattle.field.specs.Field.{below, timesAlpha}
 use Rattle.field.proofs.Field.{Passes, passes, below-at}
 use Rattle.field.proofs.Instances.{passes-163}

@@ -1,9 +1,5 @@
 -- Each generator of the table is zero at its roots: one computed test.
-use mathlib.Core.Path.{_≡_, refl, ap, _∙_}
-use Prim.Native.Nat.{ℕ, zero, suc, _+_, _-_, _*_, _/_, _%_, _≤_, _<_}
-use native.Mathlib.Omega.{arith}
-use lib.Dec.{T, eqb, eqb→eq}
-use lib.Bits.{bitXor}
+use Rattle.general.proofs.Names.{_≡_, refl, ap, _∙_, ℕ, zero, suc, _+_, _-_, _*_, _/_, _%_, _≤_, _<_, arith, T, eqb, eqb→eq, bitXor}
 use Rattle.field.specs.Field.{below, timesAlpha, raised, mul, power}
 use Rattle.field.proofs.Field.{Passes, passes, below-at, sum-lt, raised-lt}
 use Rattle.field.proofs.Entries.{mul-left-zero}

@@ -1,14 +1,7 @@
 -- The bytes of a register, and the syndromes of a block out of them.
-use mathlib.Core.Path.{_≡_, refl, sym, ap, ap₂, _∙_}
-use mathlib.Core.List.{List}
-use Prim.Native.Nat.{ℕ, zero, suc, _+_, _-_, _*_, _/_, _%_, _^_, _≤_, _<_}
-use native.Mathlib.Omega.{arith}
-use native.Mathlib.Decide.{decLt}
-use native.Mathlib.Nat.{add-zero, add-mul, suc-mul}
-use lib.ListN.{length, take, List·getD-eq-default}
+use Rattle.general.proofs.Names.{_≡_, refl, sym, ap, ap₂, _∙_, List, ℕ, zero, suc, _+_, _-_, _*_, _/_, _%_, _^_, _≤_, _<_, arith, decLt, add-zero, add-mul}
+use Rattle.general.proofs.Names.{suc-mul, length, take, List·getD-eq-default, length-take-le, getD-take, bitXor, xor-zero-l, xor-zero-r}
 use lib.Pow.{shr-shr}
-use lib.Seq.{length-take-le, getD-take}
-use lib.Bits.{bitXor, xor-zero-l, xor-zero-r}
 use Rattle.field.specs.Field.{raised, mul, power}
 use Rattle.field.proofs.Field.{Passes, passes, mul-assoc, mul-one, mul-power, power-period, mul-lt}
 use Rattle.field.proofs.Instances.{passes-163}
@@ -17,7 +10,8 @@ use Rattle.reed_solomon.specs.Sum.{_⊕_, seq, horner}
 use Rattle.reed_solomon.proofs.Sum.{add-zero-eq}
 use Rattle.reed_solomon.proofs.Horner.{horner-ext, horner-lt}
 use Rattle.reed_solomon.specs.Block.{eval}
-use Rattle.reed_solomon.specs.Inner.{Each, Syndromes}
+use Rattle.reed_solomon.specs.Inner.{Syndromes}
+use Rattle.general.specs.Each.{Each}
 use Rattle.reed_solomon.proofs.Codeword.{eval-horner}
 use Rattle.remainder.specs.declared.Register.{Register}
 use Rattle.remainder.specs.Words.{digits, behind, none, wordAt, byteAt, Kept, Remains, Leaves, Left, tabled}

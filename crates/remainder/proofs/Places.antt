@@ -1,12 +1,7 @@
 -- Registers field by field, words moved up, and a row set in a table.
-use mathlib.Core.Path.{_≡_, sym, ap, ap₂, _∙_}
-use mathlib.Core.List.{List}
-use Prim.Native.Nat.{ℕ, suc, _+_, _*_, _%_, _^_, _≤_, _<_}
-use native.Mathlib.Omega.{arith}
-use native.Mathlib.Nat.{add-zero, suc-mul, mul-le-mul-right, mod-lt}
+use Rattle.general.proofs.Names.{_≡_, sym, ap, ap₂, _∙_, List, ℕ, suc, _+_, _*_, _%_, _^_, _≤_, _<_, arith, add-zero, suc-mul, mul-le-mul-right, mod-lt}
+use Rattle.general.proofs.Names.{length, getD, set, length-set, getD-set-same, getD-set-other}
 use lib.Pow.{mod-pow-add, shl-shr, low, pow-pos, pow-add}
-use lib.ListN.{length, getD, set, length-set}
-use lib.Seq.{getD-set-same, getD-set-other}
 use Rattle.remainder.specs.declared.Register.{Register}
 use Rattle.remainder.specs.Words.{Put}
 

@@ -1,14 +1,7 @@
 -- A step of the division: four bytes leave the register, four come in, and the rows of those that left are added.
-use mathlib.Core.Path.{_≡_, refl, sym, ap, ap₂, _∙_}
-use mathlib.Core.List.{List, [], _∷_}
-use Prim.Native.Nat.{ℕ, zero, suc, _+_, _-_, _*_, _/_, _%_, _^_, _≤_, _<_}
-use native.Mathlib.Omega.{arith}
-use native.Mathlib.Nat.{mod-lt}
-use native.Mathlib.Numerals.{add-one}
-use lib.Dec.{T}
-use lib.ListN.{length, getD, take}
+use Rattle.general.proofs.Names.{_≡_, refl, sym, ap, ap₂, _∙_, List, [], _∷_, ℕ, zero, suc, _+_, _-_, _*_, _/_, _%_, _^_, _≤_, _<_, arith, mod-lt, add-one}
+use Rattle.general.proofs.Names.{T, length, getD, take, bitXor, xor-comm, xor-self, xor-zero-l, xor-zero-r, xor-shifted, xor-lt}
 use lib.Pow.{mod-pow-add, pow-pos}
-use lib.Bits.{bitXor, xor-comm, xor-self, xor-zero-l, xor-zero-r, xor-shifted, xor-lt}
 use Rattle.field.specs.Field.{mul, orderTest}
 use Rattle.field.proofs.Field.{Passes, passes}
 use Rattle.field.proofs.Instances.{passes-163}

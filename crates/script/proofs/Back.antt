@@ -1,14 +1,7 @@
 -- Segments that are written are read back, with zero bits behind them.
-use mathlib.Core.Path.{_≡_, refl, ap, _∙_}
-use mathlib.Core.Bool.{Bool, true, false, cond}
-use mathlib.Core.List.{List, [], _∷_, _++_, append-assoc, flatMap}
-use Prim.Native.Nat.{ℕ, zero, suc, _+_, _*_, _^_, _<_, _≤_}
-use native.Mathlib.Nat.{le-of-suc-le-suc}
-use native.Mathlib.Omega.{arith}
-use borrow.Author.Tests.{ne-eqb, lt-ltb, le-ltb, ltb-true}
-use lib.Dec.{ltb}
-use lib.ListN.{length, getD, drop, replicate, length-append}
-use lib.Seq.{take-at, drop-at}
+use Rattle.general.proofs.Names.{_≡_, refl, ap, _∙_, Bool, true, false, cond, List, [], _∷_, _++_, append-assoc, flatMap, ℕ, zero, suc, _+_, _*_, _^_, _<_}
+use Rattle.general.proofs.Names.{_≤_, le-of-suc-le-suc, arith, ne-eqb, lt-ltb, le-ltb, ltb-true, ltb, length, getD, drop, replicate, length-append, take-at}
+use Rattle.general.proofs.Names.{drop-at}
 use Rattle.bits.specs.Bits.{lowBits, value, words, wordBits}
 use Rattle.bits.proofs.Words.{length-low, low-back, length-words, words-back}
 use Rattle.segments.specs.Script.{Segment, run, eci}

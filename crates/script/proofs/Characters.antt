@@ -1,11 +1,6 @@
 -- Bytes and pairs that are written in text mode, the regions and the two-byte mode are read back.
-use mathlib.Core.Path.{_≡_, refl, _∙_}
-use mathlib.Core.Bool.{Bool, true, false, not, cond}
-use mathlib.Core.List.{List, [], _∷_, _++_}
-use Prim.Native.Nat.{ℕ, suc, _+_, _/_, _<_, _≤_}
-use native.Mathlib.Omega.{arith}
-use borrow.Author.Tests.{ne-eqb, lt-ltb}
-use lib.ListN.{length, getD}
+use Rattle.general.proofs.Names.{_≡_, refl, _∙_, Bool, true, false, not, cond, List, [], _∷_, _++_, ℕ, suc, _+_, _/_, _<_, _≤_, arith, ne-eqb, lt-ltb}
+use Rattle.general.proofs.Names.{length, getD}
 use Rattle.segments.specs.Segments.{got, before, charOf, textOf, highOf, lowOf, regionSize, regionOf, doubleByteOf, bytesRun}
 use Rattle.script.specs.Writer.{all, allPairs, codeOf, inSubset, inText, textWords, pairCode, inRegion, inRegions, regionWords, doubleCode, inDouble, doubleWords}
 use Rattle.script.specs.Lengths.{textSwitches, regionSwitches}

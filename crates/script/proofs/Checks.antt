@@ -1,15 +1,7 @@
 -- The check's steps: a command at a place of a script, and what it leaves of the answer.
-use mathlib.Core.Path.{_≡_, refl, ap, _∙_, subst, sym}
-use mathlib.Core.Bool.{Bool, true, false, cond, _&&_}
-use mathlib.Core.Option.{Option, none, some, bind}
-use mathlib.Core.List.{List, [], _∷_}
-use Prim.Native.Nat.{ℕ, zero, suc, _+_, _-_, _*_, _/_, _%_, _<_, _≤_}
-use native.Mathlib.Nat.{add-zero, zero-add, add-assoc}
-use native.Mathlib.Omega.{arith}
-use borrow.Author.Tests.{eq-eqb, ne-eqb, lt-ltb, le-ltb, lt-leb, le-leb, ltb-false, leb-true}
-use lib.Dec.{ltb, eqb, leb}
-use lib.ListN.{length, getD, take, drop, length-drop}
-use lib.Seq.{getD-drop, drop-drop, length-take-le}
+use Rattle.general.proofs.Names.{_≡_, refl, ap, _∙_, subst, sym, Bool, true, false, cond, _&&_, Option, none, some, bind, List, [], _∷_, ℕ, zero, suc, _+_}
+use Rattle.general.proofs.Names.{_-_, _*_, _/_, _%_, _<_, _≤_, add-zero, zero-add, add-assoc, arith, eq-eqb, ne-eqb, lt-ltb, le-ltb, lt-leb, le-leb}
+use Rattle.general.proofs.Names.{ltb-false, leb-true, ltb, eqb, leb, length, getD, take, drop, length-drop, getD-drop, drop-drop, length-take-le}
 use Rattle.bits.proofs.Tests.{never}
 use Rattle.segments.specs.Script.{Segment, run, eci, bytesOf, runCommand, commandOf}
 use Rattle.script.specs.declared.Command.{Command}

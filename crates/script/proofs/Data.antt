@@ -1,11 +1,6 @@
 -- The data bytes of segments: as many as asked for, and their bits are those of the segments with zeros behind.
-use mathlib.Core.Path.{_≡_, ap, _∙_, sym}
-use mathlib.Core.Bool.{Bool, true, false, cond}
-use mathlib.Core.List.{List, [], _∷_, _++_, flatMap}
-use Prim.Native.Nat.{ℕ, zero, suc, _-_, _*_, _/_, _%_, _^_, _<_, _≤_}
-use native.Mathlib.Omega.{arith}
-use lib.Dec.{eqb, ltb}
-use lib.ListN.{length, getD, replicate, length-append, length-replicate}
+use Rattle.general.proofs.Names.{_≡_, ap, _∙_, sym, Bool, true, false, cond, List, [], _∷_, _++_, flatMap, ℕ, zero, suc, _-_, _*_, _/_, _%_, _^_, _<_, _≤_}
+use Rattle.general.proofs.Names.{arith, eqb, ltb, length, getD, replicate, length-append, length-replicate}
 use Rattle.bits.specs.Bits.{lowBits, bitsOf, wordBits}
 use Rattle.bits.proofs.Reading.{length-bits}
 use Rattle.bits.proofs.Words.{length-low}

@@ -1,12 +1,6 @@
 -- Digits that are written in numeric mode are read back.
-use mathlib.Core.Path.{_≡_, refl, _∙_}
-use mathlib.Core.Bool.{true}
-use mathlib.Core.List.{List, [], _∷_, _++_, append-nil}
-use Prim.Native.Nat.{ℕ, _+_, _-_, _*_, _/_, _%_, _^_, _<_, _≤_}
-use native.Mathlib.Omega.{arith}
-use borrow.Author.Tests.{lt-ltb, le-ltb, ltb-true, leb-true}
-use lib.Dec.{ltb, leb}
-use lib.ListN.{length, getD}
+use Rattle.general.proofs.Names.{_≡_, refl, _∙_, true, List, [], _∷_, _++_, append-nil, ℕ, _+_, _-_, _*_, _/_, _%_, _^_, _<_, _≤_, arith, lt-ltb, le-ltb}
+use Rattle.general.proofs.Names.{ltb-true, leb-true, ltb, leb, length, getD}
 use Rattle.segments.specs.Segments.{got, before, digits, groupsOf, numericOf}
 use Rattle.script.specs.Writer.{all, isDigit, numericWords}
 use Rattle.script.proofs.Tests.{both, small-cons}

@@ -1,11 +1,5 @@
 -- The number of bits of segments is what the formulas of SPECIFICATION 9.4 say.
-use mathlib.Core.Path.{_≡_, refl, _∙_}
-use mathlib.Core.Bool.{Bool, true, false, cond}
-use mathlib.Core.List.{List, [], _∷_, flatMap}
-use Prim.Native.Nat.{ℕ, _+_}
-use native.Mathlib.Omega.{arith}
-use lib.Dec.{ltb, eqb}
-use lib.ListN.{length, length-append}
+use Rattle.general.proofs.Names.{_≡_, refl, _∙_, Bool, true, false, cond, List, [], _∷_, flatMap, ℕ, _+_, arith, ltb, eqb, length, length-append}
 use Rattle.bits.specs.Bits.{lowBits, wordBits}
 use Rattle.bits.proofs.Words.{length-low, length-words}
 use Rattle.segments.specs.Script.{Segment, run, eci}

@@ -1,15 +1,7 @@
 -- Runs of characters, word by word.
-use mathlib.Core.Path.{_≡_, refl, ap, _∙_, subst, sym}
-use mathlib.Core.Bool.{Bool, true, false, cond, not, _&&_}
-use mathlib.Core.List.{List, [], _∷_}
-use Prim.Native.Nat.{ℕ, zero, suc, _+_, _-_, _*_, _/_, _%_, _<_, _≤_}
-use native.Mathlib.Nat.{mul-le-mul, le-of-lt}
-use native.Mathlib.Numerals.{add-one}
-use native.Mathlib.Omega.{arith}
-use borrow.Author.Tests.{eq-eqb, ne-eqb, lt-ltb, le-ltb, lt-leb, le-leb, ltb-true, ltb-false}
-use lib.Dec.{eqb, ltb}
-use lib.ListN.{length, getD, drop, length-drop, drop-of-length-le}
-use lib.Seq.{drop-cons, drop-drop}
+use Rattle.general.proofs.Names.{_≡_, refl, ap, _∙_, subst, sym, Bool, true, false, cond, not, _&&_, List, [], _∷_, ℕ, zero, suc, _+_, _-_, _*_, _/_, _%_}
+use Rattle.general.proofs.Names.{_<_, _≤_, mul-le-mul, le-of-lt, add-one, arith, eq-eqb, ne-eqb, lt-ltb, le-ltb, lt-leb, le-leb, ltb-true, ltb-false, eqb}
+use Rattle.general.proofs.Names.{ltb, length, getD, drop, length-drop, drop-of-length-le, drop-cons, drop-drop}
 use Rattle.segments.specs.Segments.{fourBytes}
 use Rattle.script.specs.declared.Character.{Character}
 use Rattle.script.specs.declared.Character.the-variants.{Same, Other, Lacking}

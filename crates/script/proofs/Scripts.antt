@@ -1,14 +1,7 @@
 -- The segments that a script and its payload come to: their script and payload are these again, and each is as the check asks.
-use mathlib.Core.Path.{_≡_, refl}
-use mathlib.Core.Bool.{Bool, true, false, cond, _&&_}
-use mathlib.Core.Option.{Option, none, some, bind}
-use mathlib.Core.List.{List, [], _∷_, _++_, flatMap}
-use Prim.Native.Nat.{ℕ, zero, suc, _+_, _*_, _/_, _%_, _<_, _≤_}
-use native.Mathlib.Omega.{arith}
-use borrow.Author.Tests.{eqb-true, eqb-false, ltb-false, ltb-true, leb-true, eq-eqb, ne-eqb}
-use lib.Dec.{ltb, eqb, leb}
-use lib.ListN.{length, getD, take, drop, take-append-drop}
-use lib.Seq.{getD-drop, length-take-le}
+use Rattle.general.proofs.Names.{_≡_, refl, Bool, true, false, cond, _&&_, Option, none, some, bind, List, [], _∷_, _++_, flatMap, ℕ, zero, suc, _+_, _*_}
+use Rattle.general.proofs.Names.{_/_, _%_, _<_, _≤_, arith, eqb-true, eqb-false, ltb-false, ltb-true, leb-true, eq-eqb, ne-eqb, ltb, eqb, leb, length, getD}
+use Rattle.general.proofs.Names.{take, drop, take-append-drop, getD-drop, length-take-le}
 use Rattle.bits.proofs.Tests.{never}
 use Rattle.segments.specs.Script.{Segment, run, eci, bytesOf, runCommand, commandOf, payloadOf, scriptOf}
 use Rattle.script.specs.Check.{allowed, taking, segmentAt, commands}

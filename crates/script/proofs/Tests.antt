@@ -1,11 +1,6 @@
 -- What the writer's tests say.
-use mathlib.Core.Path.{_≡_, refl, sym, _∙_, subst}
-use mathlib.Core.Bool.{Bool, true, false, not, _&&_, _||_}
-use mathlib.Core.List.{List, [], _∷_}
-use Prim.Native.Nat.{ℕ, zero, suc, _<_}
-use borrow.Author.Tests.{ltb-true, eqb-true}
-use lib.Dec.{T, ltb, eqb}
-use lib.ListN.{getD}
+use Rattle.general.proofs.Names.{_≡_, refl, sym, _∙_, subst, Bool, true, false, not, _&&_, _||_, List, [], _∷_, ℕ, zero, suc, _<_, ltb-true, eqb-true, T}
+use Rattle.general.proofs.Names.{ltb, eqb, getD}
 use Rattle.segments.specs.Segments.{charOf, highOf, lowOf, regionSize, firstByte, secondByte}
 use Rattle.script.specs.Writer.{codeOf, inSubset, inText, pairCode, inRegion, inRegions, doubleCode, inDouble, same}
 

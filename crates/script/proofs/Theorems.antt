@@ -1,12 +1,6 @@
 -- What a customer can quote of scripts.
-use mathlib.Core.Path.{_≡_, refl, ap}
-use mathlib.Core.Bool.{Bool, true, false, cond}
-use mathlib.Core.List.{List, _++_}
-use Prim.Native.Nat.{ℕ, _+_, _-_, _*_, _<_, _≤_}
-use native.Mathlib.Omega.{arith}
-use borrow.Author.Tests.{ne-eqb, le-ltb, lt-leb, ltb-false}
-use lib.Dec.{ltb, leb}
-use lib.ListN.{length, getD, drop}
+use Rattle.general.proofs.Names.{_≡_, refl, ap, Bool, true, false, cond, List, _++_, ℕ, _+_, _-_, _*_, _<_, _≤_, arith, ne-eqb, le-ltb, lt-leb, ltb-false}
+use Rattle.general.proofs.Names.{ltb, leb, length, getD, drop}
 use Rattle.segments.specs.Script.{Segment}
 use Rattle.segments.specs.Segments.{segmentsOf}
 use Rattle.segments.specs.FromData.{fromData}

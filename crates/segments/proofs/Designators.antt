@@ -1,14 +1,7 @@
 -- What the bits of an ECI's prefix say of the rest.
-use mathlib.Core.Path.{_≡_, refl, ap, _∙_}
-use mathlib.Core.List.{List, [], _∷_}
-use Prim.Native.Nat.{ℕ, zero, suc, _+_, _*_, _<_, _≤_}
-use native.Mathlib.Nat.{lt-of-lt-of-le, add-assoc}
-use native.Mathlib.Numerals.{add-one}
-use native.Mathlib.Omega.{arith}
-use borrow.Author.Tests.{lt-ltb, le-ltb}
-use lib.ListN.{length, getD, drop, drop-of-length-le}
+use Rattle.general.proofs.Names.{_≡_, refl, ap, _∙_, List, [], _∷_, ℕ, zero, suc, _+_, _*_, _<_, _≤_, lt-of-lt-of-le, add-assoc, add-one, arith, lt-ltb}
+use Rattle.general.proofs.Names.{le-ltb, length, getD, drop, drop-of-length-le, drop-cons}
 use lib.Pow.{pow-mono}
-use lib.Seq.{drop-cons}
 use Rattle.bits.specs.Bits.{bitsOf}
 use Rattle.bits.proofs.Reading.{length-bits, length-left}
 use Rattle.bits.proofs.Words.{WordAt}

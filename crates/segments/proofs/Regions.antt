@@ -1,11 +1,5 @@
 -- What `same_region` leaves, case by case: the end of the segment, or a switch after which the other region goes on.
-use mathlib.Core.Path.{_≡_, subst, refl}
-use mathlib.Core.Bool.{Bool, not}
-use mathlib.Core.List.{List}
-use Prim.Native.Nat.{ℕ, _+_, _-_, _*_, _/_, _%_, _<_, _≤_}
-use native.Mathlib.Omega.{arith}
-use borrow.Author.Tests.{ne-eqb}
-use lib.ListN.{length}
+use Rattle.general.proofs.Names.{_≡_, subst, refl, Bool, not, List, ℕ, _+_, _-_, _*_, _/_, _%_, _<_, _≤_, arith, ne-eqb, length}
 use Rattle.segments.specs.declared.Region.{Region}
 use Rattle.segments.specs.declared.Region.the-variants.{End, Switch, Cut as RegionCut, Lacking as RegionLacking}
 use Rattle.segments.specs.declared.Count.{Count}

@@ -1,15 +1,7 @@
 -- How long payload and script can be: a segment gives at most 3 payload bytes for 10 bits, and a script byte for 3 bits.
-use mathlib.Core.Path.{_≡_, refl, ap}
-use mathlib.Core.Bool.{Bool, true, false, cond, not}
-use mathlib.Core.List.{List, [], _∷_, flatMap}
-use Prim.Native.Nat.{ℕ, zero, suc, _+_, _-_, _*_, _/_, _^_, _<_, _≤_}
-use native.Mathlib.Nat.{mul-suc, zero-add}
-use native.Mathlib.Omega.{arith}
-use borrow.Author.Tests.{ltb-false}
-use lib.Dec.{ltb, eqb}
-use lib.ListN.{length, getD, take, drop, length-append, length-drop}
+use Rattle.general.proofs.Names.{_≡_, refl, ap, Bool, true, false, cond, not, List, [], _∷_, flatMap, ℕ, zero, suc, _+_, _-_, _*_, _/_, _^_, _<_, _≤_}
+use Rattle.general.proofs.Names.{mul-suc, zero-add, arith, ltb-false, ltb, eqb, length, getD, take, drop, length-append, length-drop, getD-drop}
 use lib.Pow.{pow-pos}
-use lib.Seq.{getD-drop}
 use Rattle.bits.specs.Bits.{value, firstWords, words, groups}
 use Rattle.bits.proofs.Reading.{value-bound}
 use Rattle.segments.specs.Script.{Segment, run, eci, bytesOf, commandOf, payloadOf, scriptOf}

@@ -1,14 +1,6 @@
 -- One segment and all of them: what a step of the pass leaves of the definitions.
-use mathlib.Core.Path.{_≡_, refl, ap, _∙_, sym, subst}
-use mathlib.Core.Bool.{Bool, true, false, cond}
-use mathlib.Core.List.{List, [], _∷_, _++_, flatMap}
-use Prim.Native.Nat.{ℕ, zero, suc, _+_, _-_, _*_, _/_, _%_, _<_, _≤_}
-use native.Mathlib.Nat.{one-mul, add-zero}
-use native.Mathlib.Omega.{arith}
-use borrow.Author.Tests.{eq-eqb, ne-eqb, lt-ltb, le-ltb}
-use lib.Dec.{eqb}
-use lib.ListN.{length, drop, length-append}
-use lib.Seq.{sets, drop-drop}
+use Rattle.general.proofs.Names.{_≡_, refl, ap, _∙_, sym, subst, Bool, true, false, cond, List, [], _∷_, _++_, flatMap, ℕ, zero, suc, _+_, _-_, _*_, _/_}
+use Rattle.general.proofs.Names.{_%_, _<_, _≤_, one-mul, add-zero, arith, eq-eqb, ne-eqb, lt-ltb, le-ltb, eqb, length, drop, length-append, sets, drop-drop}
 use Rattle.bits.specs.Bits.{bitsOf}
 use Rattle.bits.proofs.Tests.{never}
 use Rattle.bits.proofs.Reading.{length-left}

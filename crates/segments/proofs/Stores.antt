@@ -1,10 +1,5 @@
 -- Bytes stored one after the other are a list stored at once.
-use mathlib.Core.Path.{_≡_, _∙_}
-use mathlib.Core.List.{List, [], _∷_}
-use Prim.Native.Nat.{ℕ, suc, _+_}
-use native.Mathlib.Omega.{arith}
-use lib.ListN.{set}
-use lib.Seq.{sets}
+use Rattle.general.proofs.Names.{_≡_, _∙_, List, [], _∷_, ℕ, suc, _+_, arith, set, sets}
 
 pub one-more : (o x y xs : List ℕ) (n m a : ℕ) → m ≡ n + 1 → x ≡ set o n a → y ≡ sets x m xs → y ≡ sets o n (a ∷ xs)
 one-more o x y xs n m a h p q = let e : n + 1 ≡ suc n = omega arith in q ∙ rw (p, h, e)

@@ -1,8 +1,5 @@
 -- What a customer can quote of Segments from data.
-use mathlib.Core.List.{List}
-use Prim.Native.Nat.{ℕ, _+_, _*_, _≤_}
-use native.Mathlib.Omega.{arith}
-use lib.ListN.{length}
+use Rattle.general.proofs.Names.{List, ℕ, _+_, _*_, _≤_, arith, length}
 use Rattle.bits.specs.Bits.{bitsOf}
 use Rattle.bits.proofs.Reading.{bit-lt, length-bits}
 use Rattle.segments.specs.Script.{payloadOf, scriptOf}

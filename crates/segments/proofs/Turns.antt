@@ -1,13 +1,6 @@
 -- What a word that was read does to the state of a mode: one law for each way that a turn of a mode's function goes.
-use mathlib.Core.Path.{_≡_, refl, ap, _∙_}
-use mathlib.Core.Bool.{Bool, not}
-use mathlib.Core.List.{List, [], _∷_, _++_}
-use Prim.Native.Nat.{ℕ, zero, suc, _+_, _-_, _*_, _/_, _%_, _^_, _<_, _≤_}
-use native.Mathlib.Nat.{add-zero, mul-suc, one-mul, mul-one}
-use native.Mathlib.Omega.{arith}
-use borrow.Author.Tests.{eq-eqb, ne-eqb, lt-ltb, le-ltb}
-use lib.ListN.{length, drop, set, length-append}
-use lib.Seq.{sets, drop-drop}
+use Rattle.general.proofs.Names.{_≡_, refl, ap, _∙_, Bool, not, List, [], _∷_, _++_, ℕ, zero, suc, _+_, _-_, _*_, _/_, _%_, _^_, _<_, _≤_, add-zero}
+use Rattle.general.proofs.Names.{mul-suc, one-mul, mul-one, arith, eq-eqb, ne-eqb, lt-ltb, le-ltb, length, drop, set, length-append, sets, drop-drop}
 use Rattle.bits.specs.declared.Word.{Word}
 use Rattle.bits.specs.declared.Word.the-variants.{Value, Cut as WordCut}
 use Rattle.bits.specs.Bits.{bitsOf, readBits, words}

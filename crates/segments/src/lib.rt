@@ -2,17 +2,27 @@
 //
 // What does not fit a lent buffer is counted and not stored. So a pass over spare buffers writes nothing that a refusal would have to undo,
 // and the same functions serve the second pass, where the spare buffers were too short.
-use bits::Word;
 ghost use mathlib.Core.Path.{_≡_};
 ghost use mathlib.Core.Bool.{true, false};
 ghost use mathlib.Core.List.{[], _∷_};
-ghost use Prim.Native.Nat.{_+_, _*_, _^_, _<_, _≤_};
+ghost use Prim.Native.Nat.{_+_, _*_, _<_, _≤_};
 ghost use lib.ListN.{length, drop, set};
 ghost use lib.Seq.{sets};
 ghost use Rattle.bits.specs.Bits.{bitsOf};
 ghost use Rattle.segments.specs.Script.{commandOf, runCommand, eci};
-ghost use Rattle.segments.specs.Segments.{digits, charOf, highOf, lowOf, regionSize, firstByte, secondByte, fourBytes, eciOf, eciValue, segmentOf};
-ghost use Rattle.segments.specs.Positions.{countOf, Left, Inside, RegionLeft, EciLeft, Stepped, numericAt, textAt, bytesRunAt, bytesAt, regionAt, doubleByteAt, fourByteAt, runAt};
+ghost use Rattle.segments.specs.Segments.{highOf, lowOf, regionSize, segmentOf};
+ghost use Rattle.segments.specs.Positions.{countOf, Left, Inside, RegionLeft, Stepped, bytesRunAt, bytesAt, regionAt, runAt};
+use crate::eci::eci_value;
+use crate::gb18030::double_byte;
+use crate::gb18030::four_byte;
+use crate::numeric::numeric;
+use crate::text::text_mode;
+use bits::Word;
+
+pub mod eci;
+pub mod gb18030;
+pub mod numeric;
+pub mod text;
 
 // The modes of segments. Mode 0 ends the data.
 pub const NUMERIC: usize = 1;
@@ -58,147 +68,6 @@ fn put_pair(out: &mut [u8], n: usize, a: usize, b: usize)
 {
     put(out, n, a);
     put(out, n + 1, b);
-}
-
-fn power_of_ten(k: usize) -> usize
-    requires { ⌜ k < 4 ⌝ }
-    ensures { λ r. ⌜ (r ≡ 10 ^ k) × (0 < r) ⌝ }
-{
-    if k == 0 {
-        return 1;
-    }
-    if k == 1 {
-        return 10;
-    }
-    if k == 2 {
-        return 100;
-    }
-    1000
-}
-
-// Stores the k low digits of a number.
-fn push_digits(out: &mut [u8], n: usize, v: usize, k: usize)
-    requires { ⌜ (k < 4) × (n < 65536) ⌝ }
-    ensures { λ _. ⌜ now (out .exit) ≡ sets (now (out .entry)) n (digits k v) ⌝ }
-{
-    let mut i: usize = 0;
-    while i < k {
-        let d = v / power_of_ten(k - 1 - i) % 10;
-        put(out, n + i, 48 + d);
-        i += 1;
-    }
-}
-
-// Numeric mode: three digits in 10 bits, ended by 1020 + the number of the last group's digits.
-fn numeric(s: &[u8], from: usize, out: &mut [u8], to: usize) -> Count
-    requires { ⌜ (length (now s) ≤ 4096) × (from ≤ 8 * length (now s)) × (to ≤ from) ⌝ }
-    ensures { λ r. ⌜ Left (numericAt (now (s .entry)) from to (now (out .entry))) r (now (out .exit)) ⌝ }
-    ensures { λ r. ⌜ Inside (now (s .entry)) from to r ⌝ }
-{
-    let start = bits::read_bits(s, from, 10);
-    let Word::Value(first) = start else {
-        return Count::Cut;
-    };
-    if 1000 <= first {
-        return Count::Lacking;
-    }
-    let mut at = from + 10;
-    let mut n = to;
-    let mut p = first;
-    loop {
-        let got = bits::read_bits(s, at, 10);
-        let Word::Value(w) = got else {
-            return Count::Cut;
-        };
-        at += 10;
-        if 1000 <= w {
-            if w <= 1020 {
-                return Count::Lacking;
-            }
-            let k = w - 1020;
-            if power_of_ten(k) <= p {
-                return Count::Lacking;
-            }
-            push_digits(out, n, p, k);
-            return Count::Done(at, n + k);
-        }
-        push_digits(out, n, p, 3);
-        n += 3;
-        p = w;
-    }
-}
-
-// What is added to a 6-bit value for its byte in the first subset of the text mode. The answers are constants, so that the compiler picks
-// one without a jump, which in text would often be guessed wrong.
-fn first_offset(w: usize) -> usize
-    requires { ⌜ w < 62 ⌝ }
-    ensures { λ r. ⌜ (r < 128) × (w + r ≡ charOf true w) ⌝ }
-{
-    if w < 10 {
-        return 48;
-    }
-    if w < 36 {
-        return 55;
-    }
-    61
-}
-
-// The same in the second subset.
-fn second_offset(w: usize) -> usize
-    requires { ⌜ w < 62 ⌝ }
-    ensures { λ r. ⌜ (r < 128) × (w + r ≡ charOf false w) ⌝ }
-{
-    if w < 28 {
-        return 0;
-    }
-    if w < 44 {
-        return 4;
-    }
-    if w < 51 {
-        return 14;
-    }
-    if w < 57 {
-        return 40;
-    }
-    66
-}
-
-// The byte of a 6-bit value in a subset of the text mode.
-pub fn text_char(first: bool, w: usize) -> usize
-    requires { ⌜ w < 62 ⌝ }
-    ensures { λ r. ⌜ (r < 256) × (r ≡ charOf first w) ⌝ }
-{
-    if first {
-        return w + first_offset(w);
-    }
-    w + second_offset(w)
-}
-
-// Text mode: two subsets of 6-bit values, switched by 62 and ended by 63. Each segment starts in the first.
-fn text_mode(s: &[u8], from: usize, out: &mut [u8], to: usize) -> Count
-    requires { ⌜ (length (now s) ≤ 4096) × (from ≤ 8 * length (now s)) × (to ≤ from) ⌝ }
-    ensures { λ r. ⌜ Left (textAt (now (s .entry)) from to (now (out .entry)) true) r (now (out .exit)) ⌝ }
-    ensures { λ r. ⌜ Inside (now (s .entry)) from to r ⌝ }
-{
-    let mut first = true;
-    let mut at = from;
-    let mut n = to;
-    loop {
-        let got = bits::read_bits(s, at, 6);
-        let Word::Value(w) = got else {
-            return Count::Cut;
-        };
-        at += 6;
-        if w == 63 {
-            return Count::Done(at, n);
-        }
-        if w == 62 {
-            first = !first;
-        } else {
-            put(out, n, text_char(first, w));
-            n += 1;
-        }
-    }
 }
 
 // The k bytes of a bytes segment.
@@ -354,114 +223,6 @@ fn region_count(r: usize) -> Count
         return Count::Lacking;
     }
     Count::Done((r - 2) / 65536, (r - 2) % 65536)
-}
-
-// The two bytes of a 15-bit value.
-pub fn first_byte(w: usize) -> usize
-    requires { ⌜ w < 23940 ⌝ }
-    ensures { λ r. ⌜ (r < 256) × (r ≡ firstByte w) ⌝ }
-{
-    0x81 + w / 190
-}
-
-pub fn second_byte(w: usize) -> usize
-    ensures { λ r. ⌜ (r < 256) × (r ≡ secondByte w) ⌝ }
-{
-    let rest = w % 190;
-    if rest < 63 {
-        return 0x40 + rest;
-    }
-    0x41 + rest
-}
-
-// Two-byte mode: 15 bits a character, ended by 32767.
-fn double_byte(s: &[u8], from: usize, out: &mut [u8], to: usize) -> Count
-    requires { ⌜ (length (now s) ≤ 4096) × (from ≤ 8 * length (now s)) × (to ≤ from) ⌝ }
-    ensures { λ r. ⌜ Left (doubleByteAt (now (s .entry)) from to (now (out .entry))) r (now (out .exit)) ⌝ }
-    ensures { λ r. ⌜ Inside (now (s .entry)) from to r ⌝ }
-{
-    let mut at = from;
-    let mut n = to;
-    loop {
-        let got = bits::read_bits(s, at, 15);
-        let Word::Value(w) = got else {
-            return Count::Cut;
-        };
-        at += 15;
-        if w == 32767 {
-            return Count::Done(at, n);
-        }
-        if 23940 <= w {
-            return Count::Lacking;
-        }
-        put_pair(out, n, first_byte(w), second_byte(w));
-        n += 2;
-    }
-}
-
-// Stores the four bytes of a 21-bit value.
-fn put_four(out: &mut [u8], n: usize, w: usize)
-    requires { ⌜ (n < 65532) × (w < 1587600) ⌝ }
-    ensures { λ _. ⌜ now (out .exit) ≡ sets (now (out .entry)) n (fourBytes w) ⌝ }
-{
-    put_pair(out, n, 0x81 + w / 12600, 0x30 + w % 12600 / 1260);
-    put_pair(out, n + 2, 0x81 + w % 1260 / 10, 0x30 + w % 10);
-}
-
-// Four-byte mode: one character in 21 bits.
-fn four_byte(s: &[u8], from: usize, out: &mut [u8], to: usize) -> Count
-    requires { ⌜ (length (now s) ≤ 4096) × (from ≤ 8 * length (now s)) × (to ≤ from) ⌝ }
-    ensures { λ r. ⌜ Left (fourByteAt (now (s .entry)) from to (now (out .entry))) r (now (out .exit)) ⌝ }
-    ensures { λ r. ⌜ Inside (now (s .entry)) from to r ⌝ }
-{
-    let got = bits::read_bits(s, from, 21);
-    let Word::Value(w) = got else {
-        return Count::Cut;
-    };
-    if 1587600 <= w {
-        return Count::Lacking;
-    }
-    put_four(out, to, w);
-    Count::Done(from + 21, to + 4)
-}
-
-// The value in the w bits behind an ECI's prefix of k bits.
-fn eci_field(s: &[u8], from: usize, k: usize, w: usize) -> Count
-    requires { ⌜ (length (now s) ≤ 4096) × (from + k ≤ 8 * length (now s)) × (0 < w) × (w ≤ 21) ⌝ }
-    ensures { λ r. ⌜ EciLeft (now (s .entry)) from (eciValue k w (drop (from + k) (bitsOf (now (s .entry))))) r ⌝ }
-{
-    let got = bits::read_bits(s, from + k, w);
-    let Word::Value(v) = got else {
-        return Count::Cut;
-    };
-    Count::Done(from + k + w, v)
-}
-
-// ECI: prefix 0, 10 or 110 and 7, 14 or 21 bits.
-fn eci_value(s: &[u8], from: usize) -> Count
-    requires { ⌜ (length (now s) ≤ 4096) × (from ≤ 8 * length (now s)) ⌝ }
-    ensures { λ r. ⌜ EciLeft (now (s .entry)) from (eciOf (drop from (bitsOf (now (s .entry))))) r ⌝ }
-{
-    let all = s.len() * 8;
-    if all <= from {
-        return Count::Cut;
-    }
-    if bits::bit(s, from) == 0 {
-        return eci_field(s, from, 1, 7);
-    }
-    if all <= from + 1 {
-        return Count::Cut;
-    }
-    if bits::bit(s, from + 1) == 0 {
-        return eci_field(s, from, 2, 14);
-    }
-    if all <= from + 2 {
-        return Count::Cut;
-    }
-    if bits::bit(s, from + 2) == 0 {
-        return eci_field(s, from, 3, 21);
-    }
-    Count::Lacking
 }
 
 // A segment of modes 1 to 7.

@@ -1,13 +1,6 @@
 -- Rows of at most 27 modules, whose mask is a number of 27 bits.
-use mathlib.Core.Path.{_≡_, refl, ap, ap₂, _∙_, sym}
-use mathlib.Core.List.{List, [], _∷_}
-use Prim.Native.Nat.{ℕ, zero, suc, _+_, _-_, _*_, _/_, _%_, _^_, _<_, _≤_}
-use native.Mathlib.Nat.{mod-lt, mod-eq-of-lt, pow-le-pow-right}
-use native.Mathlib.Omega.{arith}
-use lib.Dec.{lit<}
-use lib.ListN.{length, getD, take, drop}
-use lib.Seq.{take-at, getD-drop}
-use lib.Bits.{bitXor, xor-lt, xor-block}
+use Rattle.general.proofs.Names.{_≡_, refl, ap, ap₂, _∙_, sym, List, [], _∷_, ℕ, zero, suc, _+_, _-_, _*_, _/_, _%_, _^_, _<_, _≤_, mod-lt, mod-eq-of-lt}
+use Rattle.general.proofs.Names.{pow-le-pow-right, arith, lit<, length, getD, take, drop, take-at, getD-drop, bitXor, xor-lt, xor-block}
 use Rattle.bits.specs.Bits.{lowBits, value}
 use Rattle.bits.proofs.Words.{length-low, value-low}
 use Rattle.bits.proofs.Appending.{low-split}

@@ -1,23 +1,17 @@
 -- Layouts with no alignment patterns.
-use mathlib.Core.Path.{_≡_, ap, sym, subst, _∙_}
-use mathlib.Core.Logic.{_≢_, _⊎_, inl, inr}
-use mathlib.Core.List.{List, []}
-use Prim.Native.Nat.{ℕ, _+_, _-_, _*_, _<_, _≤_}
-use native.Mathlib.Omega.{arith}
-use native.Mathlib.Decide.{decLt}
+use Rattle.general.proofs.Names.{_≡_, ap, sym, subst, _∙_, _≢_, _⊎_, inl, inr, List, [], ℕ, _+_, _-_, _*_, _<_, _≤_, arith, decLt, T, leb, leb→le, length}
+use Rattle.general.proofs.Names.{getD, lt-ltb}
 use lib.Arith.{digits-lt}
-use lib.Dec.{T, leb, leb→le}
-use lib.ListN.{length, getD}
-use borrow.Author.Tests.{lt-ltb}
 use Rattle.symbol.specs.Version.{sideOf}
 use Rattle.symbol.specs.Layout.{finders, edge, ring, half, within, finderRow, finderAt, cornerAt, each, corners, plotAll, layoutOf}
 use Rattle.symbol.specs.Inner.{cornerKind}
-use Rattle.symbol.proofs.Finite.{upTo, every}
+use Rattle.general.proofs.Finite.{upTo, every}
 use Rattle.symbol.proofs.Places.{getD-table}
 use Rattle.symbol.proofs.CornerRows.{edge-mid, in-finder, in-separator, in-information, in-data-row, in-data-column, row-kind, near-upper, near-lower}
 use Rattle.symbol.proofs.Theorems.{layout-length}
-use Rattle.blocks.specs.Table.{totals}
-use Rattle.blocks.specs.Blocks.{totalOf, dataModules}
+use Rattle.block_table.specs.Table.{totals}
+use Rattle.block_table.specs.Blocks.{totalOf}
+use Rattle.symbol.specs.Layout.{dataModules}
 use Rattle.codewords.specs.Codewords.{maskAt, maskBit}
 use Rattle.placement.specs.Walk.{bitsFrom, rowBits, Walk}
 use Rattle.small_marks.specs.Open.{Spans, Open, Margin, whole, ends}

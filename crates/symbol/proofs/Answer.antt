@@ -1,13 +1,6 @@
 -- Operation Layout: plots leave what lies beyond the square, and the answers.
-use mathlib.Core.Path.{_≡_, sym, ap, subst, _∙_}
-use mathlib.Core.List.{List, _++_}
-use Prim.Native.Nat.{ℕ, _+_, _-_, _*_, _<_, _≤_}
-use native.Mathlib.Decide.{decLt}
-use native.Mathlib.Omega.{arith}
-use lib.Dec.{lit<}
-use lib.ListN.{length, getD, drop, length-append, List·getD-append}
-use lib.Seq.{getD-append-add, ext-getD}
-use borrow.Author.Tests.{lt-ltb, le-ltb, le-leb, lt-leb, ne-eqb}
+use Rattle.general.proofs.Names.{_≡_, sym, ap, subst, _∙_, List, _++_, ℕ, _+_, _-_, _*_, _<_, _≤_, decLt, arith, lit<, length, getD, drop, length-append}
+use Rattle.general.proofs.Names.{List·getD-append, getD-append-add, ext-getD, lt-ltb, le-ltb, le-leb, lt-leb, ne-eqb}
 use Rattle.symbol.specs.Version.{sideOf, isVersion}
 use Rattle.symbol.specs.Layout.{Plot, plotAll, corners, alignment, layoutOf, layoutRefusal, layoutWritten}
 use Rattle.symbol.specs.Inner.{Plotted, Stored, drawn, cornerKind}

@@ -1,20 +1,12 @@
 -- The rows of the corners, stretch by stretch.
-use mathlib.Core.Path.{_≡_, refl, sym, ap, subst, _∙_}
-use mathlib.Core.Bool.{Bool, true, false, cond}
-use mathlib.Core.List.{List, []}
-use Prim.Native.Nat.{ℕ, suc, _+_, _-_, _*_, _/_, _%_, _^_, _<_, _≤_}
-use native.Mathlib.Omega.{arith}
-use native.Mathlib.Nat.{mul-le-mul-right, mul-div-mul-left, pow-succ', suc-mul, zero-div, le-div-iff-mul-le, div-lt-iff-lt-mul}
-use native.Mathlib.Decide.{decLt}
-use native.Mathlib.Numerals.{add-one}
+use Rattle.general.proofs.Names.{_≡_, refl, sym, ap, subst, _∙_, Bool, true, false, cond, List, [], ℕ, suc, _+_, _-_, _*_, _/_, _%_, _^_, _<_, _≤_, arith}
+use Rattle.general.proofs.Names.{mul-le-mul-right, mul-div-mul-left, pow-succ', suc-mul, zero-div, le-div-iff-mul-le, div-lt-iff-lt-mul, decLt, add-one, T}
+use Rattle.general.proofs.Names.{ltb, ltb→lt, lit<, length, getD, set, length-set, lt-ltb, le-ltb, ltb-true, ltb-false, ne-eqb}
 use lib.Arith.{digits-div, digits-mod}
-use lib.Dec.{T, ltb, ltb→lt, lit<}
-use lib.ListN.{length, getD, set, length-set}
-use borrow.Author.Tests.{lt-ltb, le-ltb, ltb-true, ltb-false, ne-eqb}
 use Rattle.symbol.specs.Layout.{finders, edge, ring, half, within, finderRow, finderAt, cornerAt}
 use Rattle.symbol.specs.Inner.{Stored, RowRoom, Ends, UpTo, Beyond, cornerKind}
 use Rattle.symbol.proofs.Coordinates.{square-le}
-use Rattle.symbol.proofs.Finite.{upTo, every}
+use Rattle.general.proofs.Finite.{upTo, every}
 use Rattle.symbol.proofs.Stored.{stored-none, stored-next, stored-more, stored-as}
 
 -- a row of a finder has seven bits: a test that antt computes

@@ -1,15 +1,7 @@
 -- What a list of plots does to one place: the first plot of the place wins where it was data.
-use mathlib.Core.Path.{_≡_, refl, sym, ap, _∙_}
-use mathlib.Core.Bool.{Bool, true, false, cond, _&&_}
-use mathlib.Core.List.{List, [], _∷_, _++_}
-use Prim.Native.Nat.{ℕ, zero, suc, _*_, _<_, _≤_}
-use native.Mathlib.Decide.{ℕ-discrete}
-use native.Mathlib.Omega.{arith}
-use lib.Dec.{eqb, ltb}
+use Rattle.general.proofs.Names.{_≡_, refl, sym, ap, _∙_, Bool, true, false, cond, _&&_, List, [], _∷_, _++_, ℕ, zero, suc, _*_, _<_, _≤_, ℕ-discrete}
+use Rattle.general.proofs.Names.{arith, eqb, ltb, length, getD, set, length-set, getD-set-same, getD-set-other, eq-eqb, ne-eqb}
 use lib.IntN.{ℤ, pos, _+ℤ_, _-ℤ_}
-use lib.ListN.{length, getD, set, length-set}
-use lib.Seq.{getD-set-same, getD-set-other}
-use borrow.Author.Tests.{eq-eqb, ne-eqb}
 use Rattle.symbol.specs.Layout.{Plot, plot, placeAt, plotOne, plotAll, each, lineModule}
 use Rattle.symbol.specs.Inner.{drawn}
 use Rattle.symbol.proofs.Plots.{plot-out, plot-kept, plot-set}

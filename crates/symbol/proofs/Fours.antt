@@ -1,14 +1,8 @@
 -- Four modules at once: what a product sets apart are the bits of a digit. Assumes nothing.
-use mathlib.Core.Path.{_≡_, sym, ap, subst, _∙_}
-use mathlib.Core.Bool.{Bool}
-use mathlib.Core.List.{List}
-use Prim.Native.Nat.{ℕ, _+_, _-_, _/_, _%_, _^_, _<_, _≤_}
-use native.Mathlib.Omega.{arith}
-use lib.Bits.{bitAnd, and-le-r}
-use lib.Dec.{T, eqb, eqb→eq}
-use lib.ListN.{length, set, length-set}
+use Rattle.general.proofs.Names.{_≡_, sym, ap, subst, _∙_, Bool, List, ℕ, _+_, _-_, _/_, _%_, _^_, _<_, _≤_, arith, bitAnd, and-le-r, T, eqb, eqb→eq}
+use Rattle.general.proofs.Names.{length, set, length-set}
 use Rattle.symbol.specs.Inner.{Stored, fourModules}
-use Rattle.symbol.proofs.Finite.{upTo, every}
+use Rattle.general.proofs.Finite.{upTo, every}
 use Rattle.symbol.proofs.Stored.{stored-none, stored-more, stored-next, stored-as}
 
 pub apart-lt : (x : ℕ) → bitAnd x 16843009 < 16843010

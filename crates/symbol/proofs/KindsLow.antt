@@ -1,13 +1,7 @@
 -- No kind is above 3: not in the corners, and not in a plot of the alignment.
-use mathlib.Core.Path.{sym, subst}
-use mathlib.Core.Bool.{Bool, true, false, cond, not, _&&_}
-use mathlib.Core.List.{List, [], _∷_, _++_}
-use Prim.Native.Nat.{ℕ, zero, suc, _+_, _-_, _*_, _/_, _%_, _≤_}
-use native.Mathlib.Omega.{arith}
-use native.Mathlib.Decide.{decLt}
-use lib.Dec.{ltb, eqb}
+use Rattle.general.proofs.Names.{sym, subst, Bool, true, false, cond, not, _&&_, List, [], _∷_, _++_, ℕ, zero, suc, _+_, _-_, _*_, _/_, _%_, _≤_, arith}
+use Rattle.general.proofs.Names.{decLt, ltb, eqb, getD, set, List·getD-eq-default}
 use lib.IntN.{ℤ, pos, _+ℤ_, _-ℤ_}
-use lib.ListN.{getD, set, List·getD-eq-default}
 use Rattle.symbol.specs.Version.{sideOf}
 use Rattle.symbol.specs.Layout.{Plot, plot, placeAt, plotOne, plotAll, each, when, light, dark, odd, ring, finderAt, cornerAt, corners, threeAt, assistant, rowEnds, columnEnds, lineModule, lineLeft, lineDown, crossing, crossings, alignment, layoutOf, mOf, rowLine, columnLine, stepOf}
 use Rattle.symbol.specs.Inner.{cornerKind, table}

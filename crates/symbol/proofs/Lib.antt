@@ -1,5 +1,4 @@
 -- The files of laws, those that others rest on first.
-pub mod Finite
 pub mod FirstPlot
 pub mod LineRuns
 pub mod Coordinates
@@ -12,3 +11,4 @@ pub mod Lines
 pub mod Answer
 pub mod KindsLow
 pub mod Theorems
+pub mod DataModules

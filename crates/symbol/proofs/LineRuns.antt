@@ -1,15 +1,7 @@
 -- A line to the left is two runs: plots of dark and light modules in turn, and the dark ones before the light ones, come to the same.
-use mathlib.Core.Path.{_≡_, sym, ap, _∙_}
-use mathlib.Core.List.{List}
-use Prim.Native.Nat.{ℕ, _+_, _-_, _*_, _<_, _≤_}
-use native.Mathlib.Decide.{decLt}
-use native.Mathlib.Numerals.{add-one}
-use native.Mathlib.Nat.{suc-mul}
-use native.Mathlib.Omega.{arith}
+use Rattle.general.proofs.Names.{_≡_, sym, ap, _∙_, List, ℕ, _+_, _-_, _*_, _<_, _≤_, decLt, add-one, suc-mul, arith, length, getD, ext-getD}
 use lib.Arith.{digits-lt}
 use lib.IntN.{ℤ, pos, _+ℤ_, _-ℤ_}
-use lib.ListN.{length, getD}
-use lib.Seq.{ext-getD}
 use Rattle.symbol.specs.Layout.{Plot, placeAt, plotAll, lineModule, lineLeft, each}
 use Rattle.symbol.specs.Inner.{Stored, Plotted, drawn}
 use Rattle.symbol.proofs.Coordinates.{square-le, place-left, place-below, whole-in, take-off, difference, negative}

@@ -1,20 +1,13 @@
 -- The lines of a version: what the tables say of k, r and m, the steps, and where each line lies.
-use mathlib.Core.Path.{_≡_, refl, sym, ap, subst, _∙_}
-use mathlib.Core.Bool.{Bool}
-use Prim.Native.Nat.{ℕ, zero, suc, _+_, _-_, _*_, _<_, _≤_}
-use native.Mathlib.Nat.{suc-mul, zero-mul, mul-le-mul-right}
-use native.Mathlib.Omega.{arith}
-use lib.Dec.{T, leb, eqb, leb→le, eqb→eq}
+use Rattle.general.proofs.Names.{_≡_, refl, sym, ap, subst, _∙_, Bool, ℕ, zero, suc, _+_, _-_, _*_, _<_, _≤_, suc-mul, zero-mul, mul-le-mul-right, arith, T}
+use Rattle.general.proofs.Names.{leb, eqb, leb→le, eqb→eq, List, length, lt-ltb, le-ltb}
 use lib.IntN.{pos, _-ℤ_}
-use mathlib.Core.List.{List}
-use lib.ListN.{length}
-use borrow.Author.Tests.{lt-ltb, le-ltb}
 use Rattle.symbol.specs.Version.{sideOf}
 use Rattle.symbol.specs.declared.Spacing.{Spacing}
 use Rattle.symbol.specs.Layout.{ks, rs, ms, kOf, rOf, mOf, stepOf, lineOf, columnLine}
 use Rattle.symbol.specs.Inner.{Spaced, Roomy}
 use Rattle.symbol.proofs.Coordinates.{difference}
-use Rattle.symbol.proofs.Finite.{upTo, every}
+use Rattle.general.proofs.Finite.{upTo, every}
 
 -- what holds of versions 4 to 84 by a test that antt computes
 tested : (f : ℕ → Bool) → T (upTo (λ n. f (n + 4)) 81) → (v : ℕ) → 4 ≤ v → v ≤ 84 → T (f v)

@@ -1,15 +1,7 @@
 -- The kinds of a layout: its length, and that a place of the corners that is no data module keeps its kind.
-use mathlib.Core.Path.{_≡_, refl, sym, ap, _∙_}
-use mathlib.Core.Bool.{Bool, true, false, cond}
-use mathlib.Core.List.{[], _∷_, _++_}
-use Prim.Native.Nat.{ℕ, zero, suc, _+_, _*_, _/_, _%_, _<_}
-use native.Mathlib.Nat.{not-suc-le-zero}
-use native.Mathlib.Omega.{arith}
+use Rattle.general.proofs.Names.{_≡_, refl, sym, ap, _∙_, Bool, true, false, cond, [], _∷_, _++_, ℕ, zero, suc, _+_, _*_, _/_, _%_, _<_, not-suc-le-zero}
+use Rattle.general.proofs.Names.{arith, ltb, eqb, length, getD, length-append, List·getD-append, getD-at, eqb-true, eqb-false}
 use lib.Arith.{digits-div, digits-mod, digits-lt}
-use lib.Dec.{ltb, eqb}
-use lib.ListN.{length, getD, length-append, List·getD-append}
-use lib.Seq.{getD-at}
-use borrow.Author.Tests.{eqb-true, eqb-false}
 use Rattle.symbol.specs.Version.{sideOf}
 use Rattle.symbol.specs.Layout.{each, cornerAt, corners, alignment, layoutOf}
 use Rattle.symbol.specs.Inner.{table, cornerKind}

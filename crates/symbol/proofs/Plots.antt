@@ -1,16 +1,11 @@
 -- Plots one after another.
-use mathlib.Core.Path.{_≡_, refl, sym, ap, subst, _∙_}
-use mathlib.Core.List.{List, [], _∷_, _++_}
-use Prim.Native.Nat.{ℕ, _+_, _*_, _<_, _≤_, _%_}
-use native.Mathlib.Numerals.{add-one}
+use Rattle.general.proofs.Names.{_≡_, refl, sym, ap, subst, _∙_, List, [], _∷_, _++_, ℕ, _+_, _*_, _<_, _≤_, _%_, add-one, eq-eqb, ne-eqb, lt-ltb, le-ltb}
+use Rattle.general.proofs.Names.{length, getD, set, arith}
 use lib.IntN.{ℤ, pos, natAbs}
 use mir.Syntax.{w64}
 use mir.Val.{SFits, toZ, ofZ}
 use mir.Facts.{toZ-ofZ}
-use borrow.Author.Tests.{eq-eqb, ne-eqb, lt-ltb, le-ltb}
 use Rattle.symbol.specs.Layout.{when, odd, assistant, lineLeft, lineDown, placeAt, crossing, columnLine, rowLine, stepOf, Plot, plot, plotOne, plotAll, each}
-use lib.ListN.{length, getD, set}
-use native.Mathlib.Omega.{arith}
 use Rattle.symbol.specs.Inner.{Plotted}
 
 pub plotAll-append : (s : ℕ) (ps qs : List Plot) (g : List ℕ) → plotAll s (ps ++ qs) g ≡ plotAll s qs (plotAll s ps g)

@@ -1,11 +1,7 @@
 -- Bytes stored in order: one more, one stretch after another, and all of them.
-use mathlib.Core.Path.{_≡_, refl, sym, ap, _∙_}
-use mathlib.Core.List.{List, _++_}
-use Prim.Native.Nat.{ℕ, _+_, _-_, _<_, _≤_}
-use native.Mathlib.Omega.{arith}
-use native.Mathlib.Decide.{decLt, ℕ-discrete}
-use lib.ListN.{length, getD, set, drop, length-append, length-drop, length-set, List·getD-append}
-use lib.Seq.{getD-set-same, getD-set-other, getD-append-add, getD-drop, ext-getD}
+use Rattle.general.proofs.Names.{_≡_, refl, sym, ap, _∙_, List, _++_, ℕ, _+_, _-_, _<_, _≤_, arith, decLt, ℕ-discrete, length, getD, set, drop}
+use Rattle.general.proofs.Names.{length-append, length-drop, length-set, List·getD-append, getD-set-same, getD-set-other, getD-append-add, getD-drop}
+use Rattle.general.proofs.Names.{ext-getD}
 use Rattle.symbol.specs.Inner.{Stored, table}
 use Rattle.symbol.proofs.Places.{length-table, getD-table}
 

@@ -1,7 +1,5 @@
 -- What a customer may quote of the layout.
-use mathlib.Core.Path.{_≡_}
-use Prim.Native.Nat.{ℕ, _+_, _*_, _<_, _≤_}
-use lib.ListN.{length, getD}
+use Rattle.general.proofs.Names.{_≡_, ℕ, _+_, _*_, _<_, _≤_, length, getD}
 use Rattle.symbol.specs.Version.{sideOf}
 use Rattle.symbol.specs.Layout.{cornerAt, layoutOf}
 use Rattle.symbol.proofs.Places as places

@@ -1,7 +1,7 @@
 -- SPECIFICATION 2.4, 4 and 10.2 (han_xin.rs: `layout`, `alignment`). A layout has s × s kinds, row by row: 0 data, 1 information, 2 light,
 -- 3 dark.
 use mathlib.Core.Bool.{Bool, cond, not, _&&_}
-use mathlib.Core.List.{List, [], _∷_, _++_}
+use mathlib.Core.List.{List, [], _∷_, _++_, foldr}
 use Prim.Native.Nat.{ℕ, zero, suc, _+_, _-_, _*_, _/_, _%_, _^_}
 use lib.Dec.{ltb, eqb}
 use lib.IntN.{ℤ, pos, negsuc, _+ℤ_, _-ℤ_}
@@ -187,6 +187,10 @@ alignment v = each (mOf v + 2) (rowEnds v) ++ (each (mOf v + 2) (columnEnds v) +
 -- The layout of version v.
 unfoldable pub layoutOf : ℕ → List ℕ
 layoutOf v = plotAll (sideOf v) (cond (ltb v 4) [] (alignment v)) (corners (sideOf v))
+
+-- how many data modules a layout has
+unfoldable pub dataModules : List ℕ → ℕ
+dataModules ks = foldr (λ k n. cond (eqb k data-kind) (suc n) n) 0 ks
 
 -- SPECIFICATION 10.2, Layout. 1: no such version; 2: the buffer is shorter than s × s; 0: filled.
 unfoldable pub layoutRefusal : ℕ → List ℕ → ℕ

@@ -1,36 +1,28 @@
 -- What the corrected blocks of a square tell is what its reading gives. Assumes nothing.
-use mathlib.Core.Path.{_≡_, sym, ap, subst, _∙_}
-use mathlib.Core.Logic.{_≢_}
-use mathlib.Core.Bool.{cond}
-use mathlib.Core.List.{List, _++_}
-use Prim.Native.Nat.{ℕ, _*_, _≤_, _<_}
-use native.Mathlib.Omega.{arith}
-use native.Mathlib.Decide.{ℕ-discrete}
-use borrow.Author.Tests.{eq-eqb, ne-eqb}
-use lib.Dec.{eqb}
-use lib.ListN.{length, take}
-use lib.Seq.{take-at, take-all}
+use Rattle.general.proofs.Names.{_≡_, sym, ap, subst, _∙_, _≢_, cond, List, _++_, ℕ, _*_, _≤_, _<_, arith, ℕ-discrete, eq-eqb, ne-eqb, eqb, length, take}
+use Rattle.general.proofs.Names.{take-at, take-all}
 use Rattle.symbol.specs.Version.{sideOf}
 use Rattle.symbol.specs.Layout.{layoutOf, layoutWritten}
 use Rattle.symbol.proofs.Coordinates.{square-le}
 use Rattle.symbol.proofs.Theorems.{layout-length}
-use Rattle.blocks.specs.Blocks.{totalOf, rowOf, dataModules, Shape, shapes, shapesOf, totalSize, cut, joined, dataParts}
-use Rattle.blocks.specs.Inner.{Sound}
-use Rattle.blocks.proofs.Theorems.{shapes-sound}
+use Rattle.block_table.specs.Blocks.{totalOf, rowOf, Shape, shapes, shapesOf, totalSize, cut, joined, dataParts}
+use Rattle.symbol.specs.Layout.{dataModules}
+use Rattle.block_table.specs.Inner.{Sound}
+use Rattle.block_table.proofs.Theorems.{shapes-sound}
 use Rattle.codewords.specs.Codewords.{maskBit, dataBits, codewordsOf, toStream}
 use Rattle.placement.specs.Walk.{Legible}
 use Rattle.small_marks.proofs.Open.{open-enough}
 use Rattle.codewords.proofs.Placement.{data-front, length-data}
-use Rattle.blockwise.specs.declared.Blocks.{Blocks}
-use Rattle.blockwise.specs.declared.Blocks.the-variants.{Corrected, Refused}
-use Rattle.blockwise.specs.Blockwise.{corrected, firstRefused, countOf, blocksOf, correctedData, numberOf, correctionsOf}
-use Rattle.blockwise.proofs.Corrects.{count-le}
-use Rattle.blockwise.proofs.Theorems.{data-left}
+use Rattle.blocks.specs.declared.Blocks.{Blocks}
+use Rattle.blocks.specs.declared.Blocks.the-variants.{Corrected, Refused}
+use Rattle.blocks.specs.Blockwise.{corrected, firstRefused, countOf, blocksOf, correctedData, numberOf, correctionsOf}
+use Rattle.blocks.proofs.Corrects.{count-le}
+use Rattle.blocks.proofs.Theorems.{data-left}
 use Rattle.segments.specs.FromData.{DataOutcome, fromData}
-use Rattle.squares.specs.Receipt.{receiptOf, refusalReceipt}
-use Rattle.squares.specs.Read.{Reading, readingOf, refused, streamFrom, told, bodyOf}
-use Rattle.squares.proofs.Modules.{stream-bits, stream-length}
-use Rattle.squares.proofs.Starts.{layout-front, has-blocks, no-blocks, row-total, row-small}
+use Rattle.marks.specs.Receipt.{receiptOf, refusalReceipt}
+use Rattle.marks.specs.Read.{Reading, readingOf, refused, streamFrom, told, bodyOf}
+use Rattle.marks.proofs.Modules.{stream-bits, stream-length}
+use Rattle.marks.proofs.Starts.{layout-front, has-blocks, no-blocks, row-total, row-small}
 use Rattle.receipts.specs.declared.Mark.{Mark}
 use Rattle.receipts.specs.declared.Told.{Told}
 use Rattle.receipts.specs.Inner.{receiptIn, Small, Refuses, Tells}

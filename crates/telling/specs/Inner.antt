@@ -6,8 +6,8 @@ use Prim.Native.Nat.{ℕ, _*_, _<_, _≤_}
 use lib.ListN.{length, getD, take}
 use Rattle.symbol.specs.Version.{sideOf}
 use Rattle.symbol.specs.Layout.{layoutOf}
-use Rattle.blocks.specs.Blocks.{hasBlocks}
-use Rattle.squares.specs.Read.{Reading, readingOf, refused, streamFrom, bodyOf}
+use Rattle.block_table.specs.Blocks.{hasBlocks}
+use Rattle.marks.specs.Read.{Reading, readingOf, refused, streamFrom, bodyOf}
 use Rattle.receipts.specs.declared.Mark.{Mark}
 use Rattle.receipts.specs.declared.Told.{Told}
 use Rattle.receipts.specs.Inner.{receiptIn, Small}

@@ -4,11 +4,12 @@ ghost use Prim.Native.Nat.{_*_, _<_, _≤_};
 ghost use lib.ListN.{length};
 ghost use Rattle.symbol.specs.Version.{sideOf};
 ghost use Rattle.symbol.specs.Layout.{layoutOf};
-ghost use Rattle.blocks.specs.Blocks.{totalOf, dataModules};
-ghost use Rattle.squares.specs.Read.{bodyOf};
+ghost use Rattle.block_table.specs.Blocks.{totalOf};
+ghost use Rattle.symbol.specs.Layout.{dataModules};
+ghost use Rattle.marks.specs.Read.{bodyOf};
 ghost use Rattle.receipts.specs.Inner.{Small};
 ghost use Rattle.telling.specs.Inner.{Fitting, Ranged, Drawn, Streamed, Body, readingIn, bodyOr1};
-use blockwise::Blocks;
+use blocks::Blocks;
 use receipts::Mark;
 use receipts::Told;
 use symbol::Version;
@@ -19,7 +20,7 @@ fn read_stream(stream: &mut [u8], kinds: &[u8], square: &[u8], m: Mark)
     ensures { λ _. ⌜ Streamed m (now (square .entry)) (now (stream .exit)) ⌝ }
 {
     let side = Version { number: m.version }.side();
-    let total = blocks::total_codewords(m.version);
+    let total = block_table::total_codewords(m.version);
     let mut found = [0u8; 3886];
     placement::read_codewords(&mut found, total, kinds, square, side, m.mask);
     codewords::to_stream(stream, &found, total);
@@ -30,7 +31,7 @@ fn read_open_stream(stream: &mut [u8], square: &[u8], m: Mark)
     requires { ⌜ Fitting m (now square) × (m .version < 4) × (totalOf (m .version) ≤ length (now stream)) ⌝ }
     ensures { λ _. ⌜ Streamed m (now (square .entry)) (now (stream .exit)) ⌝ }
 {
-    let total = blocks::total_codewords(m.version);
+    let total = block_table::total_codewords(m.version);
     let mut found = [0u8; 50];
     small_marks::read_open(&mut found, total, square, m.version, m.mask);
     codewords::to_stream(stream, &found, total);
@@ -47,8 +48,8 @@ fn tell_stream(
     requires { ⌜ Ranged m × (totalOf (m .version) ≤ length (now stream)) ⌝ }
     ensures { λ r. ⌜ Body m (now (stream .entry)) (now (payload .entry)) (now (script .entry)) r (now (payload .exit)) (now (script .exit)) ⌝ }
 {
-    let row = blocks::block_row(m.version, m.level);
-    match blockwise::correct_blocks(stream, &row) {
+    let row = block_table::block_row(m.version, m.level);
+    match blocks::correct_blocks(stream, &row) {
         Blocks::Corrected(count) => receipts::tell_segments(
             stream,
             spare,
@@ -93,7 +94,9 @@ fn tell_drawn(
     requires { ⌜ Fitting m (now square) × Drawn (m .version) (now kinds) ⌝ }
     ensures { λ r. ⌜ (readingIn m r (now (payload .exit)) (now (script .exit)) ≡ bodyOr1 m (now (square .entry)) (now (payload .entry)) (now (script .entry))) × Small r ⌝ }
 {
-    if blocks::data_modules(kinds, square.len()) < 8 * blocks::total_codewords(m.version) {
+    if symbol::counting::data_modules(kinds, square.len())
+        < 8 * block_table::total_codewords(m.version)
+    {
         return receipts::refused(1);
     }
     tell_blocks(kinds, square, m, payload, script)

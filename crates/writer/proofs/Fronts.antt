@@ -1,19 +1,14 @@
 -- The stream in front of a lent buffer, the square that it is placed in, and the mark. Assumes nothing.
-use mathlib.Core.Path.{_≡_, sym, ap, ap₂, _∙_}
-use mathlib.Core.List.{List, _++_}
-use Prim.Native.Nat.{ℕ, _*_, _≤_}
-use native.Mathlib.Omega.{arith}
-use lib.ListN.{length, take, drop, length-append, length-drop}
-use lib.Seq.{take-at}
+use Rattle.general.proofs.Names.{_≡_, sym, ap, ap₂, _∙_, List, _++_, ℕ, _*_, _≤_, arith, length, take, drop, length-append, length-drop, take-at}
 use Rattle.bits.specs.Bits.{bitsOf}
 use Rattle.symbol.specs.Version.{sideOf}
 use Rattle.symbol.specs.Layout.{layoutOf}
 use Rattle.information.specs.Information.{infoBits, infoWritten}
-use Rattle.blocks.specs.Blocks.{totalOf, rowOf, Shape, shapes, shapesOf, totalSize, totalData}
+use Rattle.block_table.specs.Blocks.{totalOf, rowOf, Shape, shapes, shapesOf, totalSize, totalData}
 use Rattle.codewords.specs.Codewords.{maskBit, placed, fromStream, squareOf}
-use Rattle.blockwise.specs.Blockwise.{streamOf}
+use Rattle.blocks.specs.Blockwise.{streamOf}
 use Rattle.script.specs.Check.{commandsOf, scriptData}
-use Rattle.squares.specs.Write.{roomOf, markOf}
+use Rattle.marks.specs.Write.{roomOf, markOf}
 use Rattle.writer.specs.declared.Mark.{Mark}
 use Rattle.writer.specs.Inner.{Ranged, Ready}
 

@@ -1,17 +1,13 @@
 -- The room for data codewords in the row of a version and level. Assumes nothing.
-use mathlib.Core.Path.{_≡_, refl, sym, ap, _∙_, subst}
-use mathlib.Core.List.{List, _++_}
-use Prim.Native.Nat.{ℕ, _*_, _≤_}
-use native.Mathlib.Omega.{arith}
-use lib.ListN.{length, take, drop, length-append, length-drop}
-use lib.Seq.{length-take-le}
+use Rattle.general.proofs.Names.{_≡_, refl, sym, ap, _∙_, subst, List, _++_, ℕ, _*_, _≤_, arith, length, take, drop, length-append, length-drop}
+use Rattle.general.proofs.Names.{length-take-le}
 use Rattle.symbol.specs.Version.{sideOf}
-use Rattle.blocks.specs.Blocks.{totalOf, rowOf, shapes, shapesOf, totalData}
+use Rattle.block_table.specs.Blocks.{totalOf, rowOf, shapes, shapesOf, totalData}
 use Rattle.script.specs.Inner.{Fits}
-use Rattle.squares.specs.Write.{roomOf, writeRefusal}
-use Rattle.squares.proofs.Marks.{no-refusal}
-use Rattle.squares.proofs.ReadBack.{data-le}
-use Rattle.squares.proofs.Starts.{row-total, row-data}
+use Rattle.marks.specs.Write.{roomOf, writeRefusal}
+use Rattle.marks.proofs.Marks.{no-refusal}
+use Rattle.marks.proofs.ReadBack.{data-le}
+use Rattle.marks.proofs.Starts.{row-total, row-data}
 use Rattle.writer.specs.declared.Mark.{Mark}
 use Rattle.writer.specs.Inner.{Ranged}
 

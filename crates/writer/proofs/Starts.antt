@@ -1,18 +1,13 @@
 -- What all else rests on: version, level and mask in their ranges, their word, and the version's layout. Assumes nothing.
-use mathlib.Core.Path.{_≡_, sym, ap, _∙_}
-use mathlib.Core.Bool.{true}
-use mathlib.Core.List.{List}
-use Prim.Native.Nat.{ℕ, _*_, _≤_}
-use native.Mathlib.Omega.{arith}
-use lib.ListN.{length}
+use Rattle.general.proofs.Names.{_≡_, sym, ap, _∙_, true, List, ℕ, _*_, _≤_, arith, length}
 use Rattle.symbol.specs.Version.{sideOf}
 use Rattle.symbol.specs.Layout.{layoutWritten}
 use Rattle.symbol.proofs.Coordinates.{square-le}
 use Rattle.information.specs.declared.InfoBits.{InfoBits}
 use Rattle.information.specs.declared.InfoBits.the-variants.{Word}
 use Rattle.information.specs.Information.{isInfo, infoBits, InfoAnswer, infoOf, infoAnswer}
-use Rattle.squares.proofs.Marks.{ranges}
-use Rattle.squares.proofs.Starts.{layout-front, has-word}
+use Rattle.marks.proofs.Marks.{ranges}
+use Rattle.marks.proofs.Starts.{layout-front, has-word}
 use Rattle.writer.specs.Inner.{Ranged, Ready}
 use Rattle.writer.specs.declared.Mark.{Mark}
 

@@ -1,18 +1,11 @@
 -- The refusals of writing, part by part: each function's number is the one that writing gives. Assumes nothing.
-use mathlib.Core.Path.{_≡_, refl, sym, ap, _∙_}
-use mathlib.Core.Logic.{_≢_}
-use mathlib.Core.Bool.{Bool, true, false, cond}
-use mathlib.Core.Option.{Option, none, some}
-use mathlib.Core.List.{List, [], _∷_, _++_}
-use Prim.Native.Nat.{ℕ, _*_, _≤_, _<_}
-use native.Mathlib.Omega.{arith}
-use borrow.Author.Tests.{eq-eqb, ne-eqb, le-leb, lt-leb, eqb-true, eqb-false, lt-ltb}
-use lib.Dec.{eqb, ltb, leb}
-use lib.ListN.{length, take}
+use Rattle.general.proofs.Names.{_≡_, refl, sym, ap, _∙_, _≢_, Bool, true, false, cond, Option, none, some, List, [], _∷_, _++_, ℕ, _*_, _≤_, _<_, arith}
+use Rattle.general.proofs.Names.{eq-eqb, ne-eqb, le-leb, lt-leb, eqb-true, eqb-false, lt-ltb, eqb, ltb, leb, length, take}
 use Rattle.symbol.specs.Version.{sideOf}
 use Rattle.symbol.specs.Layout.{layoutOf}
 use Rattle.information.specs.Information.{isInfo}
-use Rattle.blocks.specs.Blocks.{totalOf, hasBlocks, dataModules}
+use Rattle.block_table.specs.Blocks.{totalOf, hasBlocks}
+use Rattle.symbol.specs.Layout.{dataModules}
 use Rattle.segments.specs.Script.{Segment}
 use Rattle.script.specs.declared.Check.{Check}
 use Rattle.script.specs.declared.Check.the-variants.{Bits, Malformed, Lacking, Empty}
@@ -22,11 +15,11 @@ use Rattle.script.specs.Check.{commandsOf}
 use Rattle.script.specs.Inner.{capped, checkedOf, checkOf}
 use Rattle.script.proofs.Scripts.{positive}
 use Rattle.script.proofs.Theorems.{bits-by-formulas, capped-fits}
-use Rattle.squares.specs.Read.{firstRefusal, unless}
-use Rattle.squares.specs.Write.{Writing, roomOf, writingOf, scriptRefusals, writeRefusal, markOf, writeOf}
-use Rattle.squares.proofs.Marks.{info-is}
-use Rattle.squares.proofs.Refusals.{unless-true, unless-false, first-skips, first-takes, first-left, first-right, first-one}
-use Rattle.squares.proofs.Starts.{has-blocks, no-blocks}
+use Rattle.marks.specs.Read.{firstRefusal, unless}
+use Rattle.marks.specs.Write.{Writing, roomOf, writingOf, scriptRefusals, writeRefusal, markOf, writeOf}
+use Rattle.marks.proofs.Marks.{info-is}
+use Rattle.marks.proofs.Refusals.{unless-true, unless-false, first-skips, first-takes, first-left, first-right, first-one}
+use Rattle.marks.proofs.Starts.{has-blocks, no-blocks}
 use Rattle.writer.specs.declared.Mark.{Mark}
 use Rattle.writer.specs.Inner.{Ready, placeRefusal, scriptRefusal}
 

@@ -7,10 +7,10 @@ use lib.ListN.{length, take}
 use Rattle.symbol.specs.Version.{sideOf}
 use Rattle.symbol.specs.Layout.{layoutOf}
 use Rattle.information.specs.Information.{infoBits}
-use Rattle.blocks.specs.Blocks.{rowOf, hasBlocks}
+use Rattle.block_table.specs.Blocks.{rowOf, hasBlocks}
 use Rattle.script.specs.Check.{commandsOf}
-use Rattle.squares.specs.Read.{firstRefusal, unless}
-use Rattle.squares.specs.Write.{roomOf, scriptRefusals}
+use Rattle.marks.specs.Read.{firstRefusal, unless}
+use Rattle.marks.specs.Write.{roomOf, scriptRefusals}
 use Rattle.writer.specs.declared.Mark.{Mark}
 
 -- version, level and mask are in their ranges, and the word is theirs

@@ -7,13 +7,13 @@ ghost use lib.Dec.{T, leb};
 ghost use lib.ListN.{length, take};
 ghost use Rattle.symbol.specs.Version.{sideOf};
 ghost use Rattle.symbol.specs.Layout.{layoutOf};
-ghost use Rattle.blocks.specs.Blocks.{totalOf, shapes, totalSize, totalData, rowHolds};
+ghost use Rattle.block_table.specs.Blocks.{totalOf, shapes, totalSize, totalData, rowHolds};
 ghost use Rattle.codewords.specs.Codewords.{maskBit, squareOf};
-ghost use Rattle.blockwise.specs.Blockwise.{streamOf};
+ghost use Rattle.blocks.specs.Blockwise.{streamOf};
 ghost use Rattle.script.specs.Check.{commandsOf, scriptData};
 ghost use Rattle.script.specs.Inner.{Fits};
-ghost use Rattle.squares.specs.Read.{unless};
-ghost use Rattle.squares.specs.Write.{roomOf, writeRefusal, markOf, writingOf, writeOf};
+ghost use Rattle.marks.specs.Read.{unless};
+ghost use Rattle.marks.specs.Write.{roomOf, writeRefusal, markOf, writingOf, writeOf};
 ghost use Rattle.writer.specs.Inner.{Ranged, Row, Ready, placeRefusal, scriptRefusal};
 use symbol::Version;
 
@@ -31,8 +31,8 @@ fn place_refusal(m: Mark, kinds: &[u8], size: usize) -> usize
     ensures { λ r. ⌜ r ≡ placeRefusal (m .version) (m .level) size ⌝ }
 {
     let side = Version { number: m.version }.side();
-    let total = blocks::total_codewords(m.version);
-    if blocks::data_modules(kinds, side * side) < 8 * total {
+    let total = block_table::total_codewords(m.version);
+    if symbol::counting::data_modules(kinds, side * side) < 8 * total {
         return 1;
     }
     if size != side * side {
@@ -46,7 +46,7 @@ fn bits_refusal(m: Mark, row: &[u8], bits: usize) -> usize
     requires { ⌜ Ranged m × Row m (now row) ⌝ }
     ensures { λ r. ⌜ r ≡ unless (leb bits (8 * roomOf (m .version) (m .level))) 13 ⌝ }
 {
-    if 8 * blockwise::data_length(row) < bits {
+    if 8 * blocks::data_length(row) < bits {
         return 13;
     }
     0
@@ -80,7 +80,7 @@ fn place_stream(square: &mut [u8], kinds: &[u8], m: Mark, stream: &[u8], found: 
     requires { ⌜ Ready m (now kinds) × (length (now square) ≡ sideOf (m .version) * sideOf (m .version)) × (totalOf (m .version) ≤ length (now stream)) × (totalOf (m .version) ≤ length (now found)) ⌝ }
     ensures { λ _. ⌜ now (square .exit) ≡ squareOf (maskBit (sideOf (m .version)) (m .mask)) (layoutOf (m .version)) (take (totalOf (m .version)) (now (stream .entry))) ⌝ }
 {
-    let total = blocks::total_codewords(m.version);
+    let total = block_table::total_codewords(m.version);
     let side = Version { number: m.version }.side();
     codewords::from_stream(found, stream, total);
     drawing::place_codewords(square, kinds, found, total, side, m.mask);
@@ -102,7 +102,7 @@ fn write_mark_in(
     ensures { λ _. ⌜ now (square .exit) ≡ markOf (m .version) (m .level) (m .mask) (now (script .entry)) (now (payload .entry)) ⌝ }
 {
     let side = Version { number: m.version }.side();
-    let room = blockwise::data_length(row);
+    let room = blocks::data_length(row);
     encode_stream(stream, &mut spare[..room], row, script, payload);
     place_stream(square, kinds, m, stream, spare);
     information::write_info(square, side, m.word);
@@ -151,7 +151,7 @@ fn write_ready(square: &mut [u8], kinds: &[u8], m: Mark, script: &[u8], payload:
     if place != 0 {
         return place;
     }
-    let row = blocks::block_row(m.version, m.level);
+    let row = block_table::block_row(m.version, m.level);
     let text = script_refusal(m, &row, script, payload);
     if text != 0 {
         return text;

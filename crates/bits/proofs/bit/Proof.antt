@@ -1,14 +1,9 @@
 -- `bit` meets its contract. Assumes nothing.
 use Rattle.bits.proofs.Reading.{bit-at}
-use mathlib.Core.Path.{_∙_}
-use lib.Bits.{and-mask}
-use borrow.Author.Needs.{needs}
-use Rattle.bits.proofs.bit.Statement.{statement}
+use Rattle.general.proofs.Names.{_∙_, and-mask, needs}
 use Rattle.bits.proofs.bit.Tie as tie
 
-returns : tie.Need-returns
-returns c = rw bit-at (c .wide .ensures .0 ∙ and-mask _ 1)
-
-pub bit-spec : {M : Type 1} → statement M
+pub bit-spec : {M : Type 1} → Rattle.bits.proofs.bit.Statement.statement M
 bit-spec =
-    tie.close (tie.spec (λ c. search needs) (λ c. search needs) (λ c. search needs) (λ c. search needs) (λ c κs. search needs) returns)
+    tie.close (tie.spec (λ c. search needs) (λ c. search needs) (λ c. search needs) (λ c. search needs) (λ c κs. search needs)
+    (λ c. rw bit-at (c .wide .ensures .0 ∙ and-mask _ 1)))

@@ -1,8 +1,6 @@
 -- `read_at` meets its contract. Assumes nothing.
-use borrow.Author.Tests.{lt-ltb, le-ltb}
+use Rattle.general.proofs.Names.{lt-ltb, le-ltb, needs}
 use Rattle.bits.specs.Read.{readAt}
-use borrow.Author.Needs.{needs}
-use Rattle.bits.proofs.read_at.Statement.{statement}
 use Rattle.bits.proofs.read_at.Tie as tie
 
 returns : tie.Need-returns
@@ -21,5 +19,5 @@ returns-4 : tie.Need-returns-4
 unfolding readAt
 returns-4 c = simp (le-ltb _ _ (c .before .before .before .if1 .left), le-ltb _ _ (c .before .before .if2 .left), le-ltb _ _ (c .before .if3 .left)) (c .read-bits .ensures)
 
-pub read-at-spec : {M : Type 1} → statement M
+pub read-at-spec : {M : Type 1} → Rattle.bits.proofs.read_at.Statement.statement M
 read-at-spec = tie.close (tie.spec returns (λ c. search needs) returns-2 returns-3 (λ c κs. search needs) returns-4)

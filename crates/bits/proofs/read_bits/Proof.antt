@@ -1,11 +1,8 @@
 -- `read_bits` meets its contract. Assumes nothing.
-use native.Mathlib.Omega.{arith}
+use Rattle.general.proofs.Names.{arith, _/_, _+_, _*_, needs}
 use lib.Pow.{pow-pos}
-use Prim.Native.Nat.{_/_, _+_, _*_}
 use Rattle.bits.proofs.Reading.{read-short}
 use Rattle.bits.proofs.Window.{window-four, one-shifted, read-four}
-use borrow.Author.Needs.{needs}
-use Rattle.bits.proofs.read_bits.Statement.{statement}
 use Rattle.bits.proofs.read_bits.Tie as tie
 
 rem-t23 : tie.Need-rem-t23
@@ -27,7 +24,7 @@ returns-2 c =
     let a = c .before .before .before .args in
     read-short (a .s .now) (a .at) (a .n) (omega arith) (omega arith)
 
-pub read-bits-spec : {M : Type 1} → statement M
+pub read-bits-spec : {M : Type 1} → Rattle.bits.proofs.read_bits.Statement.statement M
 read-bits-spec =
     tie.close (tie.spec (λ c. search needs) (λ c. search needs) (λ c κs. search needs) (λ c. omega arith) (λ c. search needs)
     (λ c. search needs) (λ c κs. search needs) (λ c. omega arith) (λ c. omega arith) (λ c. search needs) (λ c. search needs)

@@ -1,12 +1,7 @@
 -- `read_last` meets its contract. Assumes nothing.
-use mathlib.Core.Path.{_≡_, sym, ap, _∙_}
-use Prim.Native.Nat.{ℕ, _+_, _-_, _/_, _≤_}
-use native.Mathlib.Omega.{arith}
-use borrow.Author.Needs.{needs}
-use lib.ListN.{getD}
+use Rattle.general.proofs.Names.{_≡_, sym, ap, _∙_, ℕ, _+_, _-_, _/_, _≤_, arith, needs, getD}
 use lib.Pow.{pow-pos}
 use Rattle.bits.proofs.Window.{window, window-none, window-more, window-small, one-shifted, read-window}
-use Rattle.bits.proofs.read_last.Statement.{statement}
 use Rattle.bits.proofs.read_last.Tie as tie
 
 abbrev Inv-loop : tie.InvT-loop
@@ -55,7 +50,7 @@ returns c =
     let e : l .i ≡ (a .at + a .n + 7) / 8 = omega arith in
     read-window (a .s .now) (a .at) (a .n) (l .v) (omega arith) (omega arith) (l .inv .2 ∙ ap (λ (x : ℕ). window (a .s .now) (a .at / 8) (x - a .at / 8)) e)
 
-pub read-last-spec : {M : Type 1} → statement M
+pub read-last-spec : {M : Type 1} → Rattle.bits.proofs.read_last.Statement.statement M
 read-last-spec =
     tie.close (tie.spec Inv-loop μ-loop (λ c. omega arith) (λ c. omega arith) loop-holds mul-v (λ c. omega arith) (λ c κs. search needs)
     add-v (λ c. omega arith) (λ c. omega arith) loop-again (λ c. omega arith) (λ c. omega arith) (λ c. omega arith) (λ c. omega arith)

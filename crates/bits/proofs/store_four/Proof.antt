@@ -1,11 +1,6 @@
 -- `store_four` meets its contract. Assumes nothing.
-use mathlib.Core.Path.{_≡_}
-use Prim.Native.Nat.{suc, _+_}
-use native.Mathlib.Omega.{arith}
-use lib.ListN.{length-set}
+use Rattle.general.proofs.Names.{_≡_, suc, _+_, arith, length-set, needs}
 use Rattle.bits.specs.Four.{fourOf}
-use borrow.Author.Needs.{needs}
-use Rattle.bits.proofs.store_four.Statement.{statement}
 use Rattle.bits.proofs.store_four.Tie as tie
 
 returns : tie.Need-returns
@@ -17,7 +12,7 @@ returns c =
     let three : i + 3 ≡ suc (suc (suc i)) = omega arith in
     rw (one, two, three)
 
-pub store-four-spec : {M : Type 1} → statement M
+pub store-four-spec : {M : Type 1} → Rattle.bits.proofs.store_four.Statement.statement M
 store-four-spec =
     tie.close (tie.spec (λ c. search needs) (λ c. search needs) (λ c. search needs) (λ c. search needs)
     (λ c. simp length-set (omega arith)) (λ c. search needs) (λ c. search needs) (λ c. simp length-set (omega arith))

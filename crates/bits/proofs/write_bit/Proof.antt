@@ -1,9 +1,6 @@
 -- `write_bit` meets its contract. Assumes nothing.
-use native.Mathlib.Omega.{arith}
+use Rattle.general.proofs.Names.{arith, _∙_, sym, needs}
 use Rattle.bits.proofs.Writing.{bit-flipped, bit-there}
-use mathlib.Core.Path.{_∙_, sym}
-use borrow.Author.Needs.{needs}
-use Rattle.bits.proofs.write_bit.Statement.{statement}
 use Rattle.bits.proofs.write_bit.Tie as tie
 
 returns : tie.Need-returns
@@ -16,7 +13,7 @@ returns-2 c =
     let a = c .before .before .before .before .args in
     bit-there (a .buf .now) (a .at) (a .b) (sym (c .before .bit .ensures) ∙ c .if1 .left)
 
-pub write-bit-spec : {M : Type 1} → statement M
+pub write-bit-spec : {M : Type 1} → Rattle.bits.proofs.write_bit.Statement.statement M
 write-bit-spec =
     tie.close (tie.spec (λ c κs. search needs) (λ c. search needs) (λ c. search needs) (λ c. search needs) (λ c. search needs)
     (λ c. search needs) (λ c. search needs) returns (λ c. search needs) returns-2)

@@ -1,17 +1,11 @@
 -- `write_bits` meets its contract. Assumes nothing.
-use mathlib.Core.Path.{_≡_}
-use Prim.Native.Nat.{_-_, _%_}
-use native.Mathlib.Nat.{mod-le}
-use native.Mathlib.Omega.{arith}
-use lib.ListN.{length}
+use Rattle.general.proofs.Names.{_≡_, _-_, _%_, mod-le, arith, length, needs}
 use lib.Pow.{pow-pos}
 use Rattle.bits.specs.Bits.{bitsOf, lowBits}
 use Rattle.bits.proofs.Reading.{length-bits}
 use Rattle.bits.proofs.Words.{length-low}
 use Rattle.bits.proofs.Window.{one-shifted}
 use Rattle.bits.proofs.Appending.{Joins, joined-is, appended, behind-set}
-use borrow.Author.Needs.{needs}
-use Rattle.bits.proofs.write_bits.Statement.{statement}
 use Rattle.bits.proofs.write_bits.Tie as tie
 
 returns : tie.Need-returns
@@ -26,9 +20,6 @@ rem-before : tie.Need-rem-before
 rem-before c =
     let a = c .before .before .before .before .args in
     rw (one-shifted (8 - a .at % 8) (omega arith)) (pow-pos (8 - a .at % 8))
-
-sub-before-2 : tie.Need-sub-before-2
-sub-before-2 c = mod-le _ _
 
 -- what is stored
 joins : (c : tie.After-store-four-arg) → Joins (c .before .wide .result) (c .before .before .before .before .before .args .at % 8) (c .before .before .before .before .before .args .n) (c .before .before .before .before .before .args .v)
@@ -57,9 +48,8 @@ returns-2 c =
     let j = joins g in
     rw (d .store-four .ensures, j .0, g .before .wide .ensures .0) (appended (a .buf .now) (a .at) (a .n) (a .v) (omega arith) (omega arith))
 
-pub write-bits-spec : {M : Type 1} → statement M
+pub write-bits-spec : {M : Type 1} → Rattle.bits.proofs.write_bits.Statement.statement M
 write-bits-spec =
-    tie.close (tie.spec (λ c. search needs) (λ c κs. search needs) (λ c. search needs) returns (λ c. search needs)
-    (λ c κs. search needs) (λ c. search needs) (λ c. search needs) rem-before sub-before-2 (λ c. search needs) (λ c. search needs)
-    rem-store-four (λ c. search needs) (λ c. search needs) (λ c. search needs) add-store-four store-four-requires (λ c. search needs)
-    returns-2)
+    tie.close (tie.spec (λ c. search needs) (λ c κs. search needs) (λ c. search needs) returns (λ c. search needs) (λ c κs. search needs)
+    (λ c. search needs) (λ c. search needs) rem-before (λ c. mod-le _ _) (λ c. search needs) (λ c. search needs) rem-store-four (λ c. search needs)
+    (λ c. search needs) (λ c. search needs) add-store-four store-four-requires (λ c. search needs) returns-2)

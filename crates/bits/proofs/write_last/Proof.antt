@@ -1,14 +1,7 @@
 -- `write_last` meets its contract. Assumes nothing.
-use mathlib.Core.Path.{_≡_, _∙_, refl, sym, ap}
-use native.Mathlib.Nat.{sub-zero, add-zero}
-use native.Mathlib.Omega.{arith}
-use Prim.Native.Nat.{ℕ, _≤_, _-_, _+_}
-use mathlib.Core.List.{List}
-use lib.ListN.{length}
-use lib.Seq.{sets}
+use Rattle.general.proofs.Names.{_≡_, _∙_, refl, sym, ap, sub-zero, add-zero, arith, ℕ, _≤_, _-_, _+_, List, length, sets}
 use Rattle.bits.specs.Bits.{bitsOf, lowBits}
 use Rattle.bits.proofs.Writing.{write-more, write-all}
-use Rattle.bits.proofs.write_last.Statement.{statement}
 use Rattle.bits.proofs.write_last.Tie as tie
 
 abbrev Inv-loop : tie.InvT-loop
@@ -17,9 +10,6 @@ Inv-loop buf₀ at n v i₀ buf i =
 
 abbrev μ-loop : tie.MeasureT-loop
 μ-loop buf₀ at n v i₀ buf i = n - i
-
-loop-holds : tie.Need-loop-holds Inv-loop μ-loop
-loop-holds c = (refl, omega arith, simp (sub-zero, add-zero))
 
 loop-again : tie.Need-loop-again Inv-loop μ-loop
 loop-again c =
@@ -36,7 +26,7 @@ returns c =
     let l = c .before .loop in
     sym (l .inv .2 ∙ write-all (bitsOf (l .buf)) (a .at + l .i) (a .n) (l .i) (a .v) (omega arith))
 
-pub write-last-spec : {M : Type 1} → statement M
+pub write-last-spec : {M : Type 1} → Rattle.bits.proofs.write_last.Statement.statement M
 write-last-spec =
-    tie.close (tie.spec Inv-loop μ-loop loop-holds (λ c. omega arith) (λ c. omega arith) (λ c. omega arith) (λ c. omega arith)
-    (λ c κs. omega arith) (λ c. omega arith) (λ c. omega arith) loop-again (λ c. omega arith) returns)
+    tie.close (tie.spec Inv-loop μ-loop (λ c. (refl, omega arith, simp (sub-zero, add-zero))) (λ c. omega arith) (λ c. omega arith) (λ c. omega arith)
+    (λ c. omega arith) (λ c κs. omega arith) (λ c. omega arith) (λ c. omega arith) loop-again (λ c. omega arith) returns)

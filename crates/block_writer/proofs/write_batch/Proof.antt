@@ -1,9 +1,7 @@
 -- `write_batch` meets its contract: with a table or without. Assumes nothing.
-use native.Mathlib.Omega.{arith}
-use borrow.Author.Needs.{needs}
-use Rattle.blockwise.proofs.Rule.{batch-fit, only-is}
-use Rattle.blockwise.proofs.Pours.{only-room}
-use Rattle.block_writer.proofs.write_batch.Statement.{statement}
+use Rattle.general.proofs.Names.{arith, needs}
+use Rattle.blocks.proofs.Rule.{batch-fit, only-is}
+use Rattle.blocks.proofs.Pours.{only-room}
 use Rattle.block_writer.proofs.write_batch.Tie as tie
 
 write-one-requires : tie.Need-write-one-requires
@@ -19,7 +17,7 @@ returns c =
     let one = c .before .before .before .before .before .is-one-short .ensures (c .before .before .before .before .if1 .taken) in
     rw (only-is (c .before .before .before .before .before .before .before .before .args .b) one) (c .before .before .write-one .ensures)
 
-pub write-batch-spec : {M : Type 1} → statement M
+pub write-batch-spec : {M : Type 1} → Rattle.block_writer.proofs.write_batch.Statement.statement M
 write-batch-spec =
     tie.close (tie.spec (λ c κs. search needs) write-one-requires (λ c. search needs) returns (λ c κs. search needs) (λ c. search needs)
     (λ c. search needs))

@@ -1,14 +1,10 @@
 -- `write_blocks` meets its contract: one batch more in each turn. Assumes nothing.
-use mathlib.Core.Path.{_∙_}
-use Prim.Native.Nat.{_+_, _-_, _*_}
-use native.Mathlib.Omega.{arith}
-use Rattle.blocks.specs.Blocks.{shapes}
-use Rattle.blocks.proofs.Rows.{row-sound}
-use Rattle.blockwise.specs.Inner.{behind, writing}
-use Rattle.blockwise.proofs.Rule.{row-batch, behind-all}
-use Rattle.blockwise.proofs.Pours.{Pouring, pouring-start, row-writes, batch-room, batch-poured, pouring-end, written-row}
-use borrow.Author.Needs.{needs}
-use Rattle.block_writer.proofs.write_blocks.Statement.{statement}
+use Rattle.general.proofs.Names.{_∙_, _+_, _-_, _*_, arith, needs}
+use Rattle.block_table.specs.Blocks.{shapes}
+use Rattle.block_table.proofs.Rows.{row-sound}
+use Rattle.blocks.specs.Inner.{behind, writing}
+use Rattle.blocks.proofs.Rule.{row-batch, behind-all}
+use Rattle.blocks.proofs.Pours.{Pouring, pouring-start, row-writes, batch-room, batch-poured, pouring-end, written-row}
 use Rattle.block_writer.proofs.write_blocks.Tie as tie
 
 abbrev Inv-loop : tie.InvT-loop
@@ -51,7 +47,7 @@ returns c =
     ∙ written-row (shapes (start .args .row .now)) (start .args .«data» .now) (start .args .stream .now) (start .pre .2) (start .pre .3)
     (row-sound _ _ (start .pre .1)) (λ i. omega (arith, bytes i))
 
-pub write-blocks-spec : {M : Type 1} → statement M
+pub write-blocks-spec : {M : Type 1} → Rattle.block_writer.proofs.write_blocks.Statement.statement M
 write-blocks-spec =
     tie.close (tie.spec Inv-loop μ-loop loop-holds (λ c κs. search needs) write-batch-requires
     (λ c. omega (arith, c .before .before .before .before .before .batch-of .ensures))

@@ -1,16 +1,11 @@
 -- `write_many` meets its contract: one block more in each turn. Assumes nothing.
-use mathlib.Core.Path.{refl, sym, _∙_}
-use Prim.Native.Nat.{_+_, _≤_}
-use native.Mathlib.Omega.{arith}
-use lib.ListN.{length}
+use Rattle.general.proofs.Names.{refl, sym, _∙_, _+_, _≤_, arith, length, needs}
 use Rattle.reed_solomon.proofs.Massey.{zeros}
-use Rattle.blocks.specs.Blocks.{batch}
-use Rattle.blockwise.specs.Inner.{blocksIn, writing}
-use Rattle.blockwise.proofs.Rule.{batch-fit, batch-none}
-use Rattle.blockwise.proofs.Splice.{part-kept}
-use Rattle.blockwise.proofs.Pours.{Pouring, pouring-start, pouring-end, one-room, one-next, one-written, part-length, prepared-as}
-use borrow.Author.Needs.{needs}
-use Rattle.block_writer.proofs.write_many.Statement.{statement}
+use Rattle.block_table.specs.Blocks.{batch}
+use Rattle.blocks.specs.Inner.{blocksIn, writing}
+use Rattle.blocks.proofs.Rule.{batch-fit, batch-none}
+use Rattle.blocks.proofs.Splice.{part-kept}
+use Rattle.blocks.proofs.Pours.{Pouring, pouring-start, pouring-end, one-room, one-next, one-written, part-length, prepared-as}
 use Rattle.block_writer.proofs.write_many.Tie as tie
 
 abbrev Inv-loop : tie.InvT-loop
@@ -22,9 +17,6 @@ abbrev μ-loop : tie.MeasureT-loop
 
 returns : tie.Need-returns Inv-loop μ-loop
 returns c = pouring-end (pouring-start (c .before .before .before .before .pre .1)) (batch-none _ _ _ (omega (arith, c .if1 .taken)))
-
-prepare-requires : tie.Need-prepare-requires Inv-loop μ-loop
-prepare-requires c κs = (refl, zeros 512)
 
 -- the place of a turn's block, and that of its data
 place : (c : tie.In-loop Inv-loop μ-loop) →
@@ -60,15 +52,13 @@ loop-again c =
     (part-kept (loop .into) end (copy .last .0) (write-with .last .1 .0) (omega arith) (omega (arith, place turn .0, copy .kept .0))
     (write-with .kept .1 .0) ∙ copy .kept .0)
 
-pub write-many-spec : {M : Type 1} → statement M
+pub write-many-spec : {M : Type 1} → Rattle.block_writer.proofs.write_many.Statement.statement M
 write-many-spec =
-    tie.close (tie.spec Inv-loop μ-loop returns (λ c. search needs) prepare-requires
+    tie.close (tie.spec Inv-loop μ-loop returns (λ c. search needs) (λ c κs. (refl, zeros 512))
     (λ c. pouring-start (c .before .before .before .before .before .before .before .pre .1)) (λ c. omega (arith, place (c .before)))
     (λ c. omega (arith, place (c .before))) (λ c κs. let p = place (c .before .before) in (omega (arith, p .0), p .1))
     (λ c. sym (c .before .before .before .before .before .before .before .before .before .prepare .ensures .size)) (λ c. search needs)
-    (λ c. search needs)
-    (λ c. omega (arith, place (c .before .before .before .before .before .before), c .before .before .before .copy .kept .0))
-    write-with-requires
-    (λ c. omega (arith, place (c .before .before .before .before .before .before .before .before .before .before .before)))
+    (λ c. search needs) (λ c. omega (arith, place (c .before .before .before .before .before .before), c .before .before .before .copy .kept .0))
+    write-with-requires (λ c. omega (arith, place (c .before .before .before .before .before .before .before .before .before .before .before)))
     (λ c. search needs) (λ c. search needs) loop-again (λ c. c .before .loop .inv .size)
     (λ c. pouring-end (c .before .loop .inv) (batch-none _ _ _ (c .loop-test .left))))

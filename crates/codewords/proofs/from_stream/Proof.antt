@@ -1,12 +1,7 @@
 -- `from_stream` meets its contract. Assumes nothing.
 use Rattle.codewords.proofs.Interleave.{move-first, move-last}
 use Rattle.codewords.specs.Inner.{Moves}
-use mathlib.Core.Bool.{false}
-use lib.ListN.{length, drop}
-use Prim.Native.Nat.{_-_, _≤_}
-use mathlib.Core.Path.{_≡_, refl, _∙_}
-use native.Mathlib.Omega.{arith}
-use Rattle.codewords.proofs.from_stream.Statement.{statement}
+use Rattle.general.proofs.Names.{false, length, drop, _-_, _≤_, _≡_, refl, _∙_, arith}
 use Rattle.codewords.proofs.from_stream.Tie as tie
 
 abbrev Inv-loop : tie.InvT-loop
@@ -20,9 +15,6 @@ loop-holds c =
     let start = c .before .before in
     (move-first false (start .args .total) (start .args .stream .now) (start .args .out .now) (start .pre .0) (start .pre .1) (start .pre .2), refl, omega arith, refl)
 
-collect-start-requires : tie.Need-collect-start-requires Inv-loop μ-loop
-collect-start-requires c κs = (c .before .before .loop .inv .0, c .before .loop-test .taken)
-
 loop-again : tie.Need-loop-again Inv-loop μ-loop
 loop-again c =
     let loop = c .before .before .before .before .before .loop in
@@ -32,8 +24,7 @@ loop-again c =
 returns : tie.Need-returns Inv-loop μ-loop
 returns c = move-last false (c .before .before .before .before .args .out .now) (c .before .loop .inv .0) (c .loop-test .left) (c .before .loop .inv .1)
 
-pub from-stream-spec : {M : Type 1} → statement M
+pub from-stream-spec : {M : Type 1} → Rattle.codewords.proofs.from_stream.Statement.statement M
 from-stream-spec =
-    tie.close (tie.spec Inv-loop μ-loop loop-holds collect-start-requires
-    (λ c. omega arith)
+    tie.close (tie.spec Inv-loop μ-loop loop-holds (λ c κs. (c .before .before .loop .inv .0, c .before .loop-test .taken)) (λ c. omega arith)
     (λ c. omega arith) loop-again (λ c. c .before .loop .inv .3) returns)

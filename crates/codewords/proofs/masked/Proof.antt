@@ -1,10 +1,6 @@
 -- `masked` meets its contract. Assumes nothing.
-use native.Mathlib.Nat.{mod-lt}
+use Rattle.general.proofs.Names.{mod-lt, _-_, arith, needs}
 use Rattle.codewords.proofs.Masks.{mask-zero, mask-one, mask-two, mask-three}
-use Prim.Native.Nat.{_-_}
-use native.Mathlib.Omega.{arith}
-use borrow.Author.Needs.{needs}
-use Rattle.codewords.proofs.masked.Statement.{statement}
 use Rattle.codewords.proofs.masked.Tie as tie
 
 returns : tie.Need-returns
@@ -38,7 +34,7 @@ returns-4 c =
     let start = c .before .before .before in
     (mask-three (start .args .mask) (start .args .i) (start .args .j) (omega arith) (omega arith) (omega arith), omega arith)
 
-pub masked-spec : {M : Type 1} → statement M
+pub masked-spec : {M : Type 1} → Rattle.codewords.proofs.masked.Statement.statement M
 masked-spec =
     tie.close (tie.spec returns (λ c. search needs) (λ c. search needs) returns-2 (λ c. search needs) (λ c. search needs)
     (λ c. search needs) returns-3 (λ c. search needs) (λ c. search needs) add-result-4 add-result-5 add-result-6 (λ c. search needs)

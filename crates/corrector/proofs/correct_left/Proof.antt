@@ -1,14 +1,10 @@
 -- `correct_left` meets its contract: a block of which nothing is left, and one of which something is. Assumes nothing.
-use mathlib.Core.Path.{refl, ap, _∙_}
-use Prim.Native.Nat.{ℕ}
-use native.Mathlib.Omega.{arith}
-use borrow.Author.Needs.{needs}
+use Rattle.general.proofs.Names.{refl, ap, _∙_, ℕ, arith, needs}
 use Rattle.reed_solomon.specs.Block.{nearest}
 use Rattle.reed_solomon.proofs.Fit.{fit}
 use Rattle.reed_solomon.proofs.Massey.{zeros}
 use Rattle.corrector.specs.Correct.{outcome, settled}
 use Rattle.corrector.proofs.Settle.{fit-settled, none-settled, left-as}
-use Rattle.corrector.proofs.correct_left.Statement.{statement}
 use Rattle.corrector.proofs.correct_left.Tie as tie
 
 returns : tie.Need-returns
@@ -36,7 +32,7 @@ returns-2 c =
     c .before .before .before .repair .ensures ∙ ap (λ (p : ℕ). settled (start .args .block .now) (nearest p 1 (start .args .parity) (start .args .block .now))) (c .before .before .before .before .before .before .before .before .before .before .before .han-xin .ensures .1)
     ∙ fit-settled _ _ _ _ (fit _ _ (λ e. omega arith) (fits .1) (fits .2))
 
-pub correct-left-spec : {M : Type 1} → statement M
+pub correct-left-spec : {M : Type 1} → Rattle.corrector.proofs.correct_left.Statement.statement M
 correct-left-spec =
     tie.close (tie.spec (λ c κs. search needs) returns (λ c κs. search needs) (λ c. search needs) syndromes-requires (λ c. search needs)
     repair-requires (λ c. search needs) returns-2)

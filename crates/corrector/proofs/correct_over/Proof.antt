@@ -1,13 +1,10 @@
 -- `correct_over` meets its contract: the refusals 5 in their order, a block with no error, and one with errors. Assumes nothing.
-use mathlib.Core.Path.{refl, sym, _∙_}
+use Rattle.general.proofs.Names.{refl, sym, _∙_, arith, needs}
 use Rattle.field.proofs.Entries.{the-field}
 use Rattle.corrector.specs.Correct.{outcome}
 use Rattle.corrector.proofs.Settle.{unfit-refused, fit-settled, clean-settled}
 use Rattle.reed_solomon.proofs.Fit.{unfit-parity, unfit-length, unfit-long, fit}
 use Rattle.reed_solomon.proofs.Massey.{zeros}
-use native.Mathlib.Omega.{arith}
-use borrow.Author.Needs.{needs}
-use Rattle.corrector.proofs.correct_over.Statement.{statement}
 use Rattle.corrector.proofs.correct_over.Tie as tie
 
 returns : tie.Need-returns
@@ -47,7 +44,7 @@ returns-5 c =
     let if1 = c .before .before .before .before .before .before .before .before .before .before .before .before .before .before .before .if1 in
     c .before .before .before .repair .ensures ∙ fit-settled _ _ _ _ (fit _ _ (if1 .left) (omega arith) (omega arith))
 
-pub correct-over-spec : {M : Type 1} → statement M
+pub correct-over-spec : {M : Type 1} → Rattle.corrector.proofs.correct_over.Statement.statement M
 correct-over-spec =
     tie.close (tie.spec returns returns-2 returns-3 (λ c. search needs) syndromes-requires (λ c. search needs) (λ c κs. search needs)
     (λ c. search needs) returns-4 (λ c. search needs) repair-requires (λ c. search needs) returns-5)

@@ -1,12 +1,9 @@
 -- `repair` meets its contract: it refuses where there is no codeword in reach, and else sets the block to it. Assumes nothing.
-use mathlib.Core.Path.{refl, sym, _∙_}
+use Rattle.general.proofs.Names.{refl, sym, _∙_, arith, needs}
 use Rattle.field.proofs.Entries.{the-field}
 use Rattle.corrector.specs.Correct.{outcome}
 use Rattle.reed_solomon.proofs.Massey.{zeros}
 use Rattle.corrector.proofs.Settle.{long-settled, few-settled, left-settled, repaired-settled}
-use native.Mathlib.Omega.{arith}
-use borrow.Author.Needs.{needs}
-use Rattle.corrector.proofs.repair.Statement.{statement}
 use Rattle.corrector.proofs.repair.Tie as tie
 
 locator-requires : tie.Need-locator-requires
@@ -91,7 +88,7 @@ returns-4 c =
     _ (start .pre .1 .1) _ _ (found .locator .ensures) _ _ _ (located .roots .ensures) (errors .magnitudes .ensures) (left .take-off-all .ensures)
     (sym (c .if3 .left) ∙ c .before .clean .ensures)
 
-pub repair-spec : {M : Type 1} → statement M
+pub repair-spec : {M : Type 1} → Rattle.corrector.proofs.repair.Statement.statement M
 repair-spec =
     tie.close (tie.spec (λ c. search needs) locator-requires (λ c. search needs) (λ c. search needs) returns (λ c. search needs)
     roots-requires (λ c. search needs) (λ c κs. search needs) (λ c. search needs) returns-2 (λ c. search needs) (λ c. search needs)

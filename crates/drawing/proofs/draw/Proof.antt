@@ -1,12 +1,7 @@
 -- `draw` meets its contract. Assumes nothing.
-use Rattle.blocks.proofs.Rows.{copied-more}
+use Rattle.block_table.proofs.Rows.{copied-more}
 use Rattle.drawing.specs.Puts.{patternOf}
-use lib.ListN.{length, getD, length-set}
-use mathlib.Core.Path.{_≡_, refl, _∙_}
-use Prim.Native.Nat.{ℕ, _-_, _<_, _≤_}
-use native.Mathlib.Omega.{arith}
-use borrow.Author.Needs.{needs}
-use Rattle.drawing.proofs.draw.Statement.{statement}
+use Rattle.general.proofs.Names.{length, getD, length-set, _≡_, refl, _∙_, ℕ, _-_, _<_, _≤_, arith, needs}
 use Rattle.drawing.proofs.draw.Tie as tie
 
 abbrev Inv-loop : tie.InvT-loop
@@ -14,9 +9,6 @@ Inv-loop square₀ kinds i₀ square i = (i ≤ length square₀) × (length squ
 
 abbrev μ-loop : tie.MeasureT-loop
 μ-loop square₀ kinds i₀ square i = length square₀ - i
-
-loop-holds : tie.Need-loop-holds Inv-loop μ-loop
-loop-holds c = (omega arith, refl, λ k h. absurd (omega arith))
 
 loop-again : tie.Need-loop-again Inv-loop μ-loop
 loop-again c =
@@ -27,8 +19,7 @@ loop-again c =
 returns : tie.Need-returns Inv-loop μ-loop
 returns c = let loop = c .before .loop in record { is = λ k lo hi. loop .inv .2 k (omega arith) }
 
-pub draw-spec : {M : Type 1} → statement M
+pub draw-spec : {M : Type 1} → Rattle.drawing.proofs.draw.Statement.statement M
 draw-spec =
-    tie.close (tie.spec Inv-loop μ-loop loop-holds (λ c. omega arith) (λ c κs. search needs)
-    (λ c. omega arith) (λ c. search needs) (λ c. omega arith) loop-again
-    (λ c. c .before .loop .inv .1) returns)
+    tie.close (tie.spec Inv-loop μ-loop (λ c. (omega arith, refl, λ k h. absurd (omega arith))) (λ c. omega arith) (λ c κs. search needs)
+    (λ c. omega arith) (λ c. search needs) (λ c. omega arith) loop-again (λ c. c .before .loop .inv .1) returns)

@@ -1,13 +1,7 @@
 -- `place_codewords` meets its contract. Assumes nothing.
 use Rattle.bits.specs.Bits.{bitsOf}
 use Rattle.codewords.specs.Codewords.{maskBit, placed}
-use lib.ListN.{take}
-use lib.Seq.{length-take-le}
-use mathlib.Core.Path.{sym, ap, _∙_}
-use Prim.Native.Nat.{ℕ, _*_}
-use native.Mathlib.Omega.{arith}
-use borrow.Author.Needs.{needs}
-use Rattle.drawing.proofs.place_codewords.Statement.{statement}
+use Rattle.general.proofs.Names.{take, length-take-le, sym, ap, _∙_, ℕ, _*_, arith, needs}
 use Rattle.drawing.proofs.place_codewords.Tie as tie
 
 slice-aggregate-place-all : tie.Need-slice-aggregate-place-all
@@ -28,7 +22,7 @@ returns c =
     c .before .before .place-all .ensures
     ∙ ap (λ (n : ℕ). placed (maskBit (start .args .side) (start .args .mask)) 0 (take n (start .args .kinds .now)) (bitsOf (take (start .args .total) (start .args .codewords .now)))) (sym (start .pre .0 .3))
 
-pub place-codewords-spec : {M : Type 1} → statement M
+pub place-codewords-spec : {M : Type 1} → Rattle.drawing.proofs.place_codewords.Statement.statement M
 place-codewords-spec =
     tie.close (tie.spec (λ c. search needs) slice-aggregate-place-all slice-aggregate-place-all-2 place-all-requires (λ c. search needs)
     returns)

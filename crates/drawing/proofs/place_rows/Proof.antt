@@ -6,14 +6,9 @@ use Rattle.masks.proofs.Rows.{columns-fewer, row-new}
 use Rattle.masks.specs.Columns.{Row}
 use Rattle.drawing.specs.Puts.{Placing}
 use Rattle.bits.specs.Bits.{bitsOf}
-use Rattle.blocks.specs.Blocks.{dataModules}
+use Rattle.symbol.specs.Layout.{dataModules}
 use Rattle.codewords.specs.Codewords.{maskBit, placed}
-use lib.ListN.{length, drop}
-use mathlib.Core.Path.{_≡_, refl, sym, ap, subst, _∙_}
-use Prim.Native.Nat.{ℕ, _+_, _-_, _*_, _≤_}
-use native.Mathlib.Nat.{zero-mul, mul-le-mul-left}
-use native.Mathlib.Omega.{arith}
-use Rattle.drawing.proofs.place_rows.Statement.{statement}
+use Rattle.general.proofs.Names.{length, drop, _≡_, refl, sym, ap, subst, _∙_, ℕ, _+_, _-_, _*_, _≤_, zero-mul, mul-le-mul-left, arith}
 use Rattle.drawing.proofs.place_rows.Tie as tie
 
 abbrev Inv-loop : tie.InvT-loop
@@ -78,7 +73,7 @@ returns c =
     let e : loop .i ≡ start .args .side = omega arith in
     placing-done (loop .inv .2) (omega (arith, ap (λ (n : ℕ). n * start .args .side) e))
 
-pub place-rows-spec : {M : Type 1} → statement M
+pub place-rows-spec : {M : Type 1} → Rattle.drawing.proofs.place_rows.Statement.statement M
 place-rows-spec =
     tie.close (tie.spec Inv-loop μ-loop (λ c. omega arith) (λ c. omega arith) (λ c. refl) (λ c κs. (omega arith, refl)) loop-holds
     (λ c. sym (c .before .before .loop .inv .0 .size)) (λ c. sym (c .before .before .before .before .before .columns .ensures .size))

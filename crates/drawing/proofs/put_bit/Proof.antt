@@ -1,16 +1,7 @@
 -- `put_bit` meets its contract. Assumes nothing.
 use Rattle.bits.proofs.Reading.{bit-lt}
-use lib.Bits.{bitXor}
-use lib.ListN.{set}
-use mathlib.Core.Path.{refl, ap}
-use Prim.Native.Nat.{ℕ}
-use native.Mathlib.Omega.{arith}
-use borrow.Author.Needs.{needs}
-use Rattle.drawing.proofs.put_bit.Statement.{statement}
+use Rattle.general.proofs.Names.{bitXor, set, refl, ap, ℕ, arith, needs}
 use Rattle.drawing.proofs.put_bit.Tie as tie
-
-returns : tie.Need-returns
-returns c = record { room = λ h. absurd (omega arith); full = λ h. (refl, refl) }
 
 cast-square : tie.Need-cast-square
 cast-square c = let start = c .before .before .before .before in omega (arith, bit-lt (start .args .codewords .now) (start .args .bit))
@@ -18,7 +9,7 @@ cast-square c = let start = c .before .before .before .before in omega (arith, b
 returns-2 : tie.Need-returns-2
 returns-2 c = let start = c .before .before .before .before in record { room = λ h. (refl, ap (λ (y : ℕ). set (start .args .square .now) (start .args .at) (bitXor y (start .args .inverted))) (c .bit .ensures)); full = λ h. absurd (omega arith) }
 
-pub put-bit-spec : {M : Type 1} → statement M
+pub put-bit-spec : {M : Type 1} → Rattle.drawing.proofs.put_bit.Statement.statement M
 put-bit-spec =
-    tie.close (tie.spec (λ c. search needs) returns (λ c κs. search needs) cast-square (λ c. search needs) (λ c. search needs)
-    (λ c. search needs) returns-2)
+    tie.close (tie.spec (λ c. search needs) (λ c. record { room = λ h. absurd (omega arith); full = λ h. (refl, refl) }) (λ c κs. search needs)
+    cast-square (λ c. search needs) (λ c. search needs) (λ c. search needs) returns-2)

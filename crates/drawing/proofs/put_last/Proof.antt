@@ -1,11 +1,7 @@
 -- `put_last` meets its contract. Assumes nothing.
 use Rattle.drawing.proofs.Puts.{blank-kept, puts-none, puts-on, puts-all}
 use Rattle.drawing.specs.Puts.{Blank, Puts}
-use lib.ListN.{length}
-use mathlib.Core.Path.{sym, _∙_}
-use Prim.Native.Nat.{_-_, _≤_}
-use native.Mathlib.Omega.{arith}
-use Rattle.drawing.proofs.put_last.Statement.{statement}
+use Rattle.general.proofs.Names.{length, sym, _∙_, _-_, _≤_, arith}
 use Rattle.drawing.proofs.put_last.Tie as tie
 
 abbrev Inv-loop : tie.InvT-loop
@@ -17,9 +13,6 @@ abbrev μ-loop : tie.MeasureT-loop
 loop-holds : tie.Need-loop-holds Inv-loop μ-loop
 loop-holds c = let start = c .before .before .before .before in (start .pre .0, start .pre .1, puts-none)
 
-put-one-requires : tie.Need-put-one-requires Inv-loop μ-loop
-put-one-requires c κs = (c .before .before .before .loop .inv .0, c .before .if1 .taken)
-
 loop-again : tie.Need-loop-again Inv-loop μ-loop
 loop-again c =
     let put-one = c .before .before .put-one in
@@ -28,8 +21,6 @@ loop-again c =
 same-length : tie.Need-same-length Inv-loop μ-loop
 same-length c = c .before .before .loop .inv .0 .size ∙ sym (c .before .before .before .before .before .before .before .pre .0 .size)
 
-returns : tie.Need-returns Inv-loop μ-loop
-returns c = puts-all (c .before .before .loop .inv .2) (omega arith)
-
-pub put-last-spec : {M : Type 1} → statement M
-put-last-spec = tie.close (tie.spec Inv-loop μ-loop loop-holds put-one-requires (λ c. omega arith) loop-again same-length returns)
+pub put-last-spec : {M : Type 1} → Rattle.drawing.proofs.put_last.Statement.statement M
+put-last-spec = tie.close (tie.spec Inv-loop μ-loop loop-holds (λ c κs. (c .before .before .before .loop .inv .0, c .before .if1 .taken))
+    (λ c. omega arith) loop-again same-length (λ c. puts-all (c .before .before .loop .inv .2) (omega arith)))

@@ -1,10 +1,7 @@
 -- `put_one` meets its contract. Assumes nothing.
 use Rattle.drawing.proofs.Puts.{puts-one, puts-skip}
 use Rattle.placement.proofs.Runs.{passed-one}
-use mathlib.Core.Path.{refl}
-use native.Mathlib.Omega.{arith}
-use borrow.Author.Needs.{needs}
-use Rattle.drawing.proofs.put_one.Statement.{statement}
+use Rattle.general.proofs.Names.{refl, arith, needs}
 use Rattle.drawing.proofs.put_one.Tie as tie
 
 returns : tie.Need-returns
@@ -13,7 +10,7 @@ returns c = let start = c .before .before .before .before .before .before .befor
 returns-2 : tie.Need-returns-2
 returns-2 c = let start = c .before .before .before .before .before .before in (omega arith, omega arith, puts-skip (passed-one (start .args .kinds .now) (start .args .p .column) (start .pre .1) (c .if1 .left)) refl)
 
-pub put-one-spec : {M : Type 1} → statement M
+pub put-one-spec : {M : Type 1} → Rattle.drawing.proofs.put_one.Statement.statement M
 put-one-spec =
     tie.close (tie.spec (λ c. search needs) (λ c. search needs) (λ c. search needs) (λ c κs. search needs) (λ c. search needs) returns
     (λ c. search needs) returns-2)

@@ -2,12 +2,7 @@
 use Rattle.drawing.proofs.Puts.{blank-kept, puts-none, puts-on, puts-end, placing-begun}
 use Rattle.drawing.specs.Puts.{getD₀, Blank, Puts}
 use Rattle.bits.specs.Bits.{bitsOf}
-use lib.ListN.{length, drop}
-use mathlib.Core.Path.{sym, _∙_}
-use Prim.Native.Nat.{_-_, _≤_}
-use native.Mathlib.Omega.{arith}
-use borrow.Author.Needs.{needs}
-use Rattle.drawing.proofs.put_row.Statement.{statement}
+use Rattle.general.proofs.Names.{length, drop, sym, _∙_, _-_, _≤_, arith, needs}
 use Rattle.drawing.proofs.put_row.Tie as tie
 
 abbrev Inv-loop : tie.InvT-loop
@@ -38,7 +33,7 @@ returns c =
     let start = c .before .before .before .before .before .before .before .before .before .before .before .before in
     puts-end (c .before .before .before .before .before .before .loop .inv .2) (c .before .before .put-last .ensures) .go _ _ (placing-begun (getD₀ (start .args .row .now)) (start .args .kinds .now) (start .args .square .now) (drop (start .args .bit) (bitsOf (start .args .codewords .now))) (start .pre .0 .size) (start .pre .1))
 
-pub put-row-spec : {M : Type 1} → statement M
+pub put-row-spec : {M : Type 1} → Rattle.drawing.proofs.put_row.Statement.statement M
 put-row-spec =
     tie.close (tie.spec Inv-loop μ-loop (λ c κs. search needs) loop-holds put-step-requires (λ c. omega arith) loop-again
     put-last-requires same-length returns)

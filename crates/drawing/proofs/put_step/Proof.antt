@@ -1,10 +1,7 @@
 -- `put_step` meets its contract. Assumes nothing.
 use Rattle.drawing.proofs.Puts.{puts-eight, puts-skip}
 use Rattle.placement.proofs.Runs.{passed}
-use mathlib.Core.Path.{refl}
-use native.Mathlib.Omega.{arith}
-use borrow.Author.Needs.{needs}
-use Rattle.drawing.proofs.put_step.Statement.{statement}
+use Rattle.general.proofs.Names.{refl, arith, needs}
 use Rattle.drawing.proofs.put_step.Tie as tie
 
 put-eight-requires : tie.Need-put-eight-requires
@@ -26,7 +23,7 @@ returns-4 c =
     let s = passed (start .args .kinds .now) (start .args .p .column) (λ i. omega (arith, bytes i)) (c .before .before .before .before .eight .ensures) (omega arith) (c .before .before .if3 .left) (c .before .no-data .ensures) in
     (omega arith, s .most, puts-skip s refl)
 
-pub put-step-spec : {M : Type 1} → statement M
+pub put-step-spec : {M : Type 1} → Rattle.drawing.proofs.put_step.Statement.statement M
 put-step-spec =
     tie.close (tie.spec (λ c κs. search needs) (λ c. search needs) put-eight-requires (λ c. search needs) returns put-one-requires
     (λ c. search needs) (λ c. search needs) (λ c κs. search needs) (λ c. search needs) (λ c. search needs) (λ c κs. search needs)

@@ -1,10 +1,6 @@
 -- `clear` meets its contract. Assumes nothing.
-use mathlib.Core.Path.{_≡_, refl, _∙_}
-use Prim.Native.Nat.{_-_, _≤_}
-use native.Mathlib.Omega.{arith}
-use lib.ListN.{length, length-set}
+use Rattle.general.proofs.Names.{_≡_, refl, _∙_, _-_, _≤_, arith, length, length-set}
 use Rattle.encoding.proofs.Zeros.{cleared, clear-start, clear-more, clear-end}
-use Rattle.encoding.proofs.clear.Statement.{statement}
 use Rattle.encoding.proofs.clear.Tie as tie
 
 abbrev Inv-loop : tie.InvT-loop
@@ -28,7 +24,7 @@ returns c =
     let a = c .before .before .args in
     l .inv .3 ∙ clear-end (a .buf .now) (a .from) (l .i) (omega arith)
 
-pub clear-spec : {M : Type 1} → statement M
+pub clear-spec : {M : Type 1} → Rattle.encoding.proofs.clear.Statement.statement M
 clear-spec =
     tie.close (tie.spec Inv-loop μ-loop loop-holds (λ c. omega arith) (λ c. omega arith) (λ c. omega arith) loop-again
     (λ c. c .before .loop .inv .0) returns)

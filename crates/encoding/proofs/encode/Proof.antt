@@ -1,14 +1,8 @@
 -- `encode` meets its contract. Assumes nothing.
-use mathlib.Core.Path.{_≡_, refl, _∙_}
-use Prim.Native.Nat.{_+_, _-_, _≤_}
-use native.Mathlib.Nat.{add-zero}
-use native.Mathlib.Omega.{arith}
-use borrow.Author.Needs.{needs}
-use lib.ListN.{length, take, drop}
+use Rattle.general.proofs.Names.{_≡_, refl, _∙_, _+_, _-_, _≤_, add-zero, arith, needs, length, take, drop}
 use Rattle.segments.specs.Script.{run, eci}
 use Rattle.script.specs.Inner.{commandSize}
 use Rattle.encoding.proofs.Segments.{Left, Next, begun, never-wrong, run-next, eci-next, end-room, ended}
-use Rattle.encoding.proofs.encode.Statement.{statement}
 use Rattle.encoding.proofs.encode.Tie as tie
 
 abbrev Inv-loop : tie.InvT-loop
@@ -120,7 +114,7 @@ returns-2 c =
     let l = p .before .before .before .loop in
     ended (omega arith) (l .inv .4) (p .pad .last .0) (λ k. omega (arith, c .slice-known4 .given k)) (rw (l .inv .0) at (p .pad .ensures))
 
-pub encode-spec : {M : Type 1} → statement M
+pub encode-spec : {M : Type 1} → Rattle.encoding.proofs.encode.Statement.statement M
 encode-spec =
     tie.close (tie.spec Inv-loop μ-loop loop-holds (λ c κs. omega arith) (λ c. c .match .keys1) add-end sub-write-run
     part-write-run-start part-write-run-end write-run-requires (λ c κs. search needs) (λ c. omega arith) loop-less loop-again

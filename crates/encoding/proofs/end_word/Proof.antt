@@ -1,7 +1,6 @@
 -- `end_word` meets its contract. Assumes nothing.
 use borrow.Author.Tests.{eq-eqb, ne-eqb}
 use Rattle.script.specs.Characters.{endOf}
-use Rattle.encoding.proofs.end_word.Statement.{statement}
 use Rattle.encoding.proofs.end_word.Tie as tie
 
 returns : tie.Need-returns
@@ -16,5 +15,5 @@ returns-3 : tie.Need-returns-3
 unfolding endOf
 returns-3 c = rw (ne-eqb (c .before .before .args .mode) 2 (c .before .if1 .left), ne-eqb (c .before .before .args .mode) 6 (c .if2 .left))
 
-pub end-word-spec : {M : Type 1} → statement M
+pub end-word-spec : {M : Type 1} → Rattle.encoding.proofs.end_word.Statement.statement M
 end-word-spec = tie.close (tie.spec returns returns-2 returns-3)

@@ -1,8 +1,6 @@
 -- `pad` meets its contract. Assumes nothing.
-use native.Mathlib.Omega.{arith}
-use borrow.Author.Needs.{needs}
+use Rattle.general.proofs.Names.{arith, needs}
 use Rattle.encoding.proofs.Zeros.{padded}
-use Rattle.encoding.proofs.pad.Statement.{statement}
 use Rattle.encoding.proofs.pad.Tie as tie
 
 returns : tie.Need-returns
@@ -12,7 +10,7 @@ returns c =
     let a = w .before .before .before .args in
     padded (a .buf .now) (w .write-bits .last .0) (p .clear .last .0) (a .at) (w .write-bits .kept .0) (omega arith) (w .write-bits .ensures) (p .clear .ensures)
 
-pub pad-spec : {M : Type 1} → statement M
+pub pad-spec : {M : Type 1} → Rattle.encoding.proofs.pad.Statement.statement M
 pad-spec =
     tie.close (tie.spec (λ c. search needs) (λ c κs. (omega arith, omega arith, omega arith)) (λ c. omega arith) (λ c κs. omega arith)
     (λ c. search needs) returns)

@@ -1,7 +1,6 @@
 -- `switch_word` meets its contract. Assumes nothing.
 use borrow.Author.Tests.{eq-eqb, ne-eqb}
 use Rattle.script.specs.Characters.{switchOf}
-use Rattle.encoding.proofs.switch_word.Statement.{statement}
 use Rattle.encoding.proofs.switch_word.Tie as tie
 
 returns : tie.Need-returns
@@ -12,5 +11,5 @@ returns-2 : tie.Need-returns-2
 unfolding switchOf
 returns-2 c = rw (ne-eqb (c .before .args .mode) 2 (c .if1 .left))
 
-pub switch-word-spec : {M : Type 1} → statement M
+pub switch-word-spec : {M : Type 1} → Rattle.encoding.proofs.switch_word.Statement.statement M
 switch-word-spec = tie.close (tie.spec returns returns-2)

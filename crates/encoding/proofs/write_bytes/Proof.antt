@@ -1,13 +1,7 @@
 -- `write_bytes` meets its contract. Assumes nothing.
-use mathlib.Core.Path.{_≡_, refl, _∙_}
-use mathlib.Core.List.{_∷_}
-use borrow.Author.Needs.{needs}
-use Prim.Native.Nat.{_+_, _-_, _*_, _≤_}
-use native.Mathlib.Omega.{arith}
-use lib.ListN.{length, getD, drop}
+use Rattle.general.proofs.Names.{_≡_, refl, _∙_, _∷_, needs, _+_, _-_, _*_, _≤_, arith, length, getD, drop}
 use Rattle.encoding.specs.Written.{Doing}
 use Rattle.encoding.proofs.Doing.{begun, word-room, word-done, all-done, doing-as, next-byte, no-byte}
-use Rattle.encoding.proofs.write_bytes.Statement.{statement}
 use Rattle.encoding.proofs.write_bytes.Tie as tie
 
 abbrev Inv-loop : tie.InvT-loop
@@ -48,7 +42,7 @@ returns c =
     let a = c .before .before .before .before .args in
     all-done (doing-as (no-byte (a .run .now) (l .j) (omega arith)) (l .inv .2))
 
-pub write-bytes-spec : {M : Type 1} → statement M
+pub write-bytes-spec : {M : Type 1} → Rattle.encoding.proofs.write_bytes.Statement.statement M
 write-bytes-spec =
     tie.close (tie.spec Inv-loop μ-loop loop-holds (λ c. omega arith) (λ c κs. search needs) put-requires (λ c. omega arith)
     (λ c. omega arith) loop-again (λ c. c .before .loop .inv .0) returns)

@@ -1,15 +1,8 @@
 -- `write_chars` meets its contract. Assumes nothing.
-use mathlib.Core.Path.{_≡_, refl, _∙_}
-use mathlib.Core.Bool.{true, not}
-use mathlib.Core.List.{[], _∷_}
-use Prim.Native.Nat.{_+_, _-_, _*_, _≤_}
-use native.Mathlib.Omega.{arith}
-use borrow.Author.Needs.{needs}
-use lib.ListN.{length, drop}
+use Rattle.general.proofs.Names.{_≡_, refl, _∙_, true, not, [], _∷_, _+_, _-_, _*_, _≤_, arith, needs, length, drop}
 use Rattle.script.specs.Characters.{wordsOf, hasAll, switchOf, beginsIn}
 use Rattle.encoding.specs.Written.{Doing}
 use Rattle.encoding.proofs.Doing.{Behind, begun, word-room, word-done, all-done, doing-as, same-words, other-words, never-lacking, end-words}
-use Rattle.encoding.proofs.write_chars.Statement.{statement}
 use Rattle.encoding.proofs.write_chars.Tie as tie
 
 abbrev Inv-loop : tie.InvT-loop
@@ -138,7 +131,7 @@ returns-2 c =
     let d = doing-as (end-words (a .run .now) (a .mode) (l .first) (l .j) (omega arith)) (l .inv .4) in
     rw (wd .ensures .0) at (all-done (word-done d (rw (w .end-word .ensures) at (c .before .before .put4 .ensures))))
 
-pub write-chars-spec : {M : Type 1} → statement M
+pub write-chars-spec : {M : Type 1} → Rattle.encoding.proofs.write_chars.Statement.statement M
 write-chars-spec =
     tie.close (tie.spec Inv-loop μ-loop (λ c κs. search needs) (λ c κs. search needs) loop-holds (λ c κs. omega arith)
     (λ c. c .match .keys1) put-requires (λ c. omega arith) loop-less loop-again (λ c. c .match .keys2) (λ c κs. search needs)

@@ -1,13 +1,9 @@
 -- `write_eci` meets its contract. Assumes nothing.
-use Prim.Native.Nat.{_+_, _*_, _≤_}
-use native.Mathlib.Omega.{arith}
-use lib.ListN.{length}
+use Rattle.general.proofs.Names.{_+_, _*_, _≤_, arith, length, needs}
 use Rattle.bits.proofs.Words.{length-low}
 use Rattle.script.specs.Writer.{eciBits}
 use Rattle.encoding.proofs.Doing.{written-both}
 use Rattle.encoding.proofs.Runs.{first-room, rest-room, eci-7, eci-14, eci-21}
-use borrow.Author.Needs.{needs}
-use Rattle.encoding.proofs.write_eci.Statement.{statement}
 use Rattle.encoding.proofs.write_eci.Tie as tie
 
 put-requires : tie.Need-put-requires
@@ -61,7 +57,7 @@ returns-3 c =
     let p = i .before .before .before .before in
     rw (eci-21 (p .before .before .before .args .v) (i .before .if1 .left) (i .if2 .left)) (written-both (p .put .ensures) (c .before .before .put4 .ensures))
 
-pub write-eci-spec : {M : Type 1} → statement M
+pub write-eci-spec : {M : Type 1} → Rattle.encoding.proofs.write_eci.Statement.statement M
 write-eci-spec =
     tie.close (tie.spec put-requires put-requires-2 (λ c. search needs) returns (λ c. search needs) put-requires-3 (λ c. search needs) returns-2
     (λ c. search needs) put-requires-4 (λ c. search needs) returns-3)

@@ -1,13 +1,8 @@
 -- `write_groups` meets its contract. Assumes nothing.
-use mathlib.Core.Path.{_≡_, refl, _∙_}
-use mathlib.Core.List.{[], _∷_}
-use Prim.Native.Nat.{_+_, _-_, _*_, _≤_}
-use native.Mathlib.Omega.{arith}
-use lib.ListN.{length, getD, drop}
+use Rattle.general.proofs.Names.{_≡_, refl, _∙_, [], _∷_, _+_, _-_, _*_, _≤_, arith, length, getD, drop}
 use Rattle.script.specs.Writer.{numericWords}
 use Rattle.encoding.specs.Written.{Doing}
 use Rattle.encoding.proofs.Doing.{begun, word-room, word-done, all-done, doing-as, three-digits, one-digit, two-digits, no-digit}
-use Rattle.encoding.proofs.write_groups.Statement.{statement}
 use Rattle.encoding.proofs.write_groups.Tie as tie
 
 abbrev Inv-loop : tie.InvT-loop
@@ -125,7 +120,7 @@ same-length-3 c = c .before .before .put6 .kept .0 ∙ c .before .before .before
 returns-3 : tie.Need-returns-3 Inv-loop μ-loop
 returns-3 c = all-done (word-done (none (c .before .before .before .before)) (c .before .before .put6 .ensures))
 
-pub write-groups-spec : {M : Type 1} → statement M
+pub write-groups-spec : {M : Type 1} → Rattle.encoding.proofs.write_groups.Statement.statement M
 write-groups-spec =
     tie.close (tie.spec Inv-loop μ-loop loop-holds (λ c. omega arith) (λ c κs. omega arith) put-requires (λ c. omega arith)
     (λ c. omega arith) loop-again (λ c. omega arith) (λ c κs. omega arith) put-requires-2 put-requires-3 same-length returns

@@ -1,8 +1,6 @@
 -- `write_numeric` meets its contract. Assumes nothing.
-use native.Mathlib.Omega.{arith}
-use borrow.Author.Needs.{needs}
+use Rattle.general.proofs.Names.{arith, needs}
 use Rattle.encoding.proofs.Doing.{all-left, doing-rest}
-use Rattle.encoding.proofs.write_numeric.Statement.{statement}
 use Rattle.encoding.proofs.write_numeric.Tie as tie
 
 write-groups-requires : tie.Need-write-groups-requires
@@ -15,7 +13,7 @@ returns c =
     let a = c .before .before .before .before .before .before .before .before .before .before .before .args in
     doing-rest (c .before .before .before .before .before .before .before .write-sixes .ensures) (rw (all-left (a .run .now) _) at (g .ensures))
 
-pub write-numeric-spec : {M : Type 1} → statement M
+pub write-numeric-spec : {M : Type 1} → Rattle.encoding.proofs.write_numeric.Statement.statement M
 write-numeric-spec =
     tie.close (tie.spec (λ c κs. search needs) (λ c. omega arith) (λ c. omega arith) (λ c. omega arith) (λ c. omega arith)
     write-groups-requires (λ c. search needs) returns)

@@ -1,17 +1,11 @@
 -- `write_run` meets its contract. Assumes nothing.
 use Rattle.bits.proofs.Words.{length-low}
-use mathlib.Core.Path.{_≡_, sym, _∙_}
-use mathlib.Core.List.{_++_}
-use Prim.Native.Nat.{_+_, _*_, _≤_}
-use native.Mathlib.Omega.{arith}
-use lib.ListN.{length}
+use Rattle.general.proofs.Names.{_≡_, sym, _∙_, _++_, _+_, _*_, _≤_, arith, length, needs}
 use Rattle.bits.specs.Bits.{lowBits, wordBits}
 use Rattle.script.specs.Writer.{numericWords, modeHas, modeBits}
 use Rattle.script.specs.Characters.{wordsOf, hasAll, widthOf, beginsIn}
 use Rattle.encoding.proofs.Doing.{written-both}
 use Rattle.encoding.proofs.Runs.{first-room, rest-room, word-length, numeric-bits, bytes-bits, four-bits, four-whole, char-bits}
-use borrow.Author.Needs.{needs}
-use Rattle.encoding.proofs.write_run.Statement.{statement}
 use Rattle.encoding.proofs.write_run.Tie as tie
 
 put-requires : tie.Need-put-requires
@@ -113,7 +107,7 @@ returns-4 c =
     let i = c .before .before .before .before in
     rw (chars i .0) (written-both (i .before .before .before .before .before .put .ensures) (c .before .before .write-chars .ensures))
 
-pub write-run-spec : {M : Type 1} → statement M
+pub write-run-spec : {M : Type 1} → Rattle.encoding.proofs.write_run.Statement.statement M
 write-run-spec =
     tie.close (tie.spec put-requires write-numeric-requires (λ c. search needs) returns put-requires-2 write-bytes-requires
     (λ c. search needs) returns-2 four-code-requires put-requires-3 (λ c. search needs) returns-3 write-chars-requires

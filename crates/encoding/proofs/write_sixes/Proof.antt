@@ -1,12 +1,8 @@
 -- `write_sixes` meets its contract. Assumes nothing.
-use mathlib.Core.Path.{_≡_, refl, ap, _∙_}
-use Prim.Native.Nat.{ℕ, _-_, _*_, _/_, _%_, _≤_}
-use native.Mathlib.Omega.{arith}
-use lib.ListN.{length, drop}
+use Rattle.general.proofs.Names.{_≡_, refl, ap, _∙_, ℕ, _-_, _*_, _/_, _%_, _≤_, arith, length, drop}
 use Rattle.script.specs.Writer.{numericWords}
 use Rattle.encoding.specs.Written.{Doing}
 use Rattle.encoding.proofs.Doing.{begun, two-room, two-done, doing-as, six-digits, two-words}
-use Rattle.encoding.proofs.write_sixes.Statement.{statement}
 use Rattle.encoding.proofs.write_sixes.Tie as tie
 
 abbrev Inv-loop : tie.InvT-loop
@@ -44,7 +40,7 @@ returns c =
     let e : l .j ≡ length (a .run .now) / 6 * 6 = omega arith in
     doing-as (ap (λ (k : ℕ). numericWords (drop k (a .run .now))) e) (l .inv .3)
 
-pub write-sixes-spec : {M : Type 1} → statement M
+pub write-sixes-spec : {M : Type 1} → Rattle.encoding.proofs.write_sixes.Statement.statement M
 write-sixes-spec =
     tie.close (tie.spec Inv-loop μ-loop loop-holds (λ c. omega arith) (λ c κs. omega arith) (λ c. omega arith) (λ c κs. omega arith)
     (λ c. omega arith) (λ c. omega arith) put-requires (λ c. omega arith) (λ c. omega arith) loop-again (λ c. c .before .loop .inv .0)

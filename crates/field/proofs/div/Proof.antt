@@ -1,17 +1,9 @@
 -- `div` meets its contract. Assumes nothing.
-use mathlib.Core.Path.{_∙_, ap, ap₂}
-use Prim.Native.Nat.{ℕ, _+_, _-_}
-use lib.ListN.{getD}
-use native.Mathlib.Omega.{arith}
+use Rattle.general.proofs.Names.{_∙_, ap, ap₂, ℕ, _+_, _-_, getD, arith, needs}
 use Rattle.field.specs.Field.{mul}
 use Rattle.field.specs.Table.{polyOf}
 use Rattle.field.proofs.Entries.{quotient-at}
-use borrow.Author.Needs.{needs}
-use Rattle.field.proofs.div.Statement.{statement}
 use Rattle.field.proofs.div.Tie as tie
-
-sub-power-entry : tie.Need-sub-power-entry
-sub-power-entry c = omega (arith, c .log-entry2 .ensures .2 (c .before .before .pre .1))
 
 returns : tie.Need-returns
 returns c =
@@ -22,7 +14,7 @@ returns c =
     ∙ quotient-at (c .before .before .before .args .field .now) (c .before .before .before .pre .0) (c .before .before .before .args .a)
     (c .before .before .before .args .b) (search needs) (c .before .before .before .pre .1) (search needs)
 
-pub div-spec : {M : Type 1} → statement M
+pub div-spec : {M : Type 1} → Rattle.field.proofs.div.Statement.statement M
 div-spec =
-    tie.close (tie.spec (λ c κs. search needs) (λ c κs. search needs) sub-power-entry (λ c. search needs) (λ c κs. search needs)
-    returns)
+    tie.close (tie.spec (λ c κs. search needs) (λ c κs. search needs) (λ c. omega (arith, c .log-entry2 .ensures .2 (c .before .before .pre .1)))
+    (λ c. search needs) (λ c κs. search needs) returns)

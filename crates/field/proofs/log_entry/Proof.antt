@@ -1,8 +1,6 @@
 -- `log_entry` meets its contract. Assumes nothing.
-use native.Mathlib.Omega.{arith}
+use Rattle.general.proofs.Names.{arith, needs}
 use Rattle.field.proofs.Entries.{log-le, log-pos}
-use borrow.Author.Needs.{needs}
-use Rattle.field.proofs.log_entry.Statement.{statement}
 use Rattle.field.proofs.log_entry.Tie as tie
 
 cast-result : tie.Need-cast-result
@@ -13,5 +11,5 @@ returns c =
     let start = c .before in
     (search needs, omega (arith, log-le (start .args .field .now) (start .pre) (start .args .a) (search needs)), λ p. log-pos (start .args .field .now) (start .pre) (start .args .a) p (search needs) .1)
 
-pub log-entry-spec : {M : Type 1} → statement M
+pub log-entry-spec : {M : Type 1} → Rattle.field.proofs.log_entry.Statement.statement M
 log-entry-spec = tie.close (tie.spec (λ c. search needs) (λ c. search needs) cast-result returns)

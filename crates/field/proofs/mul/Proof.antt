@@ -1,10 +1,6 @@
 -- `mul` meets its contract. Assumes nothing.
-use mathlib.Core.Path.{_∙_, ap₂}
-use Prim.Native.Nat.{ℕ, _+_}
-use lib.ListN.{getD}
+use Rattle.general.proofs.Names.{_∙_, ap₂, ℕ, _+_, getD, needs}
 use Rattle.field.proofs.Entries.{product-at}
-use borrow.Author.Needs.{needs}
-use Rattle.field.proofs.mul.Statement.{statement}
 use Rattle.field.proofs.mul.Tie as tie
 
 returns : tie.Need-returns
@@ -15,5 +11,5 @@ returns c =
     ∙ product-at (c .before .before .before .args .field .now) (c .before .before .before .pre) (c .before .before .before .args .a)
     (c .before .before .before .args .b) (search needs) (search needs)
 
-pub mul-spec : {M : Type 1} → statement M
+pub mul-spec : {M : Type 1} → Rattle.field.proofs.mul.Statement.statement M
 mul-spec = tie.close (tie.spec (λ c κs. search needs) (λ c κs. search needs) (λ c. search needs) (λ c κs. search needs) returns)

@@ -1,10 +1,6 @@
 -- `raised` meets its contract. Assumes nothing.
-use mathlib.Core.Path.{_∙_, ap}
-use Prim.Native.Nat.{ℕ, _+_}
-use lib.ListN.{getD}
+use Rattle.general.proofs.Names.{_∙_, ap, ℕ, _+_, getD, needs}
 use Rattle.field.proofs.Entries.{scaled-at}
-use borrow.Author.Needs.{needs}
-use Rattle.field.proofs.raised.Statement.{statement}
 use Rattle.field.proofs.raised.Tie as tie
 
 returns : tie.Need-returns
@@ -14,5 +10,5 @@ returns c =
     ∙ scaled-at (c .before .before .args .field .now) (c .before .before .pre .0) (c .before .before .args .a) (c .before .before .args .n)
     (search needs) (c .before .before .pre .1)
 
-pub raised-spec : {M : Type 1} → statement M
+pub raised-spec : {M : Type 1} → Rattle.field.proofs.raised.Statement.statement M
 raised-spec = tie.close (tie.spec (λ c κs. search needs) (λ c. search needs) (λ c κs. search needs) returns)

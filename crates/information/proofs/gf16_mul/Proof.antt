@@ -1,11 +1,7 @@
 -- `gf16_mul` meets its contract. Assumes nothing.
 use Rattle.information.proofs.Products.{one-more}
 use Rattle.information.specs.Information.{productFrom, gf16Mul}
-use Prim.Native.Nat.{_-_, _<_, _≤_}
-use mathlib.Core.Path.{_≡_, refl, sym, _∙_}
-use borrow.Author.Needs.{needs}
-use native.Mathlib.Omega.{arith}
-use Rattle.information.proofs.gf16_mul.Statement.{statement}
+use Rattle.general.proofs.Names.{_-_, _<_, _≤_, _≡_, refl, sym, _∙_, needs, arith}
 use Rattle.information.proofs.gf16_mul.Tie as tie
 
 abbrev Inv-loop : tie.InvT-loop
@@ -31,7 +27,7 @@ returns c =
     let loop = c .before .loop in
     let e : 4 - loop .i ≡ 0 = omega arith in let q : productFrom (4 - loop .i) (loop .p) (loop .a) (loop .b) ≡ gf16Mul (start .args .x) (start .args .y) = loop .inv .4 in (rw e at q, loop .inv .0)
 
-pub gf16-mul-spec : {M : Type 1} → statement M
+pub gf16-mul-spec : {M : Type 1} → Rattle.information.proofs.gf16_mul.Statement.statement M
 gf16-mul-spec =
     tie.close (tie.spec Inv-loop μ-loop loop-holds (λ c κs. search needs) (λ c κs. search needs) (λ c. omega arith) (λ c. omega arith)
     loop-again returns)

@@ -1,11 +1,6 @@
 -- `info_bits` meets its contract. Assumes nothing.
-use mathlib.Core.Path.{ap, sym, _∙_}
-use Prim.Native.Nat.{_≤_}
-use native.Mathlib.Omega.{arith}
-use borrow.Author.Needs.{needs}
-use borrow.Author.Tests.{not-true, not-false}
+use Rattle.general.proofs.Names.{ap, sym, _∙_, _≤_, arith, needs, not-true, not-false}
 use Rattle.information.specs.Information.{wordOf, infoData, infoBits, infoOf}
-use Rattle.information.proofs.info_bits.Statement.{statement}
 use Rattle.information.proofs.info_bits.Tie as tie
 
 returns : tie.Need-returns
@@ -21,7 +16,7 @@ returns-2 c =
     simp (sym (c .before .before .before .is-info .ensures .0) ∙ not-false _ (c .before .before .if1 .left))
     (λ i. record { number = 0; word = (c .word-of .ensures ∙ ap wordOf (c .before .wide .ensures)) i })
 
-pub info-bits-spec : {M : Type 1} → statement M
+pub info-bits-spec : {M : Type 1} → Rattle.information.proofs.info_bits.Statement.statement M
 info-bits-spec =
     tie.close (tie.spec (λ c κs. search needs) returns (λ c. omega (arith, within c)) (λ c. omega (arith, within c))
     (λ c. omega (arith, within c)) (λ c. omega (arith, within c)) (λ c. omega (arith, within c)) (λ c κs. search needs)

@@ -1,11 +1,7 @@
 -- `info_position` meets its contract. Assumes nothing.
-use mathlib.Core.Bool.{true, false}
+use Rattle.general.proofs.Names.{true, false, _-_, arith, needs}
 use Rattle.symbol.proofs.Coordinates.{square-le}
 use Rattle.information.proofs.Copies.{row-fits, first-is, second-is, first-lt, by-copy}
-use Prim.Native.Nat.{_-_}
-use native.Mathlib.Omega.{arith}
-use borrow.Author.Needs.{needs}
-use Rattle.information.proofs.info_position.Statement.{statement}
 use Rattle.information.proofs.info_position.Tie as tie
 
 mul-i : tie.Need-mul-i
@@ -45,6 +41,6 @@ returns-2 c =
     let position-column = c .before .position-column in
     (by-copy (start .args .side) (start .args .n) _ (start .args .second) false (c .if1 .left) (first-is (start .args .side) (start .args .n) (start .pre .0) (start .pre .1) (start .pre .2) (position-row .ensures) (position-column .ensures)), omega (arith, first-lt (start .args .side) (start .args .n) (start .pre .0) (start .pre .1) (start .pre .2) (position-row .ensures) (position-column .ensures)))
 
-pub info-position-spec : {M : Type 1} → statement M
+pub info-position-spec : {M : Type 1} → Rattle.information.proofs.info_position.Statement.statement M
 info-position-spec =
     tie.close (tie.spec (λ c κs. search needs) mul-i (λ c κs. search needs) add-i mul-result sub-result sub-result-2 returns returns-2)

@@ -1,11 +1,7 @@
 -- `is_info` meets its contract. Assumes nothing.
-use mathlib.Core.Path.{sym}
-use mathlib.Core.Bool.{true≢false}
-use native.Mathlib.Omega.{arith}
-use borrow.Author.Tests.{le-leb, lt-leb, leb-true}
+use Rattle.general.proofs.Names.{sym, true≢false, arith, le-leb, lt-leb, leb-true}
 use Rattle.symbol.specs.Version.{isVersion}
 use Rattle.information.specs.Information.{isInfo}
-use Rattle.information.proofs.is_info.Statement.{statement}
 use Rattle.information.proofs.is_info.Tie as tie
 
 returns : tie.Need-returns
@@ -28,5 +24,5 @@ returns-4 c = (
   λ e. (omega arith, omega arith, leb-true _ _ e),
 )
 
-pub is-info-spec : {M : Type 1} → statement M
+pub is-info-spec : {M : Type 1} → Rattle.information.proofs.is_info.Statement.statement M
 is-info-spec = tie.close (tie.spec returns returns-2 returns-3 returns-4)

@@ -1,10 +1,7 @@
 -- `nearest_info` meets its contract. Assumes nothing.
 use Rattle.information.specs.Information.{nearestOf}
 use Rattle.symbol.specs.Version.{isVersion}
-use Prim.Native.Nat.{_/_, _%_}
-use borrow.Author.Tests.{le-leb, lt-leb}
-use borrow.Author.Needs.{needs}
-use Rattle.information.proofs.nearest_info.Statement.{statement}
+use Rattle.general.proofs.Names.{_/_, _%_, le-leb, lt-leb, needs}
 use Rattle.information.proofs.nearest_info.Tie as tie
 
 returns : tie.Need-returns
@@ -22,5 +19,5 @@ returns-3 c =
     simp (le-leb _ _ (c .before .before .before .before .if1 .left), le-leb _ _ (c .before .before .before .if2 .left))
     (λ i. record { number = 0; level = best .word-is i / 4; mask = best .word-is i % 4; distance = best .at i })
 
-pub nearest-info-spec : {M : Type 1} → statement M
+pub nearest-info-spec : {M : Type 1} → Rattle.information.proofs.nearest_info.Statement.statement M
 nearest-info-spec = tie.close (tie.spec returns returns-2 (λ c κs. search needs) returns-3)

@@ -1,15 +1,10 @@
 -- `nearest_word` meets its contract. Assumes nothing.
-use lib.Bits.{bitXor}
+use Rattle.general.proofs.Names.{bitXor, ℕ, _+_, _-_, _≤_, _≡_, refl, ap, subst, _∙_, arith, needs}
 use lib.Count.{ones}
 use Rattle.information.proofs.Products.{least-more}
 use Rattle.information.proofs.Apart.{first-word, distance-at}
 use Rattle.information.specs.Inner.{Found, differences}
 use Rattle.information.specs.Information.{wordDistance, leastOf, nearestWord}
-use Prim.Native.Nat.{ℕ, _+_, _-_, _≤_}
-use mathlib.Core.Path.{_≡_, refl, ap, subst, _∙_}
-use native.Mathlib.Omega.{arith}
-use borrow.Author.Needs.{needs}
-use Rattle.information.proofs.nearest_word.Statement.{statement}
 use Rattle.information.proofs.nearest_word.Tie as tie
 
 abbrev Inv-loop : tie.InvT-loop
@@ -41,7 +36,7 @@ returns c =
     let loop = c .before .loop in
     let e : loop .k ≡ 15 = omega arith in subst (λ (n : ℕ). Found (wordDistance (start .args .version) (start .args .first) (start .args .second)) (leastOf (wordDistance (start .args .version) (start .args .first) (start .args .second)) n) (loop .best)) e (loop .inv .1)
 
-pub nearest-word-spec : {M : Type 1} → statement M
+pub nearest-word-spec : {M : Type 1} → Rattle.information.proofs.nearest_word.Statement.statement M
 nearest-word-spec =
     tie.close (tie.spec Inv-loop μ-loop (λ c. omega arith) (λ c. omega arith) (λ c κs. search needs)
     (λ c κs. omega arith) (λ c κs. search needs) loop-holds (λ c. omega arith) (λ c. omega arith) (λ c. omega arith)

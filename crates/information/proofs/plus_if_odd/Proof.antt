@@ -1,9 +1,6 @@
 -- `plus_if_odd` meets its contract. Assumes nothing.
-use lib.Bits.{xor-lt}
+use Rattle.general.proofs.Names.{xor-lt, _-_, eq-eqb, ne-eqb}
 use Rattle.information.specs.Information.{plusIfOdd}
-use Prim.Native.Nat.{_-_}
-use borrow.Author.Tests.{eq-eqb, ne-eqb}
-use Rattle.information.proofs.plus_if_odd.Statement.{statement}
 use Rattle.information.proofs.plus_if_odd.Tie as tie
 
 returns : tie.Need-returns
@@ -14,5 +11,5 @@ returns-2 : tie.Need-returns-2
 unfolding plusIfOdd
 returns-2 c = (simp (ne-eqb _ _ (c .if1 .left)), c .before .pre .0)
 
-pub plus-if-odd-spec : {M : Type 1} → statement M
+pub plus-if-odd-spec : {M : Type 1} → Rattle.information.proofs.plus_if_odd.Statement.statement M
 plus-if-odd-spec = tie.close (tie.spec returns returns-2)

@@ -1,9 +1,6 @@
 -- `position_column` meets its contract. Assumes nothing.
 use Rattle.information.specs.Information.{positionColumn}
-use Prim.Native.Nat.{_-_}
-use borrow.Author.Tests.{lt-ltb, le-ltb}
-use borrow.Author.Needs.{needs}
-use Rattle.information.proofs.position_column.Statement.{statement}
+use Rattle.general.proofs.Names.{_-_, lt-ltb, le-ltb, needs}
 use Rattle.information.proofs.position_column.Tie as tie
 
 returns : tie.Need-returns
@@ -22,7 +19,7 @@ returns-4 : tie.Need-returns-4
 unfolding positionColumn
 returns-4 c = simp (le-ltb _ _ (c .before .before .if1 .left), le-ltb _ _ (c .before .if2 .left), le-ltb _ _ (c .if3 .left))
 
-pub position-column-spec : {M : Type 1} → statement M
+pub position-column-spec : {M : Type 1} → Rattle.information.proofs.position_column.Statement.statement M
 position-column-spec =
     tie.close (tie.spec returns returns-2 (λ c. search needs) returns-3 (λ c. search needs) (λ c. search needs) (λ c. search needs)
     returns-4)

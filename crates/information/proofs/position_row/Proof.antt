@@ -1,9 +1,6 @@
 -- `position_row` meets its contract. Assumes nothing.
 use Rattle.information.specs.Information.{positionRow}
-use Prim.Native.Nat.{_-_}
-use borrow.Author.Tests.{lt-ltb, le-ltb}
-use borrow.Author.Needs.{needs}
-use Rattle.information.proofs.position_row.Statement.{statement}
+use Rattle.general.proofs.Names.{_-_, lt-ltb, le-ltb, needs}
 use Rattle.information.proofs.position_row.Tie as tie
 
 returns : tie.Need-returns
@@ -22,5 +19,5 @@ returns-4 : tie.Need-returns-4
 unfolding positionRow
 returns-4 c = simp (le-ltb _ _ (c .before .before .if1 .left), le-ltb _ _ (c .before .if2 .left), le-ltb _ _ (c .if3 .left))
 
-pub position-row-spec : {M : Type 1} → statement M
+pub position-row-spec : {M : Type 1} → Rattle.information.proofs.position_row.Statement.statement M
 position-row-spec = tie.close (tie.spec returns (λ c. search needs) returns-2 returns-3 returns-4)

@@ -1,13 +1,8 @@
 -- `read_arm` meets its contract. Assumes nothing.
-use lib.ListN.{getD}
+use Rattle.general.proofs.Names.{getD, ℕ, _-_, _≤_, _≡_, ap, _∙_, needs, arith}
 use Rattle.information.proofs.Copies.{number-small, number-more}
 use Rattle.information.specs.Information.{infoPosition}
 use Rattle.information.specs.Inner.{moduleOf, numberFrom}
-use Prim.Native.Nat.{ℕ, _-_, _≤_}
-use mathlib.Core.Path.{_≡_, ap, _∙_}
-use borrow.Author.Needs.{needs}
-use native.Mathlib.Omega.{arith}
-use Rattle.information.proofs.read_arm.Statement.{statement}
 use Rattle.information.proofs.read_arm.Tie as tie
 
 abbrev Inv-loop : tie.InvT-loop
@@ -15,9 +10,6 @@ Inv-loop square side second word from to w₀ n₀ w n = (n ≤ to) × (w ≡ nu
 
 abbrev μ-loop : tie.MeasureT-loop
 μ-loop square side second word from to w₀ n₀ w n = to - n
-
-loop-holds : tie.Need-loop-holds Inv-loop μ-loop
-loop-holds c = (c .before .pre .4, c .before .pre .6)
 
 info-position-requires : tie.Need-info-position-requires Inv-loop μ-loop
 info-position-requires c κs = (c .before .before .before .pre .0, c .before .before .before .pre .1, omega arith)
@@ -46,7 +38,7 @@ returns c =
     let loop = c .before .loop in
     loop .inv .1 ∙ ap (numberFrom (moduleOf (start .args .side) (start .args .second) (start .args .square .now))) (let e : loop .n ≡ start .args .to = omega arith in e)
 
-pub read-arm-spec : {M : Type 1} → statement M
+pub read-arm-spec : {M : Type 1} → Rattle.information.proofs.read_arm.Statement.statement M
 read-arm-spec =
-    tie.close (tie.spec Inv-loop μ-loop loop-holds info-position-requires mul-w (λ c. omega arith) (λ c κs. search needs) add-w
-    (λ c. omega arith) (λ c. omega arith) loop-again returns)
+    tie.close (tie.spec Inv-loop μ-loop (λ c. (c .before .pre .4, c .before .pre .6)) info-position-requires mul-w (λ c. omega arith)
+    (λ c κs. search needs) add-w (λ c. omega arith) (λ c. omega arith) loop-again returns)

@@ -1,11 +1,7 @@
 -- `write_arm` meets its contract. Assumes nothing.
-use lib.ListN.{length, length-set}
+use Rattle.general.proofs.Names.{length, length-set, ℕ, _-_, _≤_, _≡_, refl, subst, _∙_, arith}
 use Rattle.information.proofs.Copies.{write-more}
 use Rattle.information.specs.Inner.{ArmWritten}
-use Prim.Native.Nat.{ℕ, _-_, _≤_}
-use mathlib.Core.Path.{_≡_, refl, subst, _∙_}
-use native.Mathlib.Omega.{arith}
-use Rattle.information.proofs.write_arm.Statement.{statement}
 use Rattle.information.proofs.write_arm.Tie as tie
 
 abbrev Inv-loop : tie.InvT-loop
@@ -13,9 +9,6 @@ Inv-loop square₀ side second word from to n₀ square n = (n ≤ to) × ArmWri
 
 abbrev μ-loop : tie.MeasureT-loop
 μ-loop square₀ side second word from to n₀ square n = to - n
-
-loop-holds : tie.Need-loop-holds Inv-loop μ-loop
-loop-holds c = (omega arith, record { is = λ g e. e }, refl)
 
 info-position-requires : tie.Need-info-position-requires Inv-loop μ-loop
 info-position-requires c κs = (c .before .before .before .pre .0, c .before .before .before .pre .1, omega arith)
@@ -34,7 +27,7 @@ returns c =
     let n : loop .n ≡ start .args .to = omega arith in
     subst (λ (k : ℕ). ArmWritten (start .args .side) (start .args .second) (start .args .word) (start .args .from) k (start .args .square .now) (loop .square)) n (loop .inv .1)
 
-pub write-arm-spec : {M : Type 1} → statement M
+pub write-arm-spec : {M : Type 1} → Rattle.information.proofs.write_arm.Statement.statement M
 write-arm-spec =
-    tie.close (tie.spec Inv-loop μ-loop loop-holds info-position-requires (λ c κs. omega arith) (λ c. omega arith) (λ c. omega arith)
-    (λ c. omega arith) loop-again (λ c. c .before .loop .inv .2) returns)
+    tie.close (tie.spec Inv-loop μ-loop (λ c. (omega arith, record { is = λ g e. e }, refl)) info-position-requires (λ c κs. omega arith)
+    (λ c. omega arith) (λ c. omega arith) (λ c. omega arith) loop-again (λ c. c .before .loop .inv .2) returns)

@@ -1,11 +1,6 @@
 -- `write_info` meets its contract. Assumes nothing.
-use Prim.Native.Nat.{ℕ}
-use mathlib.Core.Path.{ap, _∙_}
-use mathlib.Core.Bool.{true}
-use mathlib.Core.List.{List}
+use Rattle.general.proofs.Names.{ℕ, ap, _∙_, true, List, needs}
 use Rattle.information.specs.Information.{copyWritten, infoWritten}
-use borrow.Author.Needs.{needs}
-use Rattle.information.proofs.write_info.Statement.{statement}
 use Rattle.information.proofs.write_info.Tie as tie
 
 returns : tie.Need-returns
@@ -15,5 +10,5 @@ returns c =
     let write-copy = c .before .before .before .before .before .before .write-copy in
     c .before .before .write-copy2 .ensures ∙ ap (λ (g : List ℕ). copyWritten (start .args .side) true (start .args .word) g) (write-copy .ensures)
 
-pub write-info-spec : {M : Type 1} → statement M
+pub write-info-spec : {M : Type 1} → Rattle.information.proofs.write_info.Statement.statement M
 write-info-spec = tie.close (tie.spec (λ c κs. search needs) (λ c κs. search needs) (λ c. search needs) returns)

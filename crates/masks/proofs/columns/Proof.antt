@@ -1,12 +1,7 @@
 -- `columns` meets its contract. Assumes nothing.
 use Rattle.masks.proofs.Rows.{columns-start, columns-none, columns-next}
 use Rattle.masks.specs.Columns.{Columns}
-use mathlib.Core.Path.{_≡_, refl, sym, subst, _∙_}
-use Prim.Native.Nat.{ℕ, _+_, _-_, _≤_}
-use lib.ListN.{set, length-set}
-use native.Mathlib.Omega.{arith}
-use borrow.Author.Needs.{needs}
-use Rattle.masks.proofs.columns.Statement.{statement}
+use Rattle.general.proofs.Names.{_≡_, refl, sym, subst, _∙_, ℕ, _+_, _-_, _≤_, set, length-set, arith, needs}
 use Rattle.masks.proofs.columns.Tie as tie
 
 abbrev Inv-loop : tie.InvT-loop
@@ -15,15 +10,9 @@ Inv-loop table₀ n mask c₀ table c = Columns mask c table × (c ≤ n)
 abbrev μ-loop : tie.MeasureT-loop
 μ-loop table₀ n mask c₀ table c = n - c
 
-returns : tie.Need-returns Inv-loop μ-loop
-returns c = columns-none (c .if1 .taken) (c .before .before .pre .1)
-
 fill-rows-requires : tie.Need-fill-rows-requires Inv-loop μ-loop
 fill-rows-requires c κs =
     let start = c .before .before .before .before in (start .pre .0, start .pre .1, omega arith, c .before .if2 .taken)
-
-loop-holds : tie.Need-loop-holds Inv-loop μ-loop
-loop-holds c = (columns-start (c .before .before .before .pre .1), omega arith)
 
 slice-write-table-2 : tie.Need-slice-write-table-2 Inv-loop μ-loop
 slice-write-table-2 c = let loop = c .before .before .before .loop in omega (arith, length-set (loop .table) (192 + loop .c) (c .before .factor .result))
@@ -47,9 +36,10 @@ returns-3 c =
     let start = c .before .before .before .before .before in
     let e : loop .c ≡ start .args .n = omega arith in subst (λ (k : ℕ). Columns (start .args .mask) k (loop .table)) e (loop .inv .0)
 
-pub columns-spec : {M : Type 1} → statement M
+pub columns-spec : {M : Type 1} → Rattle.masks.proofs.columns.Statement.statement M
 columns-spec =
-    tie.close (tie.spec Inv-loop μ-loop returns fill-rows-requires (λ c. search needs) (λ c. c .before .before .fill-rows .ensures)
-    loop-holds (λ c. omega arith) (λ c κs. (omega arith, omega arith)) (λ c. omega arith) (λ c. omega arith) (λ c. omega arith)
-    (λ c. omega arith) (λ c κs. omega arith) (λ c. omega arith) (λ c. omega arith) slice-write-table-2 (λ c. omega arith)
-    (λ c. omega arith) (λ c. omega arith) slice-write-table-3 (λ c. omega arith) (λ c. omega arith) loop-again same-length-2 returns-3)
+    tie.close (tie.spec Inv-loop μ-loop (λ c. columns-none (c .if1 .taken) (c .before .before .pre .1)) fill-rows-requires (λ c. search needs)
+    (λ c. c .before .before .fill-rows .ensures) (λ c. (columns-start (c .before .before .before .pre .1), omega arith)) (λ c. omega arith)
+    (λ c κs. (omega arith, omega arith)) (λ c. omega arith) (λ c. omega arith) (λ c. omega arith) (λ c. omega arith) (λ c κs. omega arith)
+    (λ c. omega arith) (λ c. omega arith) slice-write-table-2 (λ c. omega arith) (λ c. omega arith) (λ c. omega arith) slice-write-table-3
+    (λ c. omega arith) (λ c. omega arith) loop-again same-length-2 returns-3)

@@ -1,9 +1,6 @@
 -- `copy_row` meets its contract. Assumes nothing.
 use Rattle.masks.proofs.Rows.{Filling, filling-start, filling-next, bit-copied}
-use mathlib.Core.Path.{sym, _∙_}
-use Prim.Native.Nat.{_-_}
-use native.Mathlib.Omega.{arith}
-use Rattle.masks.proofs.copy_row.Statement.{statement}
+use Rattle.general.proofs.Names.{sym, _∙_, _-_, arith}
 use Rattle.masks.proofs.copy_row.Tie as tie
 
 abbrev Inv-loop : tie.InvT-loop
@@ -14,9 +11,6 @@ abbrev μ-loop : tie.MeasureT-loop
 
 section-requires : tie.Need-section-requires Inv-loop μ-loop
 section-requires c κs = let start = c .before .before in (start .pre .0, start .pre .1)
-
-loop-holds : tie.Need-loop-holds Inv-loop μ-loop
-loop-holds c = filling-start (c .before .before .before .pre .4)
 
 cast-row : tie.Need-cast-row Inv-loop μ-loop
 cast-row c =
@@ -37,8 +31,8 @@ same-length c = c .before .loop .inv .row-is .size ∙ sym (c .before .before .b
 returns : tie.Need-returns Inv-loop μ-loop
 returns c = let loop = c .before .loop in (loop .inv .row-is, λ k hi. loop .inv .done k (omega arith))
 
-pub copy-row-spec : {M : Type 1} → statement M
+pub copy-row-spec : {M : Type 1} → Rattle.masks.proofs.copy_row.Statement.statement M
 copy-row-spec =
-    tie.close (tie.spec Inv-loop μ-loop section-requires (λ c. omega (arith, c .section .ensures .0)) loop-holds (λ c. omega arith)
-    (λ c. omega arith) (λ c. omega arith) cast-row (λ c. omega arith) (λ c. omega arith) (λ c. omega arith) loop-again same-length
-    returns)
+    tie.close (tie.spec Inv-loop μ-loop section-requires (λ c. omega (arith, c .section .ensures .0))
+    (λ c. filling-start (c .before .before .before .pre .4)) (λ c. omega arith) (λ c. omega arith) (λ c. omega arith) cast-row (λ c. omega arith)
+    (λ c. omega arith) (λ c. omega arith) loop-again same-length returns)

@@ -1,11 +1,7 @@
 -- `fill_rows` meets its contract. Assumes nothing.
 use Rattle.masks.proofs.Rows.{columns-start, rows-next}
 use Rattle.masks.specs.Columns.{Columns}
-use mathlib.Core.Path.{_≡_, sym, subst, _∙_}
-use Prim.Native.Nat.{ℕ, _+_, _-_, _≤_}
-use lib.ListN.{set, length-set}
-use native.Mathlib.Omega.{arith}
-use Rattle.masks.proofs.fill_rows.Statement.{statement}
+use Rattle.general.proofs.Names.{_≡_, sym, subst, _∙_, ℕ, _+_, _-_, _≤_, set, length-set, arith}
 use Rattle.masks.proofs.fill_rows.Tie as tie
 
 abbrev Inv-loop : tie.InvT-loop
@@ -13,9 +9,6 @@ Inv-loop table₀ n mask c₀ table c = Columns mask c table × (c ≤ n)
 
 abbrev μ-loop : tie.MeasureT-loop
 μ-loop table₀ n mask c₀ table c = n - c
-
-loop-holds : tie.Need-loop-holds Inv-loop μ-loop
-loop-holds c = (columns-start (c .before .pre .1), omega arith)
 
 inverts-low-requires : tie.Need-inverts-low-requires Inv-loop μ-loop
 inverts-low-requires c κs = let start = c .before .before .before in (start .pre .2, start .pre .3, omega arith, omega arith)
@@ -41,18 +34,15 @@ loop-again c =
     let start = c .before .before .before .before .before .before in
     (rows-next _ _ _ (loop .inv .0) (omega arith) (start .pre .3) (c .inverts-low3 .ensures) (c .before .before .inverts-low .ensures) (c .before .inverts-low2 .ensures), omega arith)
 
-same-length : tie.Need-same-length Inv-loop μ-loop
-same-length c = c .before .loop .inv .0 .size ∙ sym (c .before .before .before .pre .1)
-
 returns : tie.Need-returns Inv-loop μ-loop
 returns c =
     let loop = c .before .loop in
     let start = c .before .before .before in
     let e : loop .c ≡ start .args .n = omega arith in subst (λ (k : ℕ). Columns (start .args .mask) k (loop .table)) e (loop .inv .0)
 
-pub fill-rows-spec : {M : Type 1} → statement M
+pub fill-rows-spec : {M : Type 1} → Rattle.masks.proofs.fill_rows.Statement.statement M
 fill-rows-spec =
-    tie.close (tie.spec Inv-loop μ-loop loop-holds (λ c. omega (arith, c .before .before .before .pre .0)) inverts-low-requires
-    (λ c. omega arith) (λ c. omega arith) (λ c. omega arith) inverts-low-requires-2 (λ c. omega arith) (λ c. omega arith)
-    slice-write-table-2 inverts-low-requires-3 (λ c. omega arith) slice-write-table-3 (λ c. omega arith) (λ c. omega arith) loop-again
-    same-length returns)
+    tie.close (tie.spec Inv-loop μ-loop (λ c. (columns-start (c .before .pre .1), omega arith))
+    (λ c. omega (arith, c .before .before .before .pre .0)) inverts-low-requires (λ c. omega arith) (λ c. omega arith) (λ c. omega arith)
+    inverts-low-requires-2 (λ c. omega arith) (λ c. omega arith) slice-write-table-2 inverts-low-requires-3 (λ c. omega arith) slice-write-table-3
+    (λ c. omega arith) (λ c. omega arith) loop-again (λ c. c .before .loop .inv .0 .size ∙ sym (c .before .before .before .pre .1)) returns)

@@ -1,10 +1,6 @@
 -- `mask_row` meets its contract. Assumes nothing.
 use Rattle.masks.proofs.Rows.{Filling, filling-start, filling-next, row-none, mask-above}
-use mathlib.Core.Path.{sym, _∙_}
-use Prim.Native.Nat.{_-_, _<_}
-use native.Mathlib.Omega.{arith}
-use borrow.Author.Needs.{needs}
-use Rattle.masks.proofs.mask_row.Statement.{statement}
+use Rattle.general.proofs.Names.{sym, _∙_, _-_, _<_, arith, needs}
 use Rattle.masks.proofs.mask_row.Tie as tie
 
 abbrev Inv-loop : tie.InvT-loop
@@ -19,9 +15,6 @@ returns c = let start = c .before .before .before in (start .pre .4, λ k hi. ro
 copy-row-requires : tie.Need-copy-row-requires Inv-loop μ-loop
 copy-row-requires c κs =
     let start = c .before .before .before .before .before in (omega arith, c .before .if2 .taken, start .pre .1, start .pre .3, start .pre .4)
-
-loop-holds : tie.Need-loop-holds Inv-loop μ-loop
-loop-holds c = filling-start (c .before .before .before .before .pre .4)
 
 inverts-three-requires : tie.Need-inverts-three-requires Inv-loop μ-loop
 inverts-three-requires c κs =
@@ -41,7 +34,8 @@ same-length-2 c = c .before .loop .inv .row-is .size ∙ sym (c .before .before 
 returns-3 : tie.Need-returns-3 Inv-loop μ-loop
 returns-3 c = let loop = c .before .loop in (loop .inv .row-is, λ k hi. loop .inv .done k (omega arith))
 
-pub mask-row-spec : {M : Type 1} → statement M
+pub mask-row-spec : {M : Type 1} → Rattle.masks.proofs.mask_row.Statement.statement M
 mask-row-spec =
     tie.close (tie.spec Inv-loop μ-loop returns copy-row-requires (λ c. search needs) (λ c. c .before .before .copy-row .ensures)
-    loop-holds inverts-three-requires (λ c. omega arith) (λ c. omega arith) (λ c. omega arith) loop-again same-length-2 returns-3)
+    (λ c. filling-start (c .before .before .before .before .pre .4)) inverts-three-requires (λ c. omega arith) (λ c. omega arith) (λ c. omega arith)
+    loop-again same-length-2 returns-3)

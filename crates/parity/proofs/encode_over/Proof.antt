@@ -3,9 +3,7 @@ use Rattle.parity.specs.Encode.{encoding}
 use Rattle.parity.proofs.Remainder.{generator-end, generator-monic}
 use Rattle.parity.proofs.Fit.{unfit-refused, fit-written}
 use Rattle.reed_solomon.proofs.Fit.{unfit-parity, unfit-length, unfit-long, fit}
-use native.Mathlib.Omega.{arith}
-use borrow.Author.Needs.{needs}
-use Rattle.parity.proofs.encode_over.Statement.{statement}
+use Rattle.general.proofs.Names.{arith, needs}
 use Rattle.parity.proofs.encode_over.Tie as tie
 
 returns : tie.Need-returns
@@ -38,7 +36,7 @@ returns-4 c =
     (omega arith) _
     (c .before .before .write-parity .ensures _ (generator-end _ _ _ _ _ (generator .ensures .1) (omega arith) (omega arith)))
 
-pub encode-over-spec : {M : Type 1} → statement M
+pub encode-over-spec : {M : Type 1} → Rattle.parity.proofs.encode_over.Statement.statement M
 encode-over-spec =
     tie.close (tie.spec returns returns-2 returns-3 (λ c κs. search needs) (λ c. search needs) (λ c. search needs) write-parity-requires
     (λ c. search needs) returns-4)

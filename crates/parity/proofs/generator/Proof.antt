@@ -1,16 +1,11 @@
 -- `generator` meets its contract: one root more in each turn. Assumes nothing.
-use mathlib.Core.Path.{_≡_, refl, sym, _∙_}
-use Prim.Native.Nat.{_≤_, _-_}
-use lib.ListN.{length, replicate}
+use Rattle.general.proofs.Names.{_≡_, refl, sym, _∙_, _≤_, _-_, length, replicate, needs, arith}
 use Rattle.field.specs.Table.{polyOf}
 use Rattle.field.proofs.Entries.{the-field}
 use Rattle.reed_solomon.specs.Sum.{seq}
 use Rattle.reed_solomon.proofs.Massey.{zeros, one-first}
 use Rattle.parity.specs.Inner.{Generator}
 use Rattle.parity.proofs.Remainder.{generator-start, multiplied, generator-end}
-use borrow.Author.Needs.{needs}
-use native.Mathlib.Omega.{arith}
-use Rattle.parity.proofs.generator.Statement.{statement}
 use Rattle.parity.proofs.generator.Tie as tie
 
 abbrev Inv-loop : tie.InvT-loop
@@ -36,7 +31,7 @@ loop-again c =
 returns : tie.Need-returns Inv-loop μ-loop
 returns c = (c .before .loop .inv .0, generator-end _ _ _ _ _ (c .before .loop .inv .1) (c .before .loop .inv .2) (omega arith))
 
-pub generator-spec : {M : Type 1} → statement M
+pub generator-spec : {M : Type 1} → Rattle.parity.proofs.generator.Statement.statement M
 generator-spec =
     tie.close (tie.spec Inv-loop μ-loop (λ c. search needs) loop-holds (λ c. search needs) (λ c κs. search needs)
     (λ c. sym (c .before .before .before .loop .inv .0)) (λ c. sym (c .before .before .before .before .loop .inv .0))

@@ -1,12 +1,5 @@
 -- `is_parity` meets its contract. Assumes nothing.
-use mathlib.Core.Path.{_≡_}
-use mathlib.Core.Bool.{false≢true}
-use Prim.Native.Nat.{ℕ, _-_, _≤_, _<_}
-use native.Mathlib.Omega.{arith}
-use native.Mathlib.Decide.{decLt}
-use borrow.Author.Needs.{needs}
-use lib.ListN.{getD}
-use Rattle.parity.proofs.is_parity.Statement.{statement}
+use Rattle.general.proofs.Names.{_≡_, false≢true, ℕ, _-_, _≤_, _<_, arith, decLt, needs, getD}
 use Rattle.parity.proofs.is_parity.Tie as tie
 
 abbrev Inv-loop : tie.InvT-loop
@@ -14,9 +7,6 @@ Inv-loop b parity i₀ i = (parity ≤ i) × (i ≤ 32) × ((k : ℕ) → parity
 
 abbrev μ-loop : tie.MeasureT-loop
 μ-loop b parity i₀ i = 32 - i
-
-loop-holds : tie.Need-loop-holds Inv-loop μ-loop
-loop-holds c = (omega arith, omega arith, λ k h l. absurd (omega arith))
 
 loop-again : tie.Need-loop-again Inv-loop μ-loop
 loop-again c =
@@ -34,8 +24,8 @@ returns-5 c =
     let loop = c .before .loop in
     λ e. ((omega arith, omega arith, omega arith), λ i h l. loop .inv .2 i h (omega arith))
 
-pub is-parity-spec : {M : Type 1} → statement M
+pub is-parity-spec : {M : Type 1} → Rattle.parity.proofs.is_parity.Statement.statement M
 is-parity-spec =
-    tie.close (tie.spec Inv-loop μ-loop (λ c. λ e. absurd (false≢true e)) (λ c. λ e. absurd (false≢true e))
-    (λ c. λ e. absurd (false≢true e)) loop-holds (λ c. search needs) (λ c. λ e. absurd (false≢true e)) (λ c. search needs)
+    tie.close (tie.spec Inv-loop μ-loop (λ c. λ e. absurd (false≢true e)) (λ c. λ e. absurd (false≢true e)) (λ c. λ e. absurd (false≢true e))
+    (λ c. (omega arith, omega arith, λ k h l. absurd (omega arith))) (λ c. search needs) (λ c. λ e. absurd (false≢true e)) (λ c. search needs)
     (λ c. search needs) loop-again returns-5)

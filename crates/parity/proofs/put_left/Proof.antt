@@ -1,11 +1,7 @@
 -- `put_left` meets its contract: what is left stands behind the data where it passes the test, and nothing changes where it does not.
 -- Assumes nothing.
-use mathlib.Core.Path.{refl, sym}
-use mathlib.Core.Bool.{false≢true}
-use native.Mathlib.Omega.{arith}
-use borrow.Author.Needs.{needs}
+use Rattle.general.proofs.Names.{refl, sym, false≢true, arith, needs}
 use Rattle.parity.proofs.Left.{left-written}
-use Rattle.parity.proofs.put_left.Statement.{statement}
 use Rattle.parity.proofs.put_left.Tie as tie
 
 put-behind-requires : tie.Need-put-behind-requires
@@ -24,10 +20,7 @@ returns c =
       λ e. absurd (false≢true (sym e)),
     )
 
-returns-2 : tie.Need-returns-2
-returns-2 c = (λ e. absurd (false≢true e), λ _. refl)
-
-pub put-left-spec : {M : Type 1} → statement M
+pub put-left-spec : {M : Type 1} → Rattle.parity.proofs.put_left.Statement.statement M
 put-left-spec =
-    tie.close (tie.spec (λ c κs. search needs) (λ c. search needs) (λ c κs. search needs) put-behind-requires (λ c. search needs)
-    returns returns-2)
+    tie.close (tie.spec (λ c κs. search needs) (λ c. search needs) (λ c κs. search needs) put-behind-requires (λ c. search needs) returns
+    (λ c. (λ e. absurd (false≢true e), λ _. refl)))

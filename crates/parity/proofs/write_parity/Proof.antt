@@ -1,9 +1,7 @@
 -- `write_parity` meets its contract: the data and zeros are divided, and the rest stands behind the data. Assumes nothing.
 use Rattle.field.proofs.Entries.{the-field}
 use Rattle.parity.proofs.Followed.{written}
-use native.Mathlib.Omega.{arith}
-use borrow.Author.Needs.{needs}
-use Rattle.parity.proofs.write_parity.Statement.{statement}
+use Rattle.general.proofs.Names.{arith, needs}
 use Rattle.parity.proofs.write_parity.Tie as tie
 
 divide-requires : tie.Need-divide-requires
@@ -20,7 +18,7 @@ returns c =
     written _ (the-field _ (start .pre .0)) (start .args .k) (start .args .block .now) _ _ _ _ (λ i. omega (arith, slice-known .given i)) (start .pre .1 .0 .1) (start .pre .1 .0 .0)
     (copy .ensures) (divide .ensures .1) (c .before .before .copy2 .ensures)
 
-pub write-parity-spec : {M : Type 1} → statement M
+pub write-parity-spec : {M : Type 1} → Rattle.parity.proofs.write_parity.Statement.statement M
 write-parity-spec =
     tie.close (tie.spec (λ c. search needs) (λ c κs. search needs) (λ c. search needs) (λ c. search needs) divide-requires
     (λ c. search needs) (λ c κs. search needs) (λ c. search needs) returns)

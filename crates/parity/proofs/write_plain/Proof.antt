@@ -1,11 +1,6 @@
 -- `write_plain` meets its contract: the generator is that of the field and of the parity. Assumes nothing.
-use mathlib.Core.Path.{ap, _∙_}
-use Prim.Native.Nat.{ℕ, _-_}
-use native.Mathlib.Omega.{arith}
-use borrow.Author.Needs.{needs}
-use lib.ListN.{length}
+use Rattle.general.proofs.Names.{ap, _∙_, ℕ, _-_, arith, needs, length}
 use Rattle.parity.specs.Encode.{writtenOf}
-use Rattle.parity.proofs.write_plain.Statement.{statement}
 use Rattle.parity.proofs.write_plain.Tie as tie
 
 write-parity-requires : tie.Need-write-parity-requires
@@ -20,7 +15,7 @@ returns c =
     c .before .before .write-parity .ensures 1 (c .before .before .before .before .before .before .generator .ensures .1)
     ∙ ap (λ (p : ℕ). writtenOf p 1 (length (start .args .block .now) - start .args .k) (start .args .block .now)) (c .before .before .before .before .before .before .before .before .han-xin .ensures .1)
 
-pub write-plain-spec : {M : Type 1} → statement M
+pub write-plain-spec : {M : Type 1} → Rattle.parity.proofs.write_plain.Statement.statement M
 write-plain-spec =
     tie.close (tie.spec (λ c κs. search needs) (λ c. search needs) (λ c κs. search needs) (λ c. search needs) write-parity-requires
     (λ c. search needs) returns)

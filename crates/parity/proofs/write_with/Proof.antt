@@ -1,18 +1,10 @@
 -- `write_with` meets its contract: the table is that of the parity, and the plain division finds the block as it came. Assumes nothing.
-use mathlib.Core.Path.{ap, _∙_}
-use mathlib.Core.List.{List}
-use Prim.Native.Nat.{ℕ, _-_}
-use borrow.Author.Needs.{needs}
-use lib.ListN.{length}
+use Rattle.general.proofs.Names.{ap, _∙_, List, ℕ, _-_, needs, length}
 use Rattle.parity.specs.Encode.{writtenOf}
-use Rattle.parity.proofs.write_with.Statement.{statement}
 use Rattle.parity.proofs.write_with.Tie as tie
 
 put-left-requires : tie.Need-put-left-requires
 put-left-requires c κs = let start = c .before .before .before .before .before in ((start .pre .0, start .pre .1, start .pre .3), c .before .remainder .ensures _ (start .pre .2))
-
-returns : tie.Need-returns
-returns c = c .before .before .before .put-left .ensures .0 (c .if1 .taken)
 
 returns-2 : tie.Need-returns-2
 returns-2 c =
@@ -20,7 +12,7 @@ returns-2 c =
     c .before .before .write-plain .ensures
     ∙ ap (λ (x : List ℕ). writtenOf 0x163 1 (length x - start .args .k) x) (c .before .before .before .before .before .before .before .put-left .ensures .1 (c .before .before .before .before .if1 .left))
 
-pub write-with-spec : {M : Type 1} → statement M
+pub write-with-spec : {M : Type 1} → Rattle.parity.proofs.write_with.Statement.statement M
 write-with-spec =
-    tie.close (tie.spec (λ c κs. search needs) put-left-requires (λ c. search needs) returns (λ c κs. search needs) (λ c. search needs)
-    returns-2)
+    tie.close (tie.spec (λ c κs. search needs) put-left-requires (λ c. search needs)
+    (λ c. c .before .before .before .put-left .ensures .0 (c .if1 .taken)) (λ c κs. search needs) (λ c. search needs) returns-2)

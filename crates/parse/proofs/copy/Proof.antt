@@ -1,11 +1,6 @@
 -- `copy` meets its contract. Assumes nothing.
-use mathlib.Core.Path.{_≡_, refl, _∙_}
-use mathlib.Core.List.{_++_}
-use Prim.Native.Nat.{_≤_, _-_}
-use native.Mathlib.Omega.{arith}
-use lib.ListN.{length, take, drop, length-set}
+use Rattle.general.proofs.Names.{_≡_, refl, _∙_, _++_, _≤_, _-_, arith, length, take, drop, length-set}
 use Rattle.parse.proofs.Copies.{copy-more}
-use Rattle.parse.proofs.copy.Statement.{statement}
 use Rattle.parse.proofs.copy.Tie as tie
 
 abbrev Inv-loop : tie.InvT-loop
@@ -27,7 +22,7 @@ returns c =
     let e : l .i ≡ a .n = omega arith in
     l .inv .2 ∙ rw e
 
-pub copy-spec : {M : Type 1} → statement M
+pub copy-spec : {M : Type 1} → Rattle.parse.proofs.copy.Statement.statement M
 copy-spec =
     tie.close (tie.spec Inv-loop μ-loop (λ c. (refl, omega arith, refl)) (λ c. omega arith) (λ c. omega arith) (λ c. omega arith)
     (λ c. omega arith) loop-again (λ c. c .before .loop .inv .0) returns)

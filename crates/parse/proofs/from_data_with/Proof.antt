@@ -2,7 +2,6 @@
 use Rattle.segments.specs.Segments.{cut, lacking}
 use Rattle.parse.proofs.Outcomes.{too-long, is-broken, is-empty, is-payload-full, is-script-full, is-read, is-copied}
 use borrow.Author.Needs.{needs}
-use Rattle.parse.proofs.from_data_with.Statement.{statement}
 use Rattle.parse.proofs.from_data_with.Tie as tie
 
 returns : tie.Need-returns
@@ -85,7 +84,7 @@ returns-9 c =
     let d = b .parse in
     is-broken (a .«data» .now) (a .payload .now) (a .script .now) (b .before .before .before .if1 .left) (a .spare .now) (a .other .now) (d .result) (d .last .1 .0) (d .last .1 .1 .0) (d .ensures) lacking (c .enum-told2 .given .1)
 
-pub from-data-with-spec : {M : Type 1} → statement M
+pub from-data-with-spec : {M : Type 1} → Rattle.parse.proofs.from_data_with.Statement.statement M
 from-data-with-spec =
     tie.close (tie.spec returns (λ c κs. search needs) (λ c. search needs) (λ c. search needs) (λ c. search needs) returns-2
     (λ c. search needs) (λ c. search needs) returns-3 (λ c. search needs) (λ c. search needs) returns-4 (λ c κs. search needs)

@@ -1,14 +1,9 @@
 -- `parse` meets its contract. Assumes nothing.
-use mathlib.Core.Path.{_≡_, _∙_, refl}
-use native.Mathlib.Omega.{arith}
-use borrow.Author.Needs.{needs}
-use Prim.Native.Nat.{_≤_, _*_, _-_, _+_}
-use lib.ListN.{length}
+use Rattle.general.proofs.Names.{_≡_, _∙_, refl, arith, needs, _≤_, _*_, _-_, _+_, length}
 use Rattle.bits.proofs.Words.{WordAt, word-read, word-few}
 use Rattle.bits.proofs.Inside.{read-inside}
 use Rattle.segments.specs.Segments.{cut, lacking}
 use Rattle.segments.proofs.Steps.{Parsing, parsing-start, parse-few, parse-end, parse-stop, parse-room, parse-on}
-use Rattle.parse.proofs.parse.Statement.{statement}
 use Rattle.parse.proofs.parse.Tie as tie
 
 abbrev Inv-loop : tie.InvT-loop
@@ -87,7 +82,7 @@ returns-4 c =
     let i = c .before .before .before .before .before .before .before .before .before in
     parse-stop (c .before .before .before .before .before .before .before .before .before .before .before .before .before .before .loop .inv .5) (word (i .before)) (i .if1 .left) (q .result) (q .last .1 .1 .1 .0) (q .last .1 .1 .1 .1 .0) (q .ensures) lacking (c .enum-told3 .given .1)
 
-pub parse-spec : {M : Type 1} → statement M
+pub parse-spec : {M : Type 1} → Rattle.parse.proofs.parse.Statement.statement M
 parse-spec =
     tie.close (tie.spec Inv-loop μ-loop loop-holds (λ c κs. search needs) (λ c. c .match .keys1) (λ c. c .match .keys2)
     (λ c. c .before .before .before .loop .inv .0) (λ c. c .before .before .before .loop .inv .1) returns

@@ -2,11 +2,7 @@
 use Rattle.placement.proofs.Runs.{moves-push, moves-skip}
 use Rattle.placement.specs.Walk.{Leads}
 use lib.Pow.{shr-lt}
-use mathlib.Core.Path.{_≡_, refl, subst}
-use Prim.Native.Nat.{ℕ, _+_, _-_, _^_, _<_}
-use native.Mathlib.Omega.{arith}
-use borrow.Author.Needs.{needs}
-use Rattle.placement.proofs.advance.Statement.{statement}
+use Rattle.general.proofs.Names.{_≡_, refl, subst, ℕ, _+_, _-_, _^_, _<_, arith, needs}
 use Rattle.placement.proofs.advance.Tie as tie
 
 returns : tie.Need-returns
@@ -30,7 +26,7 @@ returns-2 c =
     let push = c .before .before .push in
     (push .ensures .0, moves-push (start .pre .1) (start .pre .2) (least .result) (c .before .before .before .before .before .before .before .lead .ensures) (least .ensures .0) (omega arith) (omega arith) (c .before .before .before .gather .ensures) (push .ensures .1) (push .ensures .2))
 
-pub advance-spec : {M : Type 1} → statement M
+pub advance-spec : {M : Type 1} → Rattle.placement.proofs.advance.Statement.statement M
 advance-spec =
     tie.close (tie.spec (λ c κs. search needs) (λ c κs. search needs) (λ c κs. search needs) (λ c. omega arith) returns
     (λ c κs. search needs) (λ c. omega arith) (λ c. omega arith) push-requires (λ c. search needs) returns-2)

@@ -1,11 +1,7 @@
 -- `push` meets its contract. Assumes nothing.
 use Rattle.placement.proofs.Walk.{shifted, sum-small, few-pushed, full-pushed}
 use Rattle.placement.specs.Walk.{Stored}
-use mathlib.Core.Path.{_≡_, refl, ap, subst}
-use Prim.Native.Nat.{ℕ, _+_, _-_, _/_, _%_, _^_}
-use native.Mathlib.Omega.{arith}
-use borrow.Author.Needs.{needs}
-use Rattle.placement.proofs.push.Statement.{statement}
+use Rattle.general.proofs.Names.{_≡_, refl, ap, subst, ℕ, _+_, _-_, _/_, _%_, _^_, arith, needs}
 use Rattle.placement.proofs.push.Tie as tie
 
 add-v : tie.Need-add-v
@@ -29,7 +25,7 @@ returns-2 c =
     let t = subst (λ (y : ℕ). Stored (start .args .r .n) ((y + start .args .x) / 2 ^ left % 256) (start .args .out .now) (c .before .before .store .last .0) (c .before .before .store .result)) e (c .before .before .store .ensures) in
     let full = full-pushed (start .pre .0) (start .args .w) (start .args .x) (start .pre .1) (start .pre .2) left l v refl t in (full .0, refl, full .1)
 
-pub push-spec : {M : Type 1} → statement M
+pub push-spec : {M : Type 1} → Rattle.placement.proofs.push.Statement.statement M
 push-spec =
     tie.close (tie.spec (λ c. search needs) add-v (λ c. search needs) (λ c. search needs) returns (λ c. search needs)
     (λ c κs. search needs) (λ c. search needs) returns-2)

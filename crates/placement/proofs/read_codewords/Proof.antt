@@ -1,11 +1,7 @@
 -- `read_codewords` meets its contract. Assumes nothing.
 use Rattle.placement.proofs.Rows.{first-codewords}
 use Rattle.codewords.specs.Codewords.{maskBit, dataBits}
-use lib.Seq.{length-take-le}
-use mathlib.Core.Path.{sym}
-use native.Mathlib.Omega.{arith}
-use borrow.Author.Needs.{needs}
-use Rattle.placement.proofs.read_codewords.Statement.{statement}
+use Rattle.general.proofs.Names.{length-take-le, sym, arith, needs}
 use Rattle.placement.proofs.read_codewords.Tie as tie
 
 slice-aggregate-read-rows : tie.Need-slice-aggregate-read-rows
@@ -23,5 +19,5 @@ returns c =
     let all = dataBits (maskBit (start .args .side) (start .args .mask)) 0 (start .args .kinds .now) (start .args .square .now) in
     first-codewords (start .args .out .now) all (start .args .total) (start .pre .1 .0) (c .before .before .read-rows .ensures)
 
-pub read-codewords-spec : {M : Type 1} → statement M
+pub read-codewords-spec : {M : Type 1} → Rattle.placement.proofs.read_codewords.Statement.statement M
 read-codewords-spec = tie.close (tie.spec (λ c. search needs) slice-aggregate-read-rows read-rows-requires (λ c. search needs) returns)

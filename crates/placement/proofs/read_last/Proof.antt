@@ -2,11 +2,7 @@
 use Rattle.placement.proofs.Walk.{goes-none, goes-on}
 use Rattle.placement.proofs.Runs.{last-moves}
 use Rattle.placement.specs.Walk.{Pending, Goes}
-use lib.ListN.{length}
-use mathlib.Core.Path.{_≡_, refl, _∙_}
-use Prim.Native.Nat.{_-_, _≤_}
-use native.Mathlib.Omega.{arith}
-use Rattle.placement.proofs.read_last.Statement.{statement}
+use Rattle.general.proofs.Names.{length, _≡_, refl, _∙_, _-_, _≤_, arith}
 use Rattle.placement.proofs.read_last.Tie as tie
 
 abbrev Inv-loop : tie.InvT-loop
@@ -37,7 +33,7 @@ loop-again c =
 returns : tie.Need-returns Inv-loop μ-loop
 returns c = let loop = c .before .before .loop in (loop .inv .0, omega arith, loop .inv .3)
 
-pub read-last-spec : {M : Type 1} → statement M
+pub read-last-spec : {M : Type 1} → Rattle.placement.proofs.read_last.Statement.statement M
 read-last-spec =
     tie.close (tie.spec Inv-loop μ-loop (λ c. c .before .before .before .before .pre .3)
     (λ c κs. omega arith) (λ c. c .before .before .before .before .before .pre .3)

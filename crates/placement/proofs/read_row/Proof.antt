@@ -1,12 +1,7 @@
 -- `read_row` meets its contract. Assumes nothing.
 use Rattle.placement.proofs.Walk.{goes-none, goes-on}
 use Rattle.placement.specs.Walk.{Pending, Goes}
-use lib.ListN.{length}
-use mathlib.Core.Path.{_≡_, refl, _∙_}
-use Prim.Native.Nat.{_-_, _≤_}
-use native.Mathlib.Omega.{arith}
-use borrow.Author.Needs.{needs}
-use Rattle.placement.proofs.read_row.Statement.{statement}
+use Rattle.general.proofs.Names.{length, _≡_, refl, _∙_, _-_, _≤_, arith, needs}
 use Rattle.placement.proofs.read_row.Tie as tie
 
 abbrev Inv-loop : tie.InvT-loop
@@ -35,7 +30,7 @@ same-length c = c .before .before .read-last .kept .0 ∙ c .before .before .bef
 returns : tie.Need-returns Inv-loop μ-loop
 returns c = let last = c .before .before .read-last in (last .ensures .0, last .ensures .1, goes-on (c .before .before .before .before .before .before .loop .inv .2) (last .ensures .2))
 
-pub read-row-spec : {M : Type 1} → statement M
+pub read-row-spec : {M : Type 1} → Rattle.placement.proofs.read_row.Statement.statement M
 read-row-spec =
     tie.close (tie.spec Inv-loop μ-loop (λ c κs. search needs) loop-holds step-requires (λ c. omega arith) loop-again read-last-requires
     same-length returns)

@@ -4,12 +4,7 @@ use Rattle.masks.proofs.Rows.{columns-fewer, row-new}
 use Rattle.masks.specs.Columns.{Row}
 use Rattle.placement.specs.Walk.{bitsFrom, Pending, Walk}
 use Rattle.codewords.specs.Codewords.{maskBit, dataBits}
-use lib.ListN.{length}
-use mathlib.Core.Path.{_≡_, refl, sym, ap, subst, _∙_}
-use Prim.Native.Nat.{ℕ, _+_, _-_, _*_, _≤_}
-use native.Mathlib.Nat.{zero-mul}
-use native.Mathlib.Omega.{arith}
-use Rattle.placement.proofs.read_rows.Statement.{statement}
+use Rattle.general.proofs.Names.{length, _≡_, refl, sym, ap, subst, _∙_, ℕ, _+_, _-_, _*_, _≤_, zero-mul, arith}
 use Rattle.placement.proofs.read_rows.Tie as tie
 
 abbrev Inv-loop : tie.InvT-loop
@@ -48,9 +43,6 @@ part-read-row-end c = omega (arith, row-inside (c .before .before .before .befor
 part-read-row-end-2 : tie.Need-part-read-row-end-2 Inv-loop μ-loop
 part-read-row-end-2 c = omega (arith, row-inside (c .before .before .before .before .before .before .before .loop .i) (c .before .before .before .before .before .before .before .before .before .before .before .before .before .before .args .side) (c .before .before .before .before .before .before .loop-test .taken))
 
-slice-aggregate-read-row : tie.Need-slice-aggregate-read-row Inv-loop μ-loop
-slice-aggregate-read-row c = sym (c .before .before .before .before .before .mask-row .ensures .0 .size)
-
 read-row-requires : tie.Need-read-row-requires Inv-loop μ-loop
 read-row-requires c κs =
     let start = c .before .before .before .before .before .before .before .before .before .before .before .before .before .before .before .before in
@@ -78,10 +70,10 @@ returns c =
     let e : loop .i ≡ start .args .side = omega arith in
     rows-done (maskBit (start .args .side) (start .args .mask)) (start .args .kinds .now) (start .args .square .now) (loop .i * start .args .side) (omega (arith, ap (λ (n : ℕ). n * start .args .side) e)) (loop .inv .1) (loop .inv .3)
 
-pub read-rows-spec : {M : Type 1} → statement M
+pub read-rows-spec : {M : Type 1} → Rattle.placement.proofs.read_rows.Statement.statement M
 read-rows-spec =
     tie.close (tie.spec Inv-loop μ-loop (λ c. omega arith) (λ c. omega arith) (λ c. refl) (λ c κs. (omega arith, refl)) loop-holds
     (λ c. sym (c .before .before .loop .inv .0 .size)) (λ c. sym (c .before .before .before .before .before .columns .ensures .size))
-    mask-row-requires mul-at add-end (λ c. omega arith) (λ c. omega arith) part-read-row-end (λ c. omega arith) (λ c. omega arith)
-    part-read-row-end-2 slice-aggregate-read-row read-row-requires (λ c. omega arith) (λ c. omega arith) loop-again
-    (λ c. c .before .loop .inv .3 .words .size) returns)
+    mask-row-requires mul-at add-end (λ c. omega arith) (λ c. omega arith) part-read-row-end (λ c. omega arith) (λ c. omega arith) part-read-row-end-2
+    (λ c. sym (c .before .before .before .before .before .mask-row .ensures .0 .size)) read-row-requires (λ c. omega arith) (λ c. omega arith)
+    loop-again (λ c. c .before .loop .inv .3 .words .size) returns)

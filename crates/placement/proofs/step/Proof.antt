@@ -2,10 +2,7 @@
 use Rattle.placement.proofs.Walk.{unmasked-is, bits-small, goes-push}
 use Rattle.placement.proofs.Eights.{eight-zero}
 use Rattle.placement.specs.Walk.{behind, unmaskedAt}
-use mathlib.Core.Path.{refl, sym, _∙_}
-use native.Mathlib.Omega.{arith}
-use borrow.Author.Needs.{needs}
-use Rattle.placement.proofs.step.Statement.{statement}
+use Rattle.general.proofs.Names.{refl, sym, _∙_, arith, needs}
 use Rattle.placement.proofs.step.Tie as tie
 
 push-requires : tie.Need-push-requires
@@ -41,7 +38,7 @@ returns-2 c =
     }) in
     (advance .ensures .0, m .0, m .1, m .2)
 
-pub step-spec : {M : Type 1} → statement M
+pub step-spec : {M : Type 1} → Rattle.placement.proofs.step.Statement.statement M
 step-spec =
     tie.close (tie.spec (λ c κs. search needs) (λ c κs. search needs) (λ c κs. search needs) push-requires (λ c. search needs) returns
     advance-requires (λ c. search needs) returns-2)

@@ -1,15 +1,7 @@
 -- `greater` meets its contract. Assumes nothing.
-use mathlib.Core.Path.{refl}
-use mathlib.Core.Logic.{inl, inr}
-use native.Mathlib.Omega.{arith}
-use Rattle.reader.proofs.greater.Statement.{statement}
+use Rattle.general.proofs.Names.{refl, inl, inr, arith}
 use Rattle.reader.proofs.greater.Tie as tie
 
-returns : tie.Need-returns
-returns c = record { left = omega arith; right = omega arith; one = inr refl }
-
-returns-2 : tie.Need-returns-2
-returns-2 c = record { left = omega arith; right = omega arith; one = inl refl }
-
-pub greater-spec : {M : Type 1} → statement M
-greater-spec = tie.close (tie.spec returns returns-2)
+pub greater-spec : {M : Type 1} → Rattle.reader.proofs.greater.Statement.statement M
+greater-spec = tie.close (tie.spec (λ c. record { left = omega arith; right = omega arith; one = inr refl })
+    (λ c. record { left = omega arith; right = omega arith; one = inl refl }))

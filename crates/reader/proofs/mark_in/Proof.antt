@@ -1,7 +1,6 @@
 -- `mark_in` meets its contract. Assumes nothing.
 use Rattle.reader.proofs.Opens.{nearest-mark, no-version, in-square}
 use borrow.Author.Needs.{needs}
-use Rattle.reader.proofs.mark_in.Statement.{statement}
 use Rattle.reader.proofs.mark_in.Tie as tie
 
 read-copy-requires : tie.Need-read-copy-requires
@@ -32,7 +31,7 @@ returns-2 c =
     let a = start .pre in
     absurd (no-version _ _ _ _ _ (a .3) (side .ensures) (read-copy .ensures) (c .before .before .before .read-copy2 .ensures) _ (a .0) (a .1) (c .enum-told .given .1) (c .before .before .nearest-info .ensures))
 
-pub mark-in-spec : {M : Type 1} → statement M
+pub mark-in-spec : {M : Type 1} → Rattle.reader.proofs.mark_in.Statement.statement M
 mark-in-spec =
     tie.close (tie.spec (λ c κs. search needs) read-copy-requires read-copy-requires-2 (λ c κs. search needs) (λ c. search needs)
     (λ c. search needs) (λ c. search needs) returns returns-2)

@@ -1,14 +1,8 @@
 -- `read_known_in` meets its contract. Assumes nothing.
-use mathlib.Core.Path.{_≡_, sym, ap, _∙_}
-use mathlib.Core.Bool.{true}
-use Prim.Native.Nat.{ℕ, _≤_}
-use native.Mathlib.Omega.{arith}
+use Rattle.general.proofs.Names.{_≡_, sym, ap, _∙_, true, ℕ, _≤_, arith, needs, not-true, not-false}
 use Rattle.information.specs.Information.{isInfo}
 use Rattle.telling.specs.Inner.{Fitting, bodyOr1}
 use Rattle.reader.proofs.Opens.{known-receipt, known-range, known-early, known-fits, known-left, early-small}
-use borrow.Author.Needs.{needs}
-use borrow.Author.Tests.{not-true, not-false}
-use Rattle.reader.proofs.read_known_in.Statement.{statement}
 use Rattle.reader.proofs.read_known_in.Tie as tie
 
 returns : tie.Need-returns
@@ -78,7 +72,7 @@ returns-4 c =
     ∙ known-left (a .square .now) (a .m .version) (a .m .level) (a .m .mask) _ _ _ (test .before .before .if1 .left) (ranged test .0) _ _
     (early .before .side .ensures) (early .square-refusal .ensures) (if3 .left)
 
-pub read-known-in-spec : {M : Type 1} → statement M
+pub read-known-in-spec : {M : Type 1} → Rattle.reader.proofs.read_known_in.Statement.statement M
 read-known-in-spec =
     tie.close (tie.spec returns (λ c κs. search needs) (λ c κs. search needs) (λ c. search needs) returns-2 (λ c κs. ranged c .1)
     (λ c κs. omega (arith, c .side .ensures, ranged (c .before) .1)) refuse-requires-2 (λ c. search needs) returns-3 finish-in-requires

@@ -1,17 +1,12 @@
 -- `read_square` meets its contract: either buffer holds the layout. Assumes nothing.
-use native.Mathlib.Omega.{arith}
-use borrow.Author.Needs.{needs}
+use Rattle.general.proofs.Names.{arith, needs}
 use Rattle.symbol.specs.Version.{sideOf}
 use Rattle.symbol.proofs.Coordinates.{square-le}
-use Rattle.reader.proofs.read_square.Statement.{statement}
 use Rattle.reader.proofs.read_square.Tie as tie
 
-read-square-in-requires-3 : tie.Need-read-square-in-requires-3
-read-square-in-requires-3 c κs = record { room = λ v h e. square-le (sideOf v) (omega arith) }
-
-pub read-square-spec : {M : Type 1} → statement M
+pub read-square-spec : {M : Type 1} → Rattle.reader.proofs.read_square.Statement.statement M
 read-square-spec =
-    tie.close (tie.spec (λ c. search needs) (λ c κs. search needs) (λ c. search needs) (λ c. search needs) (λ c. search needs)
-    (λ c. search needs) (λ c. search needs) (λ c κs. search needs) (λ c. search needs) (λ c. search needs) (λ c. search needs)
-    (λ c. search needs) (λ c. search needs) read-square-in-requires-3 (λ c. search needs) (λ c. search needs) (λ c. search needs)
+    tie.close (tie.spec (λ c. search needs) (λ c κs. search needs) (λ c. search needs) (λ c. search needs) (λ c. search needs) (λ c. search needs)
+    (λ c. search needs) (λ c κs. search needs) (λ c. search needs) (λ c. search needs) (λ c. search needs) (λ c. search needs) (λ c. search needs)
+    (λ c κs. record { room = λ v h e. square-le (sideOf v) (omega arith) }) (λ c. search needs) (λ c. search needs) (λ c. search needs)
     (λ c. search needs))

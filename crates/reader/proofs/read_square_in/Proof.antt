@@ -1,8 +1,6 @@
 -- `read_square_in` meets its contract. Assumes nothing.
-use mathlib.Core.Path.{_∙_}
+use Rattle.general.proofs.Names.{_∙_, needs}
 use Rattle.reader.proofs.Opens.{read-receipt, read-side, side-small, early-small, read-early, read-legible, read-far, read-fits, read-left}
-use borrow.Author.Needs.{needs}
-use Rattle.reader.proofs.read_square_in.Statement.{statement}
 use Rattle.reader.proofs.read_square_in.Tie as tie
 
 returns : tie.Need-returns
@@ -97,7 +95,7 @@ returns-5 c =
     finish .ensures
     ∙ read-left (a .square .now) (a .side) (a .payload .now) (a .script .now) (a .receipt .now) (if1 .left) _ (from-side .ensures .0) (from-side .ensures .1) _ (v .given .1) _ (square-refusal .ensures) (if2 .left) _ (mark-in .ensures) (if3 .left)
 
-pub read-square-in-spec : {M : Type 1} → statement M
+pub read-square-in-spec : {M : Type 1} → Rattle.reader.proofs.read_square_in.Statement.statement M
 read-square-in-spec =
     tie.close (tie.spec returns (λ c κs. search needs) (λ c. search needs) enum-told (λ c κs. search needs) (λ c. search needs)
     returns-2 square-refusal-requires refuse-requires-2 (λ c. search needs) returns-3 mark-in-requires (λ c κs. search needs)

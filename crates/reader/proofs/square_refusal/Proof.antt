@@ -1,9 +1,7 @@
 -- `square_refusal` meets its contract. Assumes nothing.
 use Rattle.reed_solomon.proofs.Magnitudes.{small-product}
 use Rattle.reader.proofs.Bytes.{wrong-size, wrong-byte, right-square, all-modules, not-modules}
-use native.Mathlib.Omega.{arith}
-use borrow.Author.Needs.{needs}
-use Rattle.reader.proofs.square_refusal.Statement.{statement}
+use Rattle.general.proofs.Names.{arith, needs}
 use Rattle.reader.proofs.square_refusal.Tie as tie
 
 mul-if1 : tie.Need-mul-if1
@@ -22,5 +20,5 @@ returns-3 c =
     let start = c .before .before .before .before in
     right-square (start .args .square .now) (start .args .side) (c .before .before .if1 .left) (all-modules _ _ (c .before .greatest .ensures) (omega (arith, c .if2 .left)))
 
-pub square-refusal-spec : {M : Type 1} → statement M
+pub square-refusal-spec : {M : Type 1} → Rattle.reader.proofs.square_refusal.Statement.statement M
 square-refusal-spec = tie.close (tie.spec mul-if1 returns (λ c κs. search needs) returns-2 returns-3)

@@ -1,7 +1,6 @@
 -- `accepted` meets its contract. Assumes nothing.
 use Rattle.receipts.proofs.Receipts.{accepted-is}
 use borrow.Author.Needs.{needs}
-use Rattle.receipts.proofs.accepted.Statement.{statement}
 use Rattle.receipts.proofs.accepted.Tie as tie
 
 returns : tie.Need-returns
@@ -18,7 +17,7 @@ returns c =
     _ _ _ _ _ _ _ _ _ _ (low .ensures) (low2 .ensures) (low3 .ensures) (low4 .ensures) (low5 .ensures) (low6 .ensures)
     (low7 .ensures) (c .before .before .before .low8 .ensures) (c .before .low9 .ensures) (c .low10 .ensures)
 
-pub accepted-spec : {M : Type 1} → statement M
+pub accepted-spec : {M : Type 1} → Rattle.receipts.proofs.accepted.Statement.statement M
 accepted-spec =
     tie.close (tie.spec (λ c κs. search needs) (λ c κs. search needs) (λ c κs. search needs) (λ c κs. search needs)
     (λ c κs. search needs) (λ c κs. search needs) (λ c κs. search needs) (λ c κs. search needs) (λ c κs. search needs)

@@ -1,14 +1,8 @@
 -- `tell_data` meets its contract. Assumes nothing.
-use mathlib.Core.Path.{sym, ap, _∙_}
-use mathlib.Core.List.{List}
-use Prim.Native.Nat.{ℕ}
-use native.Mathlib.Omega.{arith}
-use lib.Seq.{length-take-le}
-use Rattle.blocks.specs.Blocks.{shapes, cut, dataParts}
+use Rattle.general.proofs.Names.{sym, ap, _∙_, List, ℕ, arith, length-take-le, needs}
+use Rattle.block_table.specs.Blocks.{shapes, cut, dataParts}
 use Rattle.segments.specs.FromData.{fromData}
 use Rattle.receipts.proofs.Answers.{tells, gathered}
-use borrow.Author.Needs.{needs}
-use Rattle.receipts.proofs.tell_data.Statement.{statement}
 use Rattle.receipts.proofs.tell_data.Tie as tie
 
 slice-aggregate-from-data-with : tie.Need-slice-aggregate-from-data-with
@@ -26,7 +20,7 @@ returns c =
     tells (a .args .count) (q .result) _ d (a .args .payload .now) (a .args .script .now) _ _ (g .result) (a .pre .4) (f .0) (omega (arith, g .ensures .0, a .pre .3)) (c .told-of .ensures)
     (q .ensures ∙ ap (λ (x : List ℕ). fromData x (a .args .payload .now) (a .args .script .now)) (f .1))
 
-pub tell-data-spec : {M : Type 1} → statement M
+pub tell-data-spec : {M : Type 1} → Rattle.receipts.proofs.tell_data.Statement.statement M
 tell-data-spec =
     tie.close (tie.spec (λ c κs. search needs) (λ c. search needs) slice-aggregate-from-data-with (λ c κs. search needs)
     (λ c κs. search needs) (λ c. search needs) (λ c. search needs) (λ c. search needs) (λ c. search needs) (λ c. search needs) returns)

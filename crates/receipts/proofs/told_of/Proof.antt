@@ -1,14 +1,8 @@
 -- `told_of` meets its contract. Assumes nothing.
-use mathlib.Core.Path.{refl}
+use Rattle.general.proofs.Names.{refl, arith, needs}
 use Rattle.segments.specs.declared.Answer.the-variants.{TooLong, Broken, Empty, PayloadFull, ScriptFull}
 use Rattle.receipts.proofs.Answers.{answers-read, answers-refused}
-use native.Mathlib.Omega.{arith}
-use borrow.Author.Needs.{needs}
-use Rattle.receipts.proofs.told_of.Statement.{statement}
 use Rattle.receipts.proofs.told_of.Tie as tie
-
-returns : tie.Need-returns
-returns c = answers-read _ _ _ _ _ (c .before .answer .given .1) refl refl refl refl
 
 returns-2 : tie.Need-returns-2
 returns-2 c = answers-refused _ TooLong _ _ _ (c .before .enum-told .given .1) (λ p s. refl) (λ n. omega arith) (c .refused .ensures)
@@ -25,8 +19,8 @@ returns-5 c = answers-refused _ PayloadFull _ _ _ (c .before .enum-told4 .given 
 returns-6 : tie.Need-returns-6
 returns-6 c = answers-refused _ ScriptFull _ _ _ (c .before .enum-told5 .given .1) (λ p s. refl) (λ n. omega arith) (c .refused5 .ensures)
 
-pub told-of-spec : {M : Type 1} → statement M
+pub told-of-spec : {M : Type 1} → Rattle.receipts.proofs.told_of.Statement.statement M
 told-of-spec =
-    tie.close (tie.spec (λ c. search needs) (λ c. search needs) (λ c κs. search needs) (λ c. search needs) (λ c κs. search needs)
-    (λ c. search needs) (λ c κs. search needs) (λ c. search needs) (λ c κs. search needs) (λ c. search needs) (λ c κs. search needs)
-    returns returns-2 returns-3 returns-4 returns-5 returns-6)
+    tie.close (tie.spec (λ c. search needs) (λ c. search needs) (λ c κs. search needs) (λ c. search needs) (λ c κs. search needs) (λ c. search needs)
+    (λ c κs. search needs) (λ c. search needs) (λ c κs. search needs) (λ c. search needs) (λ c κs. search needs)
+    (λ c. answers-read _ _ _ _ _ (c .before .answer .given .1) refl refl refl refl) returns-2 returns-3 returns-4 returns-5 returns-6)

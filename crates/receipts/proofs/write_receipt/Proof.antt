@@ -1,8 +1,6 @@
 -- `write_receipt` meets its contract. Assumes nothing.
-use mathlib.Core.Path.{_∙_}
+use Rattle.general.proofs.Names.{_∙_, needs}
 use Rattle.receipts.proofs.Receipts.{in-accepted, in-refused}
-use borrow.Author.Needs.{needs}
-use Rattle.receipts.proofs.write_receipt.Statement.{statement}
 use Rattle.receipts.proofs.write_receipt.Tie as tie
 
 returns : tie.Need-returns
@@ -17,7 +15,7 @@ returns-2 c =
     let refusal = c .before .before .before .before .before .refusal in
     c .before .before .put2 .ensures ∙ refusal .ensures ∙ in-refused _ _ (if1 .left)
 
-pub write-receipt-spec : {M : Type 1} → statement M
+pub write-receipt-spec : {M : Type 1} → Rattle.receipts.proofs.write_receipt.Statement.statement M
 write-receipt-spec =
     tie.close (tie.spec (λ c κs. search needs) (λ c κs. search needs) (λ c. search needs) returns (λ c κs. search needs)
     (λ c κs. search needs) (λ c. search needs) returns-2)

@@ -1,12 +1,7 @@
 -- `add_digits` meets its contract. Assumes nothing.
-use mathlib.Core.Path.{_≡_, sym, ap, _∙_}
-use Prim.Native.Nat.{ℕ, _+_, _-_, _*_, _%_, _^_, _≤_}
-use native.Mathlib.Omega.{arith}
-use lib.Bits.{bitXor}
-use borrow.Author.Needs.{needs}
+use Rattle.general.proofs.Names.{_≡_, sym, ap, _∙_, ℕ, _+_, _-_, _*_, _%_, _^_, _≤_, arith, bitXor, needs}
 use Rattle.remainder.specs.Words.{digits, behind, Rows}
 use Rattle.remainder.proofs.Steps.{add-next, no-digits, all-digits}
-use Rattle.remainder.proofs.add_digits.Statement.{statement}
 use Rattle.remainder.proofs.add_digits.Tie as tie
 
 abbrev Inv-loop : tie.InvT-loop
@@ -37,6 +32,6 @@ returns c =
       adds = λ poly x e h R z. ap (λ (v : ℕ). behind poly x (digits poly x e 4 (bitXor h v)) (loop .n)) (sym (all-digits y (loop .i) (omega arith) (omega arith) (omega arith))) ∙ loop .inv .1 poly x e h R z;
     }
 
-pub add-digits-spec : {M : Type 1} → statement M
+pub add-digits-spec : {M : Type 1} → Rattle.remainder.proofs.add_digits.Statement.statement M
 add-digits-spec =
     tie.close (tie.spec Inv-loop μ-loop loop-holds (λ c κs. search needs) (λ c. search needs) (λ c. search needs) loop-again returns)

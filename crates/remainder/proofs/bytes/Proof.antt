@@ -1,15 +1,9 @@
 -- `bytes` meets its contract. Assumes nothing.
-use mathlib.Core.Path.{sym, _∙_}
-use Prim.Native.Nat.{_-_, _≤_}
-use native.Mathlib.Omega.{arith}
-use native.Mathlib.Decide.{decLt}
-use borrow.Author.Needs.{needs}
-use lib.ListN.{replicate}
-use Rattle.reed_solomon.specs.Inner.{Each}
-use Rattle.reed_solomon.proofs.Each.{each-start, each-next}
+use Rattle.general.proofs.Names.{sym, _∙_, _-_, _≤_, arith, decLt, needs, replicate}
+use Rattle.general.specs.Each.{Each}
+use Rattle.general.proofs.Each.{each-start, each-next}
 use Rattle.reed_solomon.proofs.Massey.{zeros}
 use Rattle.remainder.specs.Words.{byteAt}
-use Rattle.remainder.proofs.bytes.Statement.{statement}
 use Rattle.remainder.proofs.bytes.Tie as tie
 
 abbrev Inv-loop : tie.InvT-loop
@@ -17,9 +11,6 @@ Inv-loop r k s₀ i₀ s i = Each (λ i x. byteAt r i) i (replicate 32 0) s × (
 
 abbrev μ-loop : tie.MeasureT-loop
 μ-loop r k s₀ i₀ s i = k - i
-
-loop-holds : tie.Need-loop-holds Inv-loop μ-loop
-loop-holds c = (each-start _ _, omega arith)
 
 loop-again : tie.Need-loop-again Inv-loop μ-loop
 loop-again c = let loop = c .before .before .loop in (each-next _ _ _ _ _ (loop .inv .0) (omega arith) (c .byte-at .ensures), omega arith)
@@ -35,7 +26,7 @@ returns c =
       ],
     )
 
-pub bytes-spec : {M : Type 1} → statement M
+pub bytes-spec : {M : Type 1} → Rattle.remainder.proofs.bytes.Statement.statement M
 bytes-spec =
-    tie.close (tie.spec Inv-loop μ-loop (λ c κs. search needs) loop-holds (λ c κs. search needs) (λ c. omega arith) (λ c. search needs)
-    (λ c. search needs) loop-again returns)
+    tie.close (tie.spec Inv-loop μ-loop (λ c κs. search needs) (λ c. (each-start _ _, omega arith)) (λ c κs. search needs) (λ c. omega arith)
+    (λ c. search needs) (λ c. search needs) loop-again returns)

@@ -1,11 +1,7 @@
 -- `extend` meets its contract. Assumes nothing.
-use mathlib.Core.Path.{_≡_}
-use Prim.Native.Nat.{_-_, _≤_}
-use native.Mathlib.Omega.{arith}
-use borrow.Author.Needs.{needs}
+use Rattle.general.proofs.Names.{_≡_, _-_, _≤_, arith, needs}
 use Rattle.remainder.specs.Words.{Extended}
 use Rattle.remainder.proofs.Fill.{extended-start, extended-next}
-use Rattle.remainder.proofs.extend.Statement.{statement}
 use Rattle.remainder.proofs.extend.Tie as tie
 
 abbrev Inv-loop : tie.InvT-loop
@@ -13,9 +9,6 @@ Inv-loop t₀ at n r f₀ t f = Extended at n f r t₀ t × (f ≤ n)
 
 abbrev μ-loop : tie.MeasureT-loop
 μ-loop t₀ at n r f₀ t f = n - f
-
-loop-holds : tie.Need-loop-holds Inv-loop μ-loop
-loop-holds c = (extended-start _ _ _ _, omega arith)
 
 loop-again : tie.Need-loop-again Inv-loop μ-loop
 loop-again c =
@@ -31,8 +24,8 @@ returns c =
     let e : loop .f ≡ c .before .before .before .args .n = omega arith in
     rw e at (loop .inv .0)
 
-pub extend-spec : {M : Type 1} → statement M
+pub extend-spec : {M : Type 1} → Rattle.remainder.proofs.extend.Statement.statement M
 extend-spec =
-    tie.close (tie.spec Inv-loop μ-loop loop-holds (λ c. search needs) (λ c κs. (omega arith, omega arith)) (λ c. search needs)
-    (λ c. search needs) (λ c κs. search needs) (λ c κs. (omega arith, omega arith)) (λ c. search needs) (λ c. search needs) loop-again
-    (λ c. c .before .loop .inv .0 .size) returns)
+    tie.close (tie.spec Inv-loop μ-loop (λ c. (extended-start _ _ _ _, omega arith)) (λ c. search needs) (λ c κs. (omega arith, omega arith))
+    (λ c. search needs) (λ c. search needs) (λ c κs. search needs) (λ c κs. (omega arith, omega arith)) (λ c. search needs) (λ c. search needs)
+    loop-again (λ c. c .before .loop .inv .0 .size) returns)

@@ -1,10 +1,6 @@
 -- `fill_byte` meets its contract. Assumes nothing.
-use mathlib.Core.Path.{_≡_, _∙_}
-use Prim.Native.Nat.{_+_, _*_}
-use native.Mathlib.Omega.{arith}
-use borrow.Author.Needs.{needs}
+use Rattle.general.proofs.Names.{_≡_, _∙_, _+_, _*_, arith, needs}
 use Rattle.remainder.proofs.Fill.{bytewise}
-use Rattle.remainder.proofs.fill_byte.Statement.{statement}
 use Rattle.remainder.proofs.fill_byte.Tie as tie
 
 fill-digit-requires : tie.Need-fill-digit-requires
@@ -25,7 +21,7 @@ returns c =
     let start = c .before .before .before .before .before .before .before .before .before in
     bytewise _ _ _ _ _ _ _ (start .pre .1) (c .before .before .before .before .before .before .fill-digit .ensures) (c .before .before .fill-digit2 .ensures)
 
-pub fill-byte-spec : {M : Type 1} → statement M
+pub fill-byte-spec : {M : Type 1} → Rattle.remainder.proofs.fill_byte.Statement.statement M
 fill-byte-spec =
     tie.close (tie.spec (λ c. search needs) fill-digit-requires (λ c. search needs) (λ c. search needs) fill-digit-requires-2
     (λ c. search needs) returns)

@@ -1,11 +1,7 @@
 -- `fill_digit` meets its contract. Assumes nothing.
-use mathlib.Core.Path.{_≡_}
-use Prim.Native.Nat.{_-_, _≤_}
-use native.Mathlib.Omega.{arith}
-use borrow.Author.Needs.{needs}
+use Rattle.general.proofs.Names.{_≡_, _-_, _≤_, arith, needs}
 use Rattle.remainder.specs.Words.{Filling}
 use Rattle.remainder.proofs.Fill.{bit-of, filling-start, filling-next}
-use Rattle.remainder.proofs.fill_digit.Statement.{statement}
 use Rattle.remainder.proofs.fill_digit.Tie as tie
 
 abbrev Inv-loop : tie.InvT-loop
@@ -13,9 +9,6 @@ Inv-loop t₀ i r₀ b₀ t r b = Filling i b r₀ t₀ t r × (b ≤ 4)
 
 abbrev μ-loop : tie.MeasureT-loop
 μ-loop t₀ i r₀ b₀ t r b = 4 - b
-
-loop-holds : tie.Need-loop-holds Inv-loop μ-loop
-loop-holds c = (filling-start _ _ _ (c .before .pre .1) (c .before .pre .2), omega arith)
 
 extend-requires : tie.Need-extend-requires Inv-loop μ-loop
 extend-requires c κs =
@@ -36,7 +29,8 @@ returns c =
     let e : loop .b ≡ 4 = omega arith in
     rw e at (loop .inv .0)
 
-pub fill-digit-spec : {M : Type 1} → statement M
+pub fill-digit-spec : {M : Type 1} → Rattle.remainder.proofs.fill_digit.Statement.statement M
 fill-digit-spec =
-    tie.close (tie.spec Inv-loop μ-loop loop-holds (λ c. search needs) (λ c. search needs) extend-requires (λ c κs. search needs)
-    (λ c. search needs) (λ c. search needs) loop-again (λ c. c .before .loop .inv .0 .size) returns)
+    tie.close (tie.spec Inv-loop μ-loop (λ c. (filling-start _ _ _ (c .before .pre .1) (c .before .pre .2), omega arith)) (λ c. search needs)
+    (λ c. search needs) extend-requires (λ c κs. search needs) (λ c. search needs) (λ c. search needs) loop-again (λ c. c .before .loop .inv .0 .size)
+    returns)

@@ -1,11 +1,7 @@
 -- `front` meets its contract. Assumes nothing.
-use mathlib.Core.Path.{_≡_}
-use Prim.Native.Nat.{_-_, _≤_}
-use native.Mathlib.Omega.{arith}
-use borrow.Author.Needs.{needs}
+use Rattle.general.proofs.Names.{_≡_, _-_, _≤_, arith, needs}
 use Rattle.remainder.specs.Words.{Front}
 use Rattle.remainder.proofs.Steps.{front-none, front-next, front-small}
-use Rattle.remainder.proofs.front.Statement.{statement}
 use Rattle.remainder.proofs.front.Tie as tie
 
 abbrev Inv-loop : tie.InvT-loop
@@ -13,9 +9,6 @@ Inv-loop s n v₀ i₀ v i = (i ≤ n) × Front s i v
 
 abbrev μ-loop : tie.MeasureT-loop
 μ-loop s n v₀ i₀ v i = n - i
-
-loop-holds : tie.Need-loop-holds Inv-loop μ-loop
-loop-holds c = (omega arith, front-none _)
 
 mul-v : tie.Need-mul-v Inv-loop μ-loop
 mul-v c = record { fits = omega (arith, front-small _ _ _ (c .before .loop .inv .1) (omega arith)) }
@@ -34,7 +27,7 @@ returns c =
     let e : loop .i ≡ c .before .before .before .args .n = omega arith in
     rw e at (loop .inv .1)
 
-pub front-spec : {M : Type 1} → statement M
+pub front-spec : {M : Type 1} → Rattle.remainder.proofs.front.Statement.statement M
 front-spec =
-    tie.close (tie.spec Inv-loop μ-loop loop-holds mul-v (λ c. search needs) (λ c κs. search needs) add-v (λ c. search needs)
+    tie.close (tie.spec Inv-loop μ-loop (λ c. (omega arith, front-none _)) mul-v (λ c. search needs) (λ c κs. search needs) add-v (λ c. search needs)
     (λ c. search needs) loop-again returns)

@@ -1,16 +1,11 @@
 -- `lower` meets its contract. Assumes nothing.
-use mathlib.Core.Path.{ap, _∙_}
-use Prim.Native.Nat.{_+_, _-_, _*_, _≤_}
-use native.Mathlib.Omega.{arith}
-use native.Mathlib.Nat.{mul-le-mul}
-use borrow.Author.Needs.{needs}
+use Rattle.general.proofs.Names.{ap, _∙_, _+_, _-_, _*_, _≤_, arith, mul-le-mul, needs}
 use Rattle.field.specs.Field.{power, mul}
 use Rattle.field.specs.Table.{polyOf}
 use Rattle.field.proofs.Entries.{the-field}
-use Rattle.reed_solomon.specs.Inner.{Each}
-use Rattle.reed_solomon.proofs.Each.{each-start, each-next, each-end}
+use Rattle.general.specs.Each.{Each}
+use Rattle.general.proofs.Each.{each-start, each-next, each-end}
 use Rattle.remainder.proofs.Lowered.{reduced-power}
-use Rattle.remainder.proofs.lower.Statement.{statement}
 use Rattle.remainder.proofs.lower.Tie as tie
 
 abbrev Inv-loop : tie.InvT-loop
@@ -18,9 +13,6 @@ Inv-loop field first s₀ parity n j₀ s j = Each (λ j x. mul (polyOf field) x
 
 abbrev μ-loop : tie.MeasureT-loop
 μ-loop field first s₀ parity n j₀ s j = parity - j
-
-loop-holds : tie.Need-loop-holds Inv-loop μ-loop
-loop-holds c = (each-start _ _, omega arith)
 
 mul-raised : tie.Need-mul-raised Inv-loop μ-loop
 mul-raised c =
@@ -42,8 +34,8 @@ loop-again c =
 returns : tie.Need-returns Inv-loop μ-loop
 returns c = each-end _ _ _ _ _ (c .before .loop .inv .0) (c .before .loop .inv .1) (omega arith)
 
-pub lower-spec : {M : Type 1} → statement M
+pub lower-spec : {M : Type 1} → Rattle.remainder.proofs.lower.Statement.statement M
 lower-spec =
-    tie.close (tie.spec Inv-loop μ-loop loop-holds (λ c. omega (arith, c .before .before .loop .inv .0 .size)) (λ c. search needs)
-    mul-raised (λ c κs. search needs) (λ c. omega (arith, c .before .before .before .loop .inv .0 .size)) (λ c. search needs)
+    tie.close (tie.spec Inv-loop μ-loop (λ c. (each-start _ _, omega arith)) (λ c. omega (arith, c .before .before .loop .inv .0 .size))
+    (λ c. search needs) mul-raised (λ c κs. search needs) (λ c. omega (arith, c .before .before .before .loop .inv .0 .size)) (λ c. search needs)
     (λ c. search needs) loop-again (λ c. c .before .loop .inv .0 .size) returns)

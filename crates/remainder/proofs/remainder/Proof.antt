@@ -1,12 +1,8 @@
 -- `remainder` meets its contract. Assumes nothing.
-use mathlib.Core.Path.{_≡_}
-use Prim.Native.Nat.{_-_, _%_, _≤_}
-use native.Mathlib.Omega.{arith}
-use borrow.Author.Needs.{needs}
+use Rattle.general.proofs.Names.{_≡_, _-_, _%_, _≤_, arith, needs}
 use Rattle.remainder.specs.Words.{Rows, Left}
 use Rattle.remainder.proofs.Steps.{front-lt, left-start, left-next}
 use Rattle.remainder.proofs.Lowered.{leaves}
-use Rattle.remainder.proofs.remainder.Statement.{statement}
 use Rattle.remainder.proofs.remainder.Tie as tie
 
 abbrev Inv-loop : tie.InvT-loop
@@ -38,7 +34,7 @@ returns c =
     let e : loop .i ≡ start .args .k = omega arith in
     λ parity Q. leaves _ _ _ _ _ (Q .rows) (start .pre .1) (λ j. omega (arith, known .given j)) (rw e at (loop .inv .2))
 
-pub remainder-spec : {M : Type 1} → statement M
+pub remainder-spec : {M : Type 1} → Rattle.remainder.proofs.remainder.Statement.statement M
 remainder-spec =
     tie.close (tie.spec Inv-loop μ-loop (λ c κs. search needs) step-requires loop-holds (λ c κs. search needs) step-requires-2
     (λ c. search needs) (λ c. search needs) loop-again returns)

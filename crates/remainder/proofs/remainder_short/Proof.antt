@@ -1,13 +1,9 @@
 -- `remainder_short` meets its contract. Assumes nothing.
-use mathlib.Core.Path.{_≡_, refl, sym}
-use Prim.Native.Nat.{_-_, _≤_}
-use native.Mathlib.Omega.{arith}
-use borrow.Author.Needs.{needs}
+use Rattle.general.proofs.Names.{_≡_, refl, sym, _-_, _≤_, arith, needs}
 use Rattle.field.specs.Field.{power}
 use Rattle.remainder.specs.Words.{ByteRows, Left}
 use Rattle.remainder.proofs.Steps.{left-none, left-byte}
 use Rattle.remainder.proofs.Lowered.{leaves}
-use Rattle.remainder.proofs.remainder_short.Statement.{statement}
 use Rattle.remainder.proofs.remainder_short.Tie as tie
 
 abbrev Inv-loop : tie.InvT-loop
@@ -15,12 +11,6 @@ Inv-loop block k parity t r₀ i₀ r i = (i ≤ k) × Left (λ x. ByteRows 0x16
 
 abbrev μ-loop : tie.MeasureT-loop
 μ-loop block k parity t r₀ i₀ r i = k - i
-
-loop-holds : tie.Need-loop-holds Inv-loop μ-loop
-loop-holds c = (omega arith, left-none _ _)
-
-shifted-requires : tie.Need-shifted-requires Inv-loop μ-loop
-shifted-requires c κs = (omega arith, c .wide .ensures .1)
 
 loop-again : tie.Need-loop-again Inv-loop μ-loop
 loop-again c =
@@ -36,8 +26,8 @@ returns c =
     leaves _ _ _ _ _ (λ T j h i f a b. c .before .before .before .fill-byte .ensures .rows (power 0x163 _) (c .before .before .before .before .generator .ensures T j h) i f (omega arith) (omega arith) b) (start .pre) (λ j. omega (arith, known .given j))
     (rw e at (loop .inv .1))
 
-pub remainder-short-spec : {M : Type 1} → statement M
+pub remainder-short-spec : {M : Type 1} → Rattle.remainder.proofs.remainder_short.Statement.statement M
 remainder-short-spec =
     tie.close (tie.spec Inv-loop μ-loop (λ c. search needs) (λ c κs. search needs) (λ c κs. (omega arith, omega arith, refl, refl))
-    loop-holds (λ c. sym (c .before .before .before .before .fill-byte .ensures .size)) (λ c. search needs) (λ c κs. search needs)
-    shifted-requires (λ c. search needs) (λ c. search needs) loop-again returns)
+    (λ c. (omega arith, left-none _ _)) (λ c. sym (c .before .before .before .before .fill-byte .ensures .size)) (λ c. search needs)
+    (λ c κs. search needs) (λ c κs. (omega arith, c .wide .ensures .1)) (λ c. search needs) (λ c. search needs) loop-again returns)

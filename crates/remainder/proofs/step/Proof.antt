@@ -1,10 +1,6 @@
 -- `step` meets its contract. Assumes nothing.
-use Prim.Native.Nat.{_/_, _^_}
-use native.Mathlib.Omega.{arith}
-use lib.Bits.{xor-lt}
-use borrow.Author.Needs.{needs}
+use Rattle.general.proofs.Names.{_/_, _^_, arith, xor-lt, needs}
 use Rattle.remainder.proofs.Steps.{step-on}
-use Rattle.remainder.proofs.step.Statement.{statement}
 use Rattle.remainder.proofs.step.Tie as tie
 
 add-digits-requires : tie.Need-add-digits-requires
@@ -15,5 +11,5 @@ add-digits-requires c κs =
 returns : tie.Need-returns
 returns c = step-on _ _ _ _ _ _ (omega arith) (omega arith) (omega arith) (c .before .before .moved-half .ensures) (c .add-digits .ensures) (omega arith)
 
-pub step-spec : {M : Type 1} → statement M
+pub step-spec : {M : Type 1} → Rattle.remainder.proofs.step.Statement.statement M
 step-spec = tie.close (tie.spec (λ c κs. search needs) add-digits-requires returns)

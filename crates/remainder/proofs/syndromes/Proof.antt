@@ -1,15 +1,8 @@
 -- `syndromes` meets its contract. Assumes nothing.
-use mathlib.Core.Path.{sym}
-use native.Mathlib.Omega.{arith}
-use lib.Seq.{length-take-le}
-use borrow.Author.Needs.{needs}
+use Rattle.general.proofs.Names.{sym, arith, length-take-le, needs}
 use Rattle.field.proofs.Entries.{the-field}
 use Rattle.remainder.proofs.Lowered.{syndromes-left}
-use Rattle.remainder.proofs.syndromes.Statement.{statement}
 use Rattle.remainder.proofs.syndromes.Tie as tie
-
-slice-aggregate-syndromes : tie.Need-slice-aggregate-syndromes
-slice-aggregate-syndromes c = sym (length-take-le _ _ (omega arith))
 
 returns : tie.Need-returns
 returns c =
@@ -19,7 +12,7 @@ returns c =
     let syndromes = c .before .before .before .before .before .before .syndromes in
     λ block R. syndromes-left _ (the-field _ (start .pre .0)) _ _ _ block _ _ _ _ R (kept .ensures) (bytes .ensures .0) (bytes .ensures .1) (syndromes .ensures) (c .before .before .lower .ensures)
 
-pub syndromes-spec : {M : Type 1} → statement M
+pub syndromes-spec : {M : Type 1} → Rattle.remainder.proofs.syndromes.Statement.statement M
 syndromes-spec =
-    tie.close (tie.spec (λ c κs. search needs) (λ c κs. search needs) (λ c. search needs) slice-aggregate-syndromes
+    tie.close (tie.spec (λ c κs. search needs) (λ c κs. search needs) (λ c. search needs) (λ c. sym (length-take-le _ _ (omega arith)))
     (λ c κs. search needs) (λ c. search needs) (λ c κs. search needs) (λ c. search needs) returns)

@@ -1,8 +1,5 @@
 -- `all` meets its contract. Assumes nothing.
-use lib.ListN.{length}
-use Prim.Native.Nat.{_-_, _≤_}
-use borrow.Author.Needs.{needs}
-use Rattle.replay_symbol.proofs.all.Statement.{statement}
+use Rattle.general.proofs.Names.{length, _-_, _≤_, needs}
 use Rattle.replay_symbol.proofs.all.Tie as tie
 
 abbrev Inv-loop : tie.InvT-loop
@@ -26,7 +23,7 @@ abbrev μ-loop : tie.MeasureT-loop
 -- src/main.rt:134:5
 -- src/main.rt:134:5
 -- src/main.rt:130:1
-pub all-spec : {M : Type 1} → statement M
+pub all-spec : {M : Type 1} → Rattle.replay_symbol.proofs.all.Statement.statement M
 all-spec =
     tie.close (tie.spec Inv-loop μ-loop (λ c. search needs) (λ c. search needs) (λ c. search needs) (λ c. search needs)
     (λ c. search needs) (λ c κs. search needs) (λ c. search needs) (λ c κs. search needs) (λ c. search needs) (λ c κs. search needs)

@@ -1,8 +1,5 @@
 -- `layout_front` meets its contract. Assumes nothing.
-use mathlib.Core.Path.{sym}
-use lib.Seq.{length-take-le}
-use borrow.Author.Needs.{needs}
-use Rattle.replay_symbol.proofs.layout_front.Statement.{statement}
+use Rattle.general.proofs.Names.{sym, length-take-le, needs}
 use Rattle.replay_symbol.proofs.layout_front.Tie as tie
 
 -- src/main.rt:72:28
@@ -14,7 +11,7 @@ slice-aggregate-layout-in c = sym (length-take-le (c .before .before .before .ar
 -- src/main.rt:70:1
 -- src/main.rt:70:1
 -- src/main.rt:70:1
-pub layout-front-spec : {M : Type 1} → statement M
+pub layout-front-spec : {M : Type 1} → Rattle.replay_symbol.proofs.layout_front.Statement.statement M
 layout-front-spec =
     tie.close (tie.spec (λ c. search needs) slice-aggregate-layout-in (λ c κs. search needs) (λ c. search needs) (λ c. search needs)
     (λ c. search needs))

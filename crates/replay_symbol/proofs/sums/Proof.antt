@@ -1,9 +1,5 @@
 -- `sums` meets its contract. Assumes nothing.
-use lib.ListN.{length}
-use Prim.Native.Nat.{_-_, _<_, _≤_}
-use native.Mathlib.Omega.{arith}
-use borrow.Author.Needs.{needs}
-use Rattle.replay_symbol.proofs.sums.Statement.{statement}
+use Rattle.general.proofs.Names.{length, _-_, _<_, _≤_, arith, needs}
 use Rattle.replay_symbol.proofs.sums.Tie as tie
 
 abbrev Inv-loop : tie.InvT-loop
@@ -23,7 +19,7 @@ abbrev μ-loop : tie.MeasureT-loop
 -- src/main.rt:54:5
 -- src/main.rt:54:5
 -- src/main.rt:45:1
-pub sums-spec : {M : Type 1} → statement M
+pub sums-spec : {M : Type 1} → Rattle.replay_symbol.proofs.sums.Statement.statement M
 sums-spec =
     tie.close (tie.spec Inv-loop μ-loop (λ c. omega arith) (λ c. omega arith) (λ c κs. search needs) (λ c. omega arith)
     (λ c. omega arith) (λ c. omega arith) (λ c. omega arith) (λ c. omega arith) (λ c. omega arith) (λ c. omega arith)

@@ -1,12 +1,7 @@
 -- `char_bits` meets its contract. Assumes nothing.
-use mathlib.Core.Path.{_≡_, refl, _∙_}
-use Prim.Native.Nat.{_+_, _≤_, _-_, _*_}
-use native.Mathlib.Omega.{arith}
-use borrow.Author.Needs.{needs}
-use lib.ListN.{length, drop}
+use Rattle.general.proofs.Names.{_≡_, refl, _∙_, _+_, _≤_, _-_, _*_, arith, needs, length, drop}
 use Rattle.script.specs.Characters.{wordsOf, hasAll, beginsIn}
 use Rattle.script.proofs.Runs.{run-same, run-other, run-lacks, run-done, cost-lacks, small}
-use Rattle.script.proofs.char_bits.Statement.{statement}
 use Rattle.script.proofs.char_bits.Tie as tie
 
 abbrev Inv-loop : tie.InvT-loop
@@ -77,7 +72,7 @@ returns-2 c =
     let a = start .args in
     (rw (c .width .ensures .0) (run-done (a .run .now) (a .mode) (l .first) _ (l .j) (l .words) (omega arith) (l .inv .2) (l .inv .3) refl), omega (arith, small (c .width .result) (l .words + 1) (omega arith) (omega arith)))
 
-pub char-bits-spec : {M : Type 1} → statement M
+pub char-bits-spec : {M : Type 1} → Rattle.script.proofs.char_bits.Statement.statement M
 char-bits-spec =
     tie.close (tie.spec Inv-loop μ-loop (λ c κs. search needs) (λ c. (omega arith, omega arith, refl, omega arith))
     (λ c κs. omega arith) (λ c. c .match .keys1) (λ c. omega arith) (λ c. omega arith) loop-less loop-again (λ c. c .match .keys2)

@@ -1,11 +1,8 @@
 -- `character_at` meets its contract. Assumes nothing.
 use Rattle.script.specs.declared.Character.the-variants.{Lacking}
-use mathlib.Core.Path.{ap, ap₂, _∙_}
-use native.Mathlib.Omega.{arith}
+use Rattle.general.proofs.Names.{ap, ap₂, _∙_, arith, needs}
 use Rattle.script.specs.Characters.{textCharacter, regionCharacter, doubleCharacter}
 use Rattle.script.proofs.Runs.{text-character, alone-character, double-character, region-character}
-use borrow.Author.Needs.{needs}
-use Rattle.script.proofs.character_at.Statement.{statement}
 use Rattle.script.proofs.character_at.Tie as tie
 
 returns : tie.Need-returns
@@ -31,7 +28,7 @@ returns-4 c =
     let a = d .before .before .before .before .before .before .args in
     region-character (a .run .now) (a .mode) (a .first) (a .j) (omega arith) (c .region-character .result) (omega arith) (d .before .before .before .before .if1 .left) (d .before .before .if3 .left) (c .region-character .ensures ∙ ap₂ (regionCharacter (a .first)) (d .wide4 .ensures .0) (c .before .wide5 .ensures .0))
 
-pub character-at-spec : {M : Type 1} → statement M
+pub character-at-spec : {M : Type 1} → Rattle.script.proofs.character_at.Statement.statement M
 character-at-spec =
     tie.close (tie.spec (λ c. search needs) (λ c κs. search needs) (λ c κs. search needs) returns (λ c. search needs) returns-2
     (λ c. search needs) (λ c κs. search needs) (λ c. search needs) (λ c. search needs) (λ c κs. search needs) (λ c κs. search needs)

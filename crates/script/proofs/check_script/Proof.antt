@@ -1,14 +1,8 @@
 -- `check_script` meets its contract. Assumes nothing.
-use lib.Seq.{length-take-le}
-use mathlib.Core.Path.{_≡_}
-use Prim.Native.Nat.{_+_, _-_, _≤_, _<_}
-use native.Mathlib.Omega.{arith}
-use borrow.Author.Needs.{needs}
-use lib.ListN.{length, take, drop, length-drop}
+use Rattle.general.proofs.Names.{length-take-le, _≡_, _+_, _-_, _≤_, _<_, arith, needs, length, take, drop, length-drop}
 use Rattle.script.specs.Inner.{commandSize}
 use Rattle.script.specs.Characters.{costOf}
 use Rattle.script.proofs.Checks.{Settles, run-bounds, eci-bounds, settles-start, settles-wrong, settles-eci, settles-short, settles-takes, settles-lacks, end-left, end-lacks, end-empty, end-bits, limited}
-use Rattle.script.proofs.check_script.Statement.{statement}
 use Rattle.script.proofs.check_script.Tie as tie
 
 abbrev Inv-loop : tie.InvT-loop
@@ -114,9 +108,6 @@ returns-2 c =
     let g = c .before .before in
     settles-wrong (g .before .before .loop .inv .3) (omega arith) (g .command-at .ensures) (c .enum-told2 .given .1)
 
-returns-3 : tie.Need-returns-3 Inv-loop μ-loop
-returns-3 c = end-left (c .before .before .loop .inv .3) (omega arith) (c .if2 .taken)
-
 returns-4 : tie.Need-returns-4 Inv-loop μ-loop
 returns-4 c = end-lacks (c .before .before .before .loop .inv .3) (omega arith) (omega arith) (c .if3 .taken)
 
@@ -128,10 +119,10 @@ returns-6 c =
     let l = c .before .before .before .before .loop in
     end-bits (l .inv .3) (omega arith) (omega arith) (c .before .if3 .left) (c .if4 .left) (l .inv .2)
 
-pub check-script-spec : {M : Type 1} → statement M
+pub check-script-spec : {M : Type 1} → Rattle.script.proofs.check_script.Statement.statement M
 check-script-spec =
-    tie.close (tie.spec Inv-loop μ-loop loop-holds (λ c κs. omega arith) (λ c. c .match .keys1) (λ c. omega arith) returns
-    (λ c. omega arith) (λ c. omega arith) (λ c. omega arith) (λ c. omega arith) run-bits-requires (λ c. c .match2 .keys1) capped-sum-requires
-    (λ c κs. search needs) (λ c. omega arith) (λ c. omega arith) loop-again (λ c. c .match2 .keys2) (λ c κs. search needs)
-    (λ c. omega arith) (λ c. omega arith) loop-again-2 (λ c. c .match .keys2) (λ c κs. search needs) (λ c κs. omega arith)
-    (λ c. omega arith) (λ c. omega arith) loop-again-3 (λ c. c .match .keys3) returns-2 returns-3 returns-4 returns-5 returns-6)
+    tie.close (tie.spec Inv-loop μ-loop loop-holds (λ c κs. omega arith) (λ c. c .match .keys1) (λ c. omega arith) returns (λ c. omega arith)
+    (λ c. omega arith) (λ c. omega arith) (λ c. omega arith) run-bits-requires (λ c. c .match2 .keys1) capped-sum-requires (λ c κs. search needs)
+    (λ c. omega arith) (λ c. omega arith) loop-again (λ c. c .match2 .keys2) (λ c κs. search needs) (λ c. omega arith) (λ c. omega arith) loop-again-2
+    (λ c. c .match .keys2) (λ c κs. search needs) (λ c κs. omega arith) (λ c. omega arith) (λ c. omega arith) loop-again-3 (λ c. c .match .keys3)
+    returns-2 (λ c. end-left (c .before .before .loop .inv .3) (omega arith) (c .if2 .taken)) returns-4 returns-5 returns-6)

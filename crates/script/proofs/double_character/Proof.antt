@@ -1,8 +1,6 @@
 -- `double_character` meets its contract. Assumes nothing.
-use mathlib.Core.Path.{sym, _∙_}
+use Rattle.general.proofs.Names.{sym, _∙_, needs}
 use Rattle.script.specs.Characters.{doubleCharacter}
-use borrow.Author.Needs.{needs}
-use Rattle.script.proofs.double_character.Statement.{statement}
 use Rattle.script.proofs.double_character.Tie as tie
 
 returns : tie.Need-returns
@@ -13,5 +11,5 @@ returns-2 : tie.Need-returns-2
 unfolding doubleCharacter
 returns-2 c = rw (sym (c .before .in-double .ensures) ∙ c .if1 .left)
 
-pub double-character-spec : {M : Type 1} → statement M
+pub double-character-spec : {M : Type 1} → Rattle.script.proofs.double_character.Statement.statement M
 double-character-spec = tie.close (tie.spec (λ c κs. search needs) (λ c κs. search needs) returns returns-2)

@@ -1,8 +1,6 @@
 -- `eci_bits` meets its contract. Assumes nothing.
-use native.Mathlib.Omega.{arith}
-use borrow.Author.Tests.{lt-ltb, le-ltb}
+use Rattle.general.proofs.Names.{arith, lt-ltb, le-ltb}
 use Rattle.script.specs.Lengths.{eciLength}
-use Rattle.script.proofs.eci_bits.Statement.{statement}
 use Rattle.script.proofs.eci_bits.Tie as tie
 
 returns : tie.Need-returns
@@ -17,5 +15,5 @@ returns-3 : tie.Need-returns-3
 unfolding eciLength
 returns-3 c = (rw (le-ltb (c .before .before .args .v) 128 (c .before .if1 .left), le-ltb (c .before .before .args .v) 16384 (c .if2 .left)), omega arith)
 
-pub eci-bits-spec : {M : Type 1} → statement M
+pub eci-bits-spec : {M : Type 1} → Rattle.script.proofs.eci_bits.Statement.statement M
 eci-bits-spec = tie.close (tie.spec returns returns-2 returns-3)

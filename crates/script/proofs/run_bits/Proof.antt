@@ -1,9 +1,6 @@
 -- `run_bits` meets its contract. Assumes nothing.
-use mathlib.Core.Path.{sym, _∙_}
-use native.Mathlib.Omega.{arith}
+use Rattle.general.proofs.Names.{sym, _∙_, arith, needs}
 use Rattle.script.proofs.Runs.{numeric-takes, numeric-lacks, bytes-takes, four-takes, four-lacks, char-cost}
-use borrow.Author.Needs.{needs}
-use Rattle.script.proofs.run_bits.Statement.{statement}
 use Rattle.script.proofs.run_bits.Tie as tie
 
 returns : tie.Need-returns
@@ -41,7 +38,7 @@ returns-6 c =
     let a = start .args in
     (c .char-bits .ensures .0 ∙ char-cost (a .run .now) (a .mode) (omega arith) (omega arith) (c .before .before .before .if1 .left) (c .before .before .if3 .left) (c .before .if4 .left), c .char-bits .ensures .1)
 
-pub run-bits-spec : {M : Type 1} → statement M
+pub run-bits-spec : {M : Type 1} → Rattle.script.proofs.run_bits.Statement.statement M
 run-bits-spec =
     tie.close (tie.spec (λ c κs. search needs) (λ c. search needs) (λ c. search needs) (λ c. search needs) returns returns-2
     (λ c. search needs) (λ c. search needs) returns-3 (λ c κs. search needs) returns-4 returns-5 (λ c κs. search needs) returns-6)

@@ -1,8 +1,6 @@
 -- `text_character` meets its contract. Assumes nothing.
-use mathlib.Core.Path.{sym, _∙_}
+use Rattle.general.proofs.Names.{sym, _∙_, needs}
 use Rattle.script.specs.Characters.{textCharacter}
-use borrow.Author.Needs.{needs}
-use Rattle.script.proofs.text_character.Statement.{statement}
 use Rattle.script.proofs.text_character.Tie as tie
 
 returns : tie.Need-returns
@@ -21,7 +19,7 @@ returns-3 c =
     let d = c .before in
     rw (sym (d .before .before .in-subset .ensures) ∙ d .before .if1 .left, sym (d .in-subset2 .ensures) ∙ c .if2 .left)
 
-pub text-character-spec : {M : Type 1} → statement M
+pub text-character-spec : {M : Type 1} → Rattle.script.proofs.text_character.Statement.statement M
 text-character-spec =
     tie.close (tie.spec (λ c κs. search needs) (λ c κs. search needs) returns (λ c κs. search needs) (λ c κs. search needs) returns-2
     returns-3)

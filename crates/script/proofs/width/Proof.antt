@@ -1,8 +1,6 @@
 -- `width` meets its contract. Assumes nothing.
-use native.Mathlib.Omega.{arith}
-use borrow.Author.Tests.{eq-eqb, ne-eqb}
+use Rattle.general.proofs.Names.{arith, eq-eqb, ne-eqb}
 use Rattle.script.specs.Characters.{widthOf}
-use Rattle.script.proofs.width.Statement.{statement}
 use Rattle.script.proofs.width.Tie as tie
 
 returns : tie.Need-returns
@@ -21,5 +19,5 @@ returns-3 c =
     let start = c .before .before in
     (rw (ne-eqb (start .args .mode) 2 (c .before .if1 .left), ne-eqb (start .args .mode) 6 (c .if2 .left)), omega arith, omega arith)
 
-pub width-spec : {M : Type 1} → statement M
+pub width-spec : {M : Type 1} → Rattle.script.proofs.width.Statement.statement M
 width-spec = tie.close (tie.spec returns returns-2 returns-3)

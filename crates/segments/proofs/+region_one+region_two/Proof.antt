@@ -1,11 +1,7 @@
 -- `region_one` and `region_two` call each other at a switch; the bits left fall by twelve each time.
-use Prim.Native.Nat.{ℕ, _<_, _-_, _*_}
-use mathlib.Core.Path.{_∙_}
-use native.Mathlib.Omega.{arith}
-use borrow.Author.Needs.{needs}
+use Rattle.general.proofs.Names.{ℕ, _<_, _-_, _*_, _∙_, arith, needs, length}
 use borrow.Fn.Kinds.{In}
 use borrow.Fn.PlainCycle.{Measures, is, falls, and}
-use lib.ListN.{length}
 use Rattle.segments.specs.Positions.{countOf}
 use Rattle.segments.proofs.Regions.{ran-end, ran-small, ran-cut, ran-lacks, ran-room, ran-on}
 use Rattle.segments.proofs.region_one.Reads as region-one

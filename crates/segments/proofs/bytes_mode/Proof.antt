@@ -1,10 +1,7 @@
 -- `bytes_mode` meets its contract. Assumes nothing.
-use mathlib.Core.Path.{refl}
-use native.Mathlib.Omega.{arith}
+use Rattle.general.proofs.Names.{refl, arith, needs}
 use Rattle.bits.proofs.Words.{WordAt, word-read, word-few}
 use Rattle.segments.proofs.Turns.{bytes-cut, bytes-length, longer-inside}
-use borrow.Author.Needs.{needs}
-use Rattle.segments.proofs.bytes_mode.Statement.{statement}
 use Rattle.segments.proofs.bytes_mode.Tie as tie
 
 returns : tie.Need-returns
@@ -31,7 +28,7 @@ returns-2 c =
     let q = c .before .before .bytes-run in
     (rw (bytes-length (a .s .now) (a .from) (a .to) (a .out .now) (k .before .got .given .0 .0) (word k)) (q .ensures .0), longer-inside (a .s .now) (a .from) (a .to) 13 (q .result) (q .ensures .1))
 
-pub bytes-mode-spec : {M : Type 1} → statement M
+pub bytes-mode-spec : {M : Type 1} → Rattle.segments.proofs.bytes_mode.Statement.statement M
 bytes-mode-spec =
     tie.close (tie.spec (λ c κs. search needs) (λ c. search needs) (λ c. search needs) returns (λ c. search needs) bytes-run-requires
     (λ c. search needs) returns-2)

@@ -1,16 +1,9 @@
 -- `bytes_run` meets its contract. Assumes nothing.
-use native.Mathlib.Nat.{sub-zero}
-use borrow.Author.Needs.{needs}
-use mathlib.Core.Path.{_≡_, _∙_, refl}
-use mathlib.Core.List.{[], _∷_}
-use native.Mathlib.Omega.{arith}
-use Prim.Native.Nat.{_≤_, _*_, _-_, _+_}
-use lib.ListN.{length}
+use Rattle.general.proofs.Names.{sub-zero, needs, _≡_, _∙_, refl, [], _∷_, arith, _≤_, _*_, _-_, _+_, length}
 use Rattle.bits.proofs.Words.{WordAt}
 use Rattle.segments.specs.Segments.{bytesRun}
 use Rattle.segments.specs.Positions.{bytesRunAt}
 use Rattle.segments.proofs.Turns.{Remains, remains-start, remains-cut, remains-word, remains-on, bytes-run-cut, bytes-run-done, bytes-run-more}
-use Rattle.segments.proofs.bytes_run.Statement.{statement}
 use Rattle.segments.proofs.bytes_run.Tie as tie
 
 abbrev Inv-loop : tie.InvT-loop
@@ -18,9 +11,6 @@ Inv-loop s from out₀ to k at₀ n₀ i₀ out at n i = (length out ≡ length 
 
 abbrev μ-loop : tie.MeasureT-loop
 μ-loop s from out₀ to k at₀ n₀ i₀ out at n i = 8 * length s - at
-
-loop-holds : tie.Need-loop-holds Inv-loop μ-loop
-loop-holds c = (refl, omega arith, simp sub-zero (remains-start (omega arith) (omega arith)))
 
 returns : tie.Need-returns Inv-loop μ-loop
 returns c =
@@ -33,9 +23,6 @@ returns c =
 word : (c : tie.After-known-told Inv-loop μ-loop)
     → WordAt 8 (c .before .before .before .before .before .loop .at) (c .before .got .given .0 .0) (c .before .before .before .before .before .before .before .before .args .s .now)
 word c = let b = c .before .before .before in remains-word (b .before .before .loop .inv .2) (b .read-bits .ensures) (omega arith) (c .before .got .given .1)
-
-put-requires : tie.Need-put-requires Inv-loop μ-loop
-put-requires c κs = word (c .before) .small
 
 loop-less : tie.Need-loop-less Inv-loop μ-loop
 loop-less c = let m = word (c .before .before .before .before) .room in omega arith
@@ -54,8 +41,8 @@ returns-2 c =
     let l = c .before .loop in
     (rw (bytes-run-done (c .before .before .before .before .args .k) (l .i) (l .inv .2) (omega arith)) (refl, refl), (omega arith, omega arith, omega arith, omega arith))
 
-pub bytes-run-spec : {M : Type 1} → statement M
+pub bytes-run-spec : {M : Type 1} → Rattle.segments.proofs.bytes_run.Statement.statement M
 bytes-run-spec =
-    tie.close (tie.spec Inv-loop μ-loop loop-holds (λ c κs. search needs) (λ c. c .match .keys1) (λ c. c .match .keys2)
-    (λ c. c .before .before .before .before .loop .inv .0) returns put-requires (λ c. omega arith) (λ c. omega arith) (λ c. omega arith)
-    loop-less loop-again (λ c. c .before .loop .inv .0) returns-2)
+    tie.close (tie.spec Inv-loop μ-loop (λ c. (refl, omega arith, simp sub-zero (remains-start (omega arith) (omega arith)))) (λ c κs. search needs)
+    (λ c. c .match .keys1) (λ c. c .match .keys2) (λ c. c .before .before .before .before .loop .inv .0) returns (λ c κs. word (c .before) .small)
+    (λ c. omega arith) (λ c. omega arith) (λ c. omega arith) loop-less loop-again (λ c. c .before .loop .inv .0) returns-2)

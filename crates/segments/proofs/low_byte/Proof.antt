@@ -1,10 +1,6 @@
 -- `low_byte` meets its contract. Assumes nothing.
-use borrow.Author.Tests.{lt-ltb, le-ltb}
-use native.Mathlib.Omega.{arith}
-use Prim.Native.Nat.{_<_}
+use Rattle.general.proofs.Names.{lt-ltb, le-ltb, arith, _<_, needs}
 use Rattle.segments.specs.Segments.{lowOf, regionSize}
-use borrow.Author.Needs.{needs}
-use Rattle.segments.proofs.low_byte.Statement.{statement}
 use Rattle.segments.proofs.low_byte.Tie as tie
 
 returns : tie.Need-returns
@@ -38,7 +34,7 @@ returns-4 c =
     let k : c .before .args .w < 3008 = simp h1 at (c .before .pre) in
     (omega arith, simp h1)
 
-pub low-byte-spec : {M : Type 1} → statement M
+pub low-byte-spec : {M : Type 1} → Rattle.segments.proofs.low_byte.Statement.statement M
 low-byte-spec =
     tie.close (tie.spec (λ c. search needs) returns (λ c. search needs) returns-2 (λ c. search needs) returns-3 (λ c. search needs)
     returns-4)

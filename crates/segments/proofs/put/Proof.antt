@@ -1,12 +1,7 @@
 -- `put` meets its contract. Assumes nothing.
-use mathlib.Core.Path.{sym}
-use lib.Seq.{set-out}
-use borrow.Author.Needs.{needs}
-use Rattle.segments.proofs.put.Statement.{statement}
+use Rattle.general.proofs.Names.{sym, set-out, needs}
 use Rattle.segments.proofs.put.Tie as tie
 
-returns-2 : tie.Need-returns-2
-returns-2 c = sym (set-out _ _ _ (c .if1 .left))
-
-pub put-spec : {M : Type 1} → statement M
-put-spec = tie.close (tie.spec (λ c. search needs) (λ c. search needs) (λ c. search needs) (λ c. search needs) returns-2)
+pub put-spec : {M : Type 1} → Rattle.segments.proofs.put.Statement.statement M
+put-spec = tie.close (tie.spec (λ c. search needs) (λ c. search needs) (λ c. search needs) (λ c. search needs)
+    (λ c. sym (set-out _ _ _ (c .if1 .left))))

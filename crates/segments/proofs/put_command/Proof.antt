@@ -1,13 +1,7 @@
 -- `put_command` meets its contract. Assumes nothing.
-use mathlib.Core.Path.{refl}
-use mathlib.Core.List.{[], _∷_}
-use Prim.Native.Nat.{_+_, _/_, _%_}
-use native.Mathlib.Omega.{arith}
-use borrow.Author.Tests.{eq-eqb, ne-eqb}
+use Rattle.general.proofs.Names.{refl, [], _∷_, _+_, _/_, _%_, arith, eq-eqb, ne-eqb, needs}
 use Rattle.segments.specs.Script.{runCommand}
 use Rattle.segments.proofs.Stores.{one-more}
-use borrow.Author.Needs.{needs}
-use Rattle.segments.proofs.put_command.Statement.{statement}
 use Rattle.segments.proofs.put_command.Tie as tie
 
 returns : tie.Need-returns
@@ -26,7 +20,7 @@ returns-2 c =
     let a = p .before .before .before .before .args in
     rw (ne-eqb (a .mode) 7 (p .before .before .if1 .left)) (refl, one-more (a .script .now) (p .put2 .last .0) (put-pair .last .0) (a .n / 256 ∷ a .n % 256 ∷ []) (a .m) (a .m + 1) (a .mode) refl (p .put2 .ensures) (put-pair .ensures))
 
-pub put-command-spec : {M : Type 1} → statement M
+pub put-command-spec : {M : Type 1} → Rattle.segments.proofs.put_command.Statement.statement M
 put-command-spec =
     tie.close (tie.spec (λ c κs. search needs) (λ c. search needs) returns (λ c κs. search needs) (λ c. search needs)
     (λ c κs. (omega arith, omega arith, omega arith)) (λ c. search needs) returns-2)

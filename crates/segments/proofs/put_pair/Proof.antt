@@ -1,10 +1,6 @@
 -- `put_pair` meets its contract. Assumes nothing.
-use mathlib.Core.Path.{refl}
-use mathlib.Core.List.{[], _∷_}
-use Prim.Native.Nat.{_+_}
+use Rattle.general.proofs.Names.{refl, [], _∷_, _+_, needs}
 use Rattle.segments.proofs.Stores.{one-more}
-use borrow.Author.Needs.{needs}
-use Rattle.segments.proofs.put_pair.Statement.{statement}
 use Rattle.segments.proofs.put_pair.Tie as tie
 
 returns : tie.Need-returns
@@ -15,5 +11,5 @@ returns c =
     let a = p .before .before .before .args in
     one-more (a .out .now) (p .put .last .0) (put2 .last .0) (a .b ∷ []) (a .n) (a .n + 1) (a .a) refl (p .put .ensures) (put2 .ensures)
 
-pub put-pair-spec : {M : Type 1} → statement M
+pub put-pair-spec : {M : Type 1} → Rattle.segments.proofs.put_pair.Statement.statement M
 put-pair-spec = tie.close (tie.spec (λ c κs. search needs) (λ c. search needs) (λ c κs. search needs) (λ c. search needs) returns)

@@ -1,8 +1,6 @@
 -- `run_of_mode` meets its contract. Assumes nothing.
-use mathlib.Core.Path.{refl}
+use Rattle.general.proofs.Names.{refl, needs}
 use Rattle.segments.proofs.Steps.{run-numeric, run-text, run-bytes, run-one, run-two, run-double, run-four, run-none}
-use borrow.Author.Needs.{needs}
-use Rattle.segments.proofs.run_of_mode.Statement.{statement}
 use Rattle.segments.proofs.run_of_mode.Tie as tie
 
 returns : tie.Need-returns
@@ -53,7 +51,7 @@ returns-8 c =
     let k = c .match .rest in
     (rw (run-none (a .s .now) (a .from) (a .to) (a .out .now) (a .mode) (k .0 .0 .0 .0 .0 .0 .1) (k .0 .0 .0 .0 .0 .1) (k .0 .0 .0 .0 .1) (k .0 .0 .0 .1) (k .0 .0 .1) (k .0 .1) (k .1)) refl, tt)
 
-pub run-of-mode-spec : {M : Type 1} → statement M
+pub run-of-mode-spec : {M : Type 1} → Rattle.segments.proofs.run_of_mode.Statement.statement M
 run-of-mode-spec =
     tie.close (tie.spec (λ c κs. search needs) (λ c κs. search needs) (λ c κs. search needs) (λ c κs. search needs)
     (λ c κs. search needs) (λ c κs. search needs) (λ c κs. search needs) (λ c κs. search needs) (λ c κs. search needs)

@@ -1,17 +1,9 @@
 -- `same_region` meets its contract. Assumes nothing.
-use borrow.Author.Needs.{needs}
-use mathlib.Core.Path.{_≡_, _∙_, refl, ap₂}
-use mathlib.Core.Bool.{not}
-use mathlib.Core.List.{[], _∷_}
-use native.Mathlib.Omega.{arith}
-use Prim.Native.Nat.{ℕ, _*_, _-_}
-use lib.ListN.{length}
-use lib.Seq.{sets}
+use Rattle.general.proofs.Names.{needs, _≡_, _∙_, refl, ap₂, not, [], _∷_, arith, ℕ, _*_, _-_, length, sets}
 use Rattle.bits.proofs.Words.{WordAt}
 use Rattle.segments.specs.Segments.{highOf, lowOf, regionOf}
 use Rattle.segments.specs.Positions.{regionAt}
 use Rattle.segments.proofs.Turns.{Remains, remains-start, remains-cut, remains-word, remains-lacks, remains-stop, remains-on, remains-none, region-end, region-switch, region-lacks, region-pair}
-use Rattle.segments.proofs.same_region.Statement.{statement}
 use Rattle.segments.proofs.same_region.Tie as tie
 
 abbrev Inv-loop : tie.InvT-loop
@@ -55,9 +47,6 @@ returns-4 c =
     let one = k .before .before .before .before .before .before .before .args .one in
     record { cases = remains-lacks (k .before .before .before .before .loop .inv .1) (word k) (region-lacks one (i .before .if1 .left) (i .if2 .left) (omega arith)) }
 
-put-pair-requires : tie.Need-put-pair-requires Inv-loop μ-loop
-put-pair-requires c κs = (omega arith, c .before .high-byte .ensures .0, c .low-byte .ensures .0)
-
 loop-less : tie.Need-loop-less Inv-loop μ-loop
 loop-less c = let m = word (c .before .before .before .before .before .before .before .before .before .before) .room in omega arith
 
@@ -75,11 +64,11 @@ loop-again c =
     let on = region-pair one (i .before .if1 .left) (i .if2 .left) (omega arith) in
     (p .kept .0 ∙ l .inv .0, remains-on (l .inv .1) (word k) (highOf one w ∷ lowOf one w ∷ []) (regionOf one) on (omega arith) e)
 
-pub same-region-spec : {M : Type 1} → statement M
+pub same-region-spec : {M : Type 1} → Rattle.segments.proofs.same_region.Statement.statement M
 same-region-spec =
-    tie.close (tie.spec Inv-loop μ-loop (λ c. (refl, remains-start (omega arith) (omega arith))) (λ c κs. search needs)
-    (λ c. c .match .keys1) (λ c. c .match .keys2) (λ c. c .before .before .before .loop .inv .0) returns (λ c. omega arith)
-    (λ c. c .before .before .before .before .before .loop .inv .0) returns-2
-    (λ c. c .before .before .before .before .before .before .loop .inv .0) returns-3 (λ c κs. search needs) same-length-4 returns-4
-    (λ c κs. omega (arith, c .before .before .region-size .ensures))
-    (λ c κs. omega (arith, c .before .before .before .region-size .ensures)) put-pair-requires (λ c. omega arith) loop-less loop-again)
+    tie.close (tie.spec Inv-loop μ-loop (λ c. (refl, remains-start (omega arith) (omega arith))) (λ c κs. search needs) (λ c. c .match .keys1)
+    (λ c. c .match .keys2) (λ c. c .before .before .before .loop .inv .0) returns (λ c. omega arith)
+    (λ c. c .before .before .before .before .before .loop .inv .0) returns-2 (λ c. c .before .before .before .before .before .before .loop .inv .0)
+    returns-3 (λ c κs. search needs) same-length-4 returns-4 (λ c κs. omega (arith, c .before .before .region-size .ensures))
+    (λ c κs. omega (arith, c .before .before .before .region-size .ensures))
+    (λ c κs. (omega arith, c .before .high-byte .ensures .0, c .low-byte .ensures .0)) (λ c. omega arith) loop-less loop-again)

@@ -1,10 +1,7 @@
 -- `segment` meets its contract. Assumes nothing.
-use Prim.Native.Nat.{_-_}
-use native.Mathlib.Omega.{arith}
+use Rattle.general.proofs.Names.{_-_, arith, needs}
 use Rattle.segments.proofs.Steps.{command-length, eci-on, eci-bound, eci-stop, run-on, run-stop, inside}
-use borrow.Author.Needs.{needs}
 use Rattle.segments.specs.Segments.{cut, lacking}
-use Rattle.segments.proofs.segment.Statement.{statement}
 use Rattle.segments.proofs.segment.Tie as tie
 
 put-eci-requires : tie.Need-put-eci-requires
@@ -86,7 +83,7 @@ returns-6 c =
     let q = b .run-of-mode in
     run-stop (a .s .now) (a .place .at) (a .place .payload) (a .place .script) (a .out .now) (a .script .now) (a .mode) (omega arith) (omega arith) (b .before .before .if1 .left) (q .result) (q .last .1 .1 .0) (q .ensures .0) lacking (q .last .1 .1 .0) (a .script .now) (c .enum-told4 .given .1)
 
-pub segment-spec : {M : Type 1} → statement M
+pub segment-spec : {M : Type 1} → Rattle.segments.proofs.segment.Statement.statement M
 segment-spec =
     tie.close (tie.spec (λ c κs. search needs) (λ c. search needs) put-eci-requires (λ c. search needs) (λ c. search needs)
     (λ c. search needs) (λ c. search needs) returns returns-2 returns-3 (λ c κs. search needs) (λ c. search needs) sub-put-command

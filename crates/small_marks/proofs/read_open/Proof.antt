@@ -3,11 +3,7 @@ use Rattle.placement.proofs.Rows.{first-codewords}
 use Rattle.symbol.specs.Version.{sideOf}
 use Rattle.symbol.specs.Layout.{layoutOf}
 use Rattle.codewords.specs.Codewords.{maskBit, dataBits}
-use lib.Seq.{length-take-le}
-use mathlib.Core.Path.{sym}
-use native.Mathlib.Omega.{arith}
-use borrow.Author.Needs.{needs}
-use Rattle.small_marks.proofs.read_open.Statement.{statement}
+use Rattle.general.proofs.Names.{length-take-le, sym, arith, needs}
 use Rattle.small_marks.proofs.read_open.Tie as tie
 
 slice-aggregate-read-open-rows : tie.Need-slice-aggregate-read-open-rows
@@ -25,6 +21,6 @@ returns c =
     let v = start .args .version in
     first-codewords (start .args .out .now) (dataBits (maskBit (sideOf v) (start .args .mask)) 0 (layoutOf v) (start .args .square .now)) (start .args .total) (start .pre .1 .0) (c .before .before .read-open-rows .ensures)
 
-pub read-open-spec : {M : Type 1} → statement M
+pub read-open-spec : {M : Type 1} → Rattle.small_marks.proofs.read_open.Statement.statement M
 read-open-spec =
     tie.close (tie.spec (λ c. search needs) slice-aggregate-read-open-rows read-open-rows-requires (λ c. search needs) returns)

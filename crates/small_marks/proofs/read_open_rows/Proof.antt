@@ -6,13 +6,7 @@ use Rattle.placement.specs.Walk.{bitsFrom, Pending, Walk}
 use Rattle.symbol.specs.Version.{sideOf}
 use Rattle.symbol.specs.Layout.{layoutOf}
 use Rattle.codewords.specs.Codewords.{maskBit, dataBits}
-use lib.ListN.{length}
-use mathlib.Core.Path.{_≡_, refl, sym, ap, subst}
-use Prim.Native.Nat.{ℕ, _+_, _-_, _*_, _≤_}
-use native.Mathlib.Nat.{zero-mul}
-use native.Mathlib.Omega.{arith}
-use borrow.Author.Needs.{needs}
-use Rattle.small_marks.proofs.read_open_rows.Statement.{statement}
+use Rattle.general.proofs.Names.{length, _≡_, refl, sym, ap, subst, ℕ, _+_, _-_, _*_, _≤_, zero-mul, arith, needs}
 use Rattle.small_marks.proofs.read_open_rows.Tie as tie
 
 abbrev Inv-loop : tie.InvT-loop
@@ -20,9 +14,6 @@ Inv-loop out₀ square version mask side rows r₀ i₀ out r i = Pending r × (
 
 abbrev μ-loop : tie.MeasureT-loop
 μ-loop out₀ square version mask side rows r₀ i₀ out r i = sideOf version - i
-
-open-rows-requires : tie.Need-open-rows-requires Inv-loop μ-loop
-open-rows-requires c κs = tt
 
 loop-holds : tie.Need-loop-holds Inv-loop μ-loop
 loop-holds c =
@@ -44,9 +35,6 @@ add-end c = omega (arith, row-inside (c .before .before .loop .i) (sideOf (c .be
 
 part-read-span-end : tie.Need-part-read-span-end Inv-loop μ-loop
 part-read-span-end c = omega (arith, row-inside (c .before .before .before .loop .i) (sideOf (c .before .before .before .before .before .before .before .args .version)) (c .before .before .loop-test .taken))
-
-sub-read-span-2 : tie.Need-sub-read-span-2 Inv-loop μ-loop
-sub-read-span-2 c = omega (arith, margin-few (c .before .before .margin .ensures))
 
 read-span-requires : tie.Need-read-span-requires Inv-loop μ-loop
 read-span-requires c κs =
@@ -76,9 +64,9 @@ returns c =
     let e : loop .i ≡ sideOf (start .args .version) = omega arith in
     rows-done (maskBit (sideOf (start .args .version)) (start .args .mask)) (layoutOf (start .args .version)) (start .args .square .now) (loop .i * sideOf (start .args .version)) (omega (arith, ap (λ (n : ℕ). n * sideOf (start .args .version)) e)) (loop .inv .0) (loop .inv .2)
 
-pub read-open-rows-spec : {M : Type 1} → statement M
+pub read-open-rows-spec : {M : Type 1} → Rattle.small_marks.proofs.read_open_rows.Statement.statement M
 read-open-rows-spec =
-    tie.close (tie.spec Inv-loop μ-loop (λ c. omega arith) (λ c. omega arith) open-rows-requires loop-holds (λ c κs. omega arith) mul-at
-    add-end (λ c. omega (arith, c .before .before .before .before .before .before .pre .2)) (λ c. omega arith) (λ c. omega arith)
-    (λ c. omega arith) (λ c. search needs) (λ c. omega arith) (λ c. omega arith) part-read-span-end sub-read-span-2 read-span-requires
-    (λ c. omega arith) (λ c. omega arith) loop-again (λ c. c .before .loop .inv .2 .words .size) returns)
+    tie.close (tie.spec Inv-loop μ-loop (λ c. omega arith) (λ c. omega arith) (λ c κs. tt) loop-holds (λ c κs. omega arith) mul-at add-end
+    (λ c. omega (arith, c .before .before .before .before .before .before .pre .2)) (λ c. omega arith) (λ c. omega arith) (λ c. omega arith)
+    (λ c. search needs) (λ c. omega arith) (λ c. omega arith) part-read-span-end (λ c. omega (arith, margin-few (c .before .before .margin .ensures)))
+    read-span-requires (λ c. omega arith) (λ c. omega arith) loop-again (λ c. c .before .loop .inv .2 .words .size) returns)

@@ -3,13 +3,8 @@ use Rattle.small_marks.proofs.Narrow.{lowest-is, spans-none, spans-on, 
 use Rattle.placement.specs.Walk.{Pending}
 use Rattle.small_marks.specs.Open.{Spans}
 use Rattle.bits.specs.Bits.{lowBits}
-use lib.ListN.{length}
+use Rattle.general.proofs.Names.{length, _≡_, refl, sym, subst, _∙_, ℕ, _-_, _^_, _≤_, _<_, mod-lt, arith}
 use lib.Pow.{pow-pos}
-use mathlib.Core.Path.{_≡_, refl, sym, subst, _∙_}
-use Prim.Native.Nat.{ℕ, _-_, _^_, _≤_, _<_}
-use native.Mathlib.Nat.{mod-lt}
-use native.Mathlib.Omega.{arith}
-use Rattle.small_marks.proofs.read_span.Statement.{statement}
 use Rattle.small_marks.proofs.read_span.Tie as tie
 
 abbrev Inv-loop : tie.InvT-loop
@@ -64,7 +59,7 @@ returns c =
     let x = lowest-is (start .pre .0) (to - 8) w (loop .r .column) (omega (arith, left)) (omega (arith, most)) (c .before .before .before .before .unmasked2 .ensures .0) (c .before .before .before .lowest .ensures) in
     (push .ensures .0, e, spans-on (loop .inv .1) (omega (arith, e, most)) (loop .inv .3) (spans-push (start .pre .0) w _ (omega (arith, most)) x (push .ensures .1) (push .ensures .2)))
 
-pub read-span-spec : {M : Type 1} → statement M
+pub read-span-spec : {M : Type 1} → Rattle.small_marks.proofs.read_span.Statement.statement M
 read-span-spec =
     tie.close (tie.spec Inv-loop μ-loop loop-holds (λ c. omega arith) unmasked-requires push-requires (λ c. omega arith) loop-again
     (λ c. c .before .before .before .loop .inv .2) (λ c. c .before .before .before .before .before .before .before .pre .3)

@@ -2,12 +2,7 @@
 use Rattle.symbol.proofs.Answer.{too-low, too-high, too-short, small, large}
 use Rattle.symbol.proofs.Coordinates.{square-le}
 use Rattle.symbol.specs.Version.{sideOf}
-use lib.ListN.{length}
-use mathlib.Core.Path.{_≡_, sym, ap, subst, _∙_}
-use Prim.Native.Nat.{ℕ, _*_, _<_, _≤_}
-use native.Mathlib.Omega.{arith}
-use borrow.Author.Needs.{needs}
-use Rattle.symbol.proofs.layout.Statement.{statement}
+use Rattle.general.proofs.Names.{length, _≡_, sym, ap, subst, _∙_, ℕ, _*_, _<_, _≤_, arith, needs}
 use Rattle.symbol.proofs.layout.Tie as tie
 
 returns : tie.Need-returns
@@ -15,9 +10,6 @@ returns c = too-low (c .before .before .args .version) (c .before .before .args 
 
 returns-2 : tie.Need-returns-2
 returns-2 c = too-high (c .before .before .before .args .version) (c .before .before .before .args .out .now) (c .before .if1 .left) (c .if2 .taken)
-
-mul-if3 : tie.Need-mul-if3
-mul-if3 c = omega (arith, square-le (c .side .result) (omega arith))
 
 returns-3 : tie.Need-returns-3
 returns-3 c =
@@ -63,7 +55,7 @@ returns-5 c =
     (c .before .before .before .spacing-of .ensures .1) (c .before .before .before .spacing-of .ensures .0 .side-is)
     (c .before .before .alignment .ensures)
 
-pub layout-spec : {M : Type 1} → statement M
+pub layout-spec : {M : Type 1} → Rattle.symbol.proofs.layout.Statement.statement M
 layout-spec =
-    tie.close (tie.spec returns returns-2 (λ c κs. search needs) mul-if3 returns-3 (λ c κs. search needs) (λ c. search needs) returns-4
-    (λ c κs. search needs) alignment-requires (λ c. search needs) returns-5)
+    tie.close (tie.spec returns returns-2 (λ c κs. search needs) (λ c. omega (arith, square-le (c .side .result) (omega arith))) returns-3
+    (λ c κs. search needs) (λ c. search needs) returns-4 (λ c κs. search needs) alignment-requires (λ c. search needs) returns-5)

@@ -1,16 +1,10 @@
 -- `read_open_stream` meets its contract. Assumes nothing.
-use mathlib.Core.Path.{_∙_, refl, ap}
-use mathlib.Core.List.{List, _++_}
-use Prim.Native.Nat.{ℕ}
-use native.Mathlib.Omega.{arith}
-use lib.ListN.{drop}
+use Rattle.general.proofs.Names.{_∙_, refl, ap, List, _++_, ℕ, arith, drop, needs}
 use Rattle.codewords.specs.Codewords.{toStream}
-use Rattle.blocks.proofs.Rows.{total-open}
+use Rattle.block_table.proofs.Rows.{total-open}
 use Rattle.small_marks.proofs.Open.{open-enough}
-use Rattle.squares.proofs.Modules.{codewords-taken}
+use Rattle.marks.proofs.Modules.{codewords-taken}
 use Rattle.telling.proofs.Body.{enough-bits, stream-is, open-drawn}
-use borrow.Author.Needs.{needs}
-use Rattle.telling.proofs.read_open_stream.Statement.{statement}
 use Rattle.telling.proofs.read_open_stream.Tie as tie
 
 read-open-requires : tie.Need-read-open-requires
@@ -34,7 +28,7 @@ returns c =
     stream-is (a .args .m) _ _ (a .pre .0) (open-drawn _) _ _ _ _ refl (total .ensures .0)
     (c .before .before .to-stream .ensures ∙ ap (λ (x : List ℕ). toStream x ++ drop (total .result) (a .args .stream .now)) (codewords-taken _ _ _ _ (c .before .before .before .before .before .before .read-open .ensures)))
 
-pub read-open-stream-spec : {M : Type 1} → statement M
+pub read-open-stream-spec : {M : Type 1} → Rattle.telling.proofs.read_open_stream.Statement.statement M
 read-open-stream-spec =
     tie.close (tie.spec (λ c κs. search needs) (λ c. search needs) read-open-requires (λ c. search needs) to-stream-requires
     (λ c. search needs) returns)

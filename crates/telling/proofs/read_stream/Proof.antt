@@ -1,14 +1,8 @@
 -- `read_stream` meets its contract. Assumes nothing.
-use mathlib.Core.Path.{_∙_, sym, ap}
-use mathlib.Core.List.{List, _++_}
-use Prim.Native.Nat.{ℕ, _*_}
-use native.Mathlib.Omega.{arith}
-use lib.ListN.{drop}
+use Rattle.general.proofs.Names.{_∙_, sym, ap, List, _++_, ℕ, _*_, arith, drop, needs}
 use Rattle.codewords.specs.Codewords.{toStream}
-use Rattle.squares.proofs.Modules.{codewords-taken}
+use Rattle.marks.proofs.Modules.{codewords-taken}
 use Rattle.telling.proofs.Body.{legible, enough-bits, stream-is}
-use borrow.Author.Needs.{needs}
-use Rattle.telling.proofs.read_stream.Statement.{statement}
 use Rattle.telling.proofs.read_stream.Tie as tie
 
 read-codewords-requires : tie.Need-read-codewords-requires
@@ -28,7 +22,7 @@ returns c =
     stream-is (a .args .m) _ _ (a .pre .0) (a .pre .1) _ _ _ _ (c .before .before .before .before .before .before .before .before .before .side .ensures) (total .ensures .0)
     (c .before .before .to-stream .ensures ∙ ap (λ (x : List ℕ). toStream x ++ drop (total .result) (a .args .stream .now)) (codewords-taken _ _ _ _ (c .before .before .before .before .before .before .read-codewords .ensures)))
 
-pub read-stream-spec : {M : Type 1} → statement M
+pub read-stream-spec : {M : Type 1} → Rattle.telling.proofs.read_stream.Statement.statement M
 read-stream-spec =
     tie.close (tie.spec (λ c κs. search needs) (λ c κs. search needs) (λ c. search needs) read-codewords-requires (λ c. search needs)
     (λ c κs. search needs) (λ c. search needs) returns)

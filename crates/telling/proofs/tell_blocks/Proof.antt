@@ -1,9 +1,7 @@
 -- `tell_blocks` meets its contract. Assumes nothing.
-use native.Mathlib.Omega.{arith}
-use Rattle.blocks.proofs.Rows.{total-small, total-ten}
+use Rattle.general.proofs.Names.{arith, needs}
+use Rattle.block_table.proofs.Rows.{total-small, total-ten}
 use Rattle.telling.proofs.Body.{ranged}
-use borrow.Author.Needs.{needs}
-use Rattle.telling.proofs.tell_blocks.Statement.{statement}
 use Rattle.telling.proofs.tell_blocks.Tie as tie
 
 read-stream-requires : tie.Need-read-stream-requires
@@ -36,7 +34,7 @@ returns-2 c =
     let t = c .before .before .before .before .before .before .before .tell-stream2 .ensures in
     (t .reading _ (c .before .before .before .before .before .before .before .before .before .before .before .before .before .read-stream2 .ensures), t .small)
 
-pub tell-blocks-spec : {M : Type 1} → statement M
+pub tell-blocks-spec : {M : Type 1} → Rattle.telling.proofs.tell_blocks.Statement.statement M
 tell-blocks-spec =
     tie.close (tie.spec (λ c. search needs) read-stream-requires (λ c. search needs) tell-stream-requires (λ c. search needs)
     (λ c. search needs) (λ c. search needs) returns (λ c. search needs) read-stream-requires-2 (λ c. search needs)

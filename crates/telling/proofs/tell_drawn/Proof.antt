@@ -1,7 +1,6 @@
 -- `tell_drawn` meets its contract. Assumes nothing.
 use Rattle.telling.proofs.Body.{too-few, enough, with-blocks}
 use borrow.Author.Needs.{needs}
-use Rattle.telling.proofs.tell_drawn.Statement.{statement}
 use Rattle.telling.proofs.tell_drawn.Tie as tie
 
 returns : tie.Need-returns
@@ -28,7 +27,7 @@ returns-2 c =
     let q = tell-blocks .ensures in
     (with-blocks (a .args .m) _ _ (a .pre .0) (a .pre .1) _ _ (data-modules .ensures) (total-codewords .ensures .0) _ _ (if1 .left) _ (q .0), q .1)
 
-pub tell-drawn-spec : {M : Type 1} → statement M
+pub tell-drawn-spec : {M : Type 1} → Rattle.telling.proofs.tell_drawn.Statement.statement M
 tell-drawn-spec =
     tie.close (tie.spec (λ c κs. search needs) (λ c κs. search needs) (λ c. search needs) (λ c κs. search needs) (λ c. search needs)
     returns tell-blocks-requires (λ c. search needs) (λ c. search needs) (λ c. search needs) returns-2)

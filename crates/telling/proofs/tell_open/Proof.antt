@@ -1,9 +1,7 @@
 -- `tell_open` meets its contract. Assumes nothing.
-use native.Mathlib.Omega.{arith}
-use Rattle.blocks.proofs.Rows.{total-open}
+use Rattle.general.proofs.Names.{arith, needs}
+use Rattle.block_table.proofs.Rows.{total-open}
 use Rattle.telling.proofs.Body.{ranged, open-blocks}
-use borrow.Author.Needs.{needs}
-use Rattle.telling.proofs.tell_open.Statement.{statement}
 use Rattle.telling.proofs.tell_open.Tie as tie
 
 read-open-stream-requires : tie.Need-read-open-stream-requires
@@ -22,7 +20,7 @@ returns c =
     let t = c .before .before .before .before .before .before .before .tell-stream .ensures in
     (open-blocks (a .args .m) _ _ _ _ (a .pre .0) (a .pre .1) (t .reading _ (c .before .before .before .before .before .before .before .before .before .before .before .before .before .read-open-stream .ensures)), t .small)
 
-pub tell-open-spec : {M : Type 1} → statement M
+pub tell-open-spec : {M : Type 1} → Rattle.telling.proofs.tell_open.Statement.statement M
 tell-open-spec =
     tie.close (tie.spec (λ c. search needs) read-open-stream-requires (λ c. search needs) tell-stream-requires (λ c. search needs)
     (λ c. search needs) (λ c. search needs) returns)

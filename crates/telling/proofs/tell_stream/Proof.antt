@@ -1,9 +1,7 @@
 -- `tell_stream` meets its contract. Assumes nothing.
-use native.Mathlib.Omega.{arith}
-use Rattle.squares.proofs.Starts.{row-total, row-own, row-data}
+use Rattle.general.proofs.Names.{arith, needs}
+use Rattle.marks.proofs.Starts.{row-total, row-own, row-data}
 use Rattle.telling.proofs.Body.{count-small, blocks-refused, blocks-told}
-use borrow.Author.Needs.{needs}
-use Rattle.telling.proofs.tell_stream.Statement.{statement}
 use Rattle.telling.proofs.tell_stream.Tie as tie
 
 correct-blocks-requires : tie.Need-correct-blocks-requires
@@ -36,7 +34,7 @@ returns-2 c =
     let a = c .before .before .before .before .before .before .before .before .before .before .before .before .before in
     blocks-refused (a .args .m) (a .pre .0) _ (c .before .before .before .before .before .before .before .before .block-row .ensures) _ _ _ _ _ (c .before .enum-told .given .1) (c .before .before .before .before .before .correct-blocks .ensures .0) (c .refused .ensures)
 
-pub tell-stream-spec : {M : Type 1} → statement M
+pub tell-stream-spec : {M : Type 1} → Rattle.telling.proofs.tell_stream.Statement.statement M
 tell-stream-spec =
     tie.close (tie.spec (λ c κs. search needs) (λ c. search needs) correct-blocks-requires (λ c. search needs) (λ c. search needs)
     tell-segments-requires (λ c. search needs) (λ c κs. search needs) (λ c. search needs) (λ c. search needs) (λ c. search needs)

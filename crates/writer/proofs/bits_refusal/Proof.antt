@@ -2,7 +2,6 @@
 use native.Mathlib.Omega.{arith}
 use Rattle.writer.proofs.Rooms.{room-is}
 use Rattle.writer.proofs.Turned.{too-many, no-more}
-use Rattle.writer.proofs.bits_refusal.Statement.{statement}
 use Rattle.writer.proofs.bits_refusal.Tie as tie
 
 data-length-requires : tie.Need-data-length-requires
@@ -24,5 +23,5 @@ returns-2 c =
     let start = c .before .before .before .pre in
     no-more _ _ _ _ (room-is (start .0) _ (start .1 .is) _ (c .before .data-length .ensures) .0) (omega (arith, c .if1 .left))
 
-pub bits-refusal-spec : {M : Type 1} → statement M
+pub bits-refusal-spec : {M : Type 1} → Rattle.writer.proofs.bits_refusal.Statement.statement M
 bits-refusal-spec = tie.close (tie.spec data-length-requires mul-if1 returns returns-2)

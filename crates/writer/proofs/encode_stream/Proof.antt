@@ -1,8 +1,6 @@
 -- `encode_stream` meets its contract: the encoded data in the blocks of the row. Assumes nothing.
-use native.Mathlib.Omega.{arith}
+use Rattle.general.proofs.Names.{arith, needs}
 use Rattle.writer.proofs.Fronts.{stream-encoded}
-use borrow.Author.Needs.{needs}
-use Rattle.writer.proofs.encode_stream.Statement.{statement}
 use Rattle.writer.proofs.encode_stream.Tie as tie
 
 write-blocks-requires : tie.Need-write-blocks-requires
@@ -16,5 +14,5 @@ returns c =
     let w = c .before .before .write-blocks in
     stream-encoded (o .args .script .now) (o .args .payload .now) _ _ (o .args .stream .now) _ _ (o .pre .0 .3) (c .before .before .before .before .before .before .before .encode .ensures) (o .pre .0 .2) (w .kept .0) (w .ensures)
 
-pub encode-stream-spec : {M : Type 1} → statement M
+pub encode-stream-spec : {M : Type 1} → Rattle.writer.proofs.encode_stream.Statement.statement M
 encode-stream-spec = tie.close (tie.spec (λ c κs. search needs) write-blocks-requires (λ c. search needs) (λ c. search needs) returns)

@@ -1,11 +1,7 @@
 -- `place_refusal` meets its contract: 1 for too few data modules, 2 for another size, else 0. Assumes nothing.
-use mathlib.Core.Path.{ap}
-use Prim.Native.Nat.{ℕ, _*_}
-use native.Mathlib.Omega.{arith}
+use Rattle.general.proofs.Names.{ap, ℕ, _*_, arith, needs}
 use Rattle.writer.proofs.Starts.{square-small}
 use Rattle.writer.proofs.Turned.{too-few, wrong-size, right-size}
-use borrow.Author.Needs.{needs}
-use Rattle.writer.proofs.place_refusal.Statement.{statement}
 use Rattle.writer.proofs.place_refusal.Tie as tie
 
 mul-data-modules : tie.Need-mul-data-modules
@@ -37,7 +33,7 @@ returns-3 c =
     let o = before in
     right-size _ _ (o .pre) (o .args .size) _ _ _ (side .ensures) (c .before .before .before .total-codewords .ensures .0) (c .before .before .data-modules .ensures) (omega (arith, c .before .if1 .left)) (c .if2 .left)
 
-pub place-refusal-spec : {M : Type 1} → statement M
+pub place-refusal-spec : {M : Type 1} → Rattle.writer.proofs.place_refusal.Statement.statement M
 place-refusal-spec =
     tie.close (tie.spec (λ c κs. search needs) (λ c κs. search needs) mul-data-modules data-modules-requires (λ c. search needs) returns
     mul-if2 returns-2 returns-3)

@@ -1,10 +1,6 @@
 -- `place_stream` meets its contract: the codewords of the stream in a buffer, then in the square. Assumes nothing.
-use mathlib.Core.Path.{sym, ap, _∙_}
-use Prim.Native.Nat.{ℕ, _*_}
-use native.Mathlib.Omega.{arith}
+use Rattle.general.proofs.Names.{sym, ap, _∙_, ℕ, _*_, arith, needs}
 use Rattle.writer.proofs.Fronts.{stream-placed}
-use borrow.Author.Needs.{needs}
-use Rattle.writer.proofs.place_stream.Statement.{statement}
 use Rattle.writer.proofs.place_stream.Tie as tie
 
 place-codewords-requires : tie.Need-place-codewords-requires
@@ -21,7 +17,7 @@ returns c =
     let f = c .before .before .before .before .before .before .before .from-stream in
     stream-placed _ _ (o .pre .0) (o .args .stream .now) _ _ (o .args .square .now) _ _ _ (t .0) (c .before .before .before .before .before .before .before .before .before .side .ensures) (omega (arith, t .0, o .pre .3)) (f .kept .0) (f .ensures) (o .pre .1) (c .before .before .place-codewords .ensures)
 
-pub place-stream-spec : {M : Type 1} → statement M
+pub place-stream-spec : {M : Type 1} → Rattle.writer.proofs.place_stream.Statement.statement M
 place-stream-spec =
     tie.close (tie.spec (λ c κs. search needs) (λ c κs. search needs) (λ c κs. search needs) place-codewords-requires
     (λ c. search needs) (λ c. search needs) returns)

@@ -3,7 +3,6 @@ use Rattle.script.specs.declared.Check.the-variants.{Malformed, Lacking, Empty}
 use Rattle.writer.proofs.Rooms.{room-small}
 use Rattle.writer.proofs.Turned.{script-bits, script-other}
 use borrow.Author.Needs.{needs}
-use Rattle.writer.proofs.script_refusal.Statement.{statement}
 use Rattle.writer.proofs.script_refusal.Tie as tie
 
 returns : tie.Need-returns
@@ -26,7 +25,7 @@ returns-4 c =
     let start = c .before .before .before .before .before .before in
     script-other _ _ _ _ (room-small (start .pre .0)) _ Empty (c .enum-told3 .given .1) (c .before .before .check-script .ensures)
 
-pub script-refusal-spec : {M : Type 1} → statement M
+pub script-refusal-spec : {M : Type 1} → Rattle.writer.proofs.script_refusal.Statement.statement M
 script-refusal-spec =
     tie.close (tie.spec (λ c κs. search needs) (λ c. search needs) (λ c κs. search needs) (λ c. search needs) (λ c. search needs)
     (λ c. search needs) returns returns-2 returns-3 returns-4)

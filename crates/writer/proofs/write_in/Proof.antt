@@ -1,9 +1,8 @@
 -- `write_in` meets its contract: 1 where there is no word, else what the others answer. Assumes nothing.
-use Rattle.squares.proofs.Starts.{no-word}
+use Rattle.marks.proofs.Starts.{no-word}
 use Rattle.writer.proofs.Starts.{ranged, ready}
 use Rattle.writer.proofs.Turned.{answers-one}
 use borrow.Author.Needs.{needs}
-use Rattle.writer.proofs.write_in.Statement.{statement}
 use Rattle.writer.proofs.write_in.Tie as tie
 
 returns : tie.Need-returns
@@ -18,7 +17,7 @@ write-ready-requires c κs =
     let R = ranged _ _ _ _ told _ (c .before .before .before .before .before .before .before .word .given .1) in
     ready _ (start .args .kinds .now) _ R (start .pre (R .high)) (c .before .before .before .before .layout .ensures .1)
 
-pub write-in-spec : {M : Type 1} → statement M
+pub write-in-spec : {M : Type 1} → Rattle.writer.proofs.write_in.Statement.statement M
 write-in-spec =
     tie.close (tie.spec (λ c κs. search needs) (λ c. search needs) (λ c. search needs) returns (λ c κs. search needs)
     write-ready-requires (λ c. search needs) (λ c. search needs) (λ c. search needs))

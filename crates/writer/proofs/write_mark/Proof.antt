@@ -1,8 +1,6 @@
 -- `write_mark` meets its contract. Assumes nothing.
-use native.Mathlib.Omega.{arith}
-use Rattle.blocks.proofs.Rows.{total-small, total-open}
-use borrow.Author.Needs.{needs}
-use Rattle.writer.proofs.write_mark.Statement.{statement}
+use Rattle.general.proofs.Names.{arith, needs}
+use Rattle.block_table.proofs.Rows.{total-small, total-open}
 use Rattle.writer.proofs.write_mark.Tie as tie
 
 write-mark-in-requires : tie.Need-write-mark-in-requires
@@ -17,7 +15,7 @@ write-mark-in-requires-2 c κs =
     let t = total-small _ (o .0 .ranged .low) (o .0 .ranged .high) in
     ((o .0, o .1), (o .2, omega (arith, t), omega (arith, t)))
 
-pub write-mark-spec : {M : Type 1} → statement M
+pub write-mark-spec : {M : Type 1} → Rattle.writer.proofs.write_mark.Statement.statement M
 write-mark-spec =
     tie.close (tie.spec (λ c. search needs) (λ c. search needs) write-mark-in-requires (λ c. search needs) (λ c. search needs)
     (λ c. search needs) (λ c. search needs) write-mark-in-requires-2 (λ c. search needs) (λ c. search needs))

@@ -1,13 +1,8 @@
 -- `write_mark_in` meets its contract: the stream, its square, and the word in it. Assumes nothing.
-use mathlib.Core.Path.{sym, ap, _∙_}
-use Prim.Native.Nat.{ℕ, _*_}
-use native.Mathlib.Omega.{arith}
-use lib.Seq.{length-take-le}
-use Rattle.squares.proofs.Starts.{row-total, row-own}
+use Rattle.general.proofs.Names.{sym, ap, _∙_, ℕ, _*_, arith, length-take-le, needs}
+use Rattle.marks.proofs.Starts.{row-total, row-own}
 use Rattle.writer.proofs.Rooms.{room-is, fits, fits-lent, lent-back, size}
 use Rattle.writer.proofs.Fronts.{stream-of-row, mark-made}
-use borrow.Author.Needs.{needs}
-use Rattle.writer.proofs.write_mark_in.Statement.{statement}
 use Rattle.writer.proofs.write_mark_in.Tie as tie
 
 data-length-requires : tie.Need-data-length-requires
@@ -54,7 +49,7 @@ returns c =
     mark-made _ (o .args .script .now) (o .args .payload .now) _ _ _ _ R (c .before .before .before .before .before .before .before .before .before .before .before .before .before .before .before .before .before .before .before .before .side .ensures)
     (stream-of-row (o .args .script .now) (o .args .payload .now) _ _ _ _ r (row-total _ _ (R .low) (R .high) (R .level) _ r) (c .before .before .before .before .before .before .before .before .before .before .before .before .before .before .before .before .encode-stream .ensures)) (c .before .before .before .before .before .before .before .before .place-stream .ensures) (c .before .before .write-info .ensures)
 
-pub write-mark-in-spec : {M : Type 1} → statement M
+pub write-mark-in-spec : {M : Type 1} → Rattle.writer.proofs.write_mark_in.Statement.statement M
 write-mark-in-spec =
     tie.close (tie.spec (λ c κs. search needs) data-length-requires slice-relend-prefix-encode-stream slice-aggregate-encode-stream
     encode-stream-requires place-stream-requires write-info-requires (λ c. search needs) (λ c. search needs) (λ c. search needs)

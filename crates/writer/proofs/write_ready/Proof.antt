@@ -1,7 +1,6 @@
 -- `write_ready` meets its contract: the number of the place, or that of script and payload, or the mark. Assumes nothing.
 use Rattle.writer.proofs.Turned.{answers-place, answers-script, nothing-turned, answers-zero}
 use borrow.Author.Needs.{needs}
-use Rattle.writer.proofs.write_ready.Statement.{statement}
 use Rattle.writer.proofs.write_ready.Tie as tie
 
 returns : tie.Need-returns
@@ -24,7 +23,7 @@ returns-3 c =
     let o = c .before .before .before .before .before .before .before .before .before .before .before .before .before .before .before in
     answers-zero _ _ (o .pre) (o .args .script .now) (o .args .payload .now) (o .args .square .now) _ (c .before .before .before .before .before .before .before .before .before .before .place-refusal .ensures) (c .before .before .before .before .before .before .before .before .before .if1 .left) _ (c .before .before .before .before .before .before .script-refusal .ensures) (c .before .before .before .before .before .if2 .left) _ (c .before .before .write-mark .ensures)
 
-pub write-ready-spec : {M : Type 1} → statement M
+pub write-ready-spec : {M : Type 1} → Rattle.writer.proofs.write_ready.Statement.statement M
 write-ready-spec =
     tie.close (tie.spec (λ c κs. search needs) returns (λ c κs. search needs) (λ c. search needs) (λ c κs. search needs) returns-2
     (λ c. search needs) write-mark-requires (λ c. search needs) returns-3)

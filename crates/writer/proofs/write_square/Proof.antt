@@ -1,11 +1,7 @@
 -- `write_square` meets its contract: either buffer holds the layout. Assumes nothing.
-use Prim.Native.Nat.{_≤_}
-use native.Mathlib.Omega.{arith}
-use native.Mathlib.Nat.{mul-le-mul}
+use Rattle.general.proofs.Names.{_≤_, arith, mul-le-mul, needs}
 use Rattle.symbol.specs.Version.{sideOf}
 use Rattle.symbol.proofs.Coordinates.{square-le}
-use borrow.Author.Needs.{needs}
-use Rattle.writer.proofs.write_square.Statement.{statement}
 use Rattle.writer.proofs.write_square.Tie as tie
 
 write-in-requires : tie.Need-write-in-requires
@@ -19,7 +15,7 @@ write-in-requires-2 c κs =
     let start = c .before .before .before .before .before .before in
     λ h. square-le (sideOf (start .args .version)) (omega arith)
 
-pub write-square-spec : {M : Type 1} → statement M
+pub write-square-spec : {M : Type 1} → Rattle.writer.proofs.write_square.Statement.statement M
 write-square-spec =
     tie.close (tie.spec (λ c. search needs) write-in-requires (λ c. search needs) (λ c. search needs) (λ c. search needs)
     write-in-requires-2 (λ c. search needs) (λ c. search needs))

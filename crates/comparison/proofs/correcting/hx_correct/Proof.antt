@@ -1,9 +1,7 @@
 -- `hx_correct` meets its contract: one case of the answer after the other. Assumes nothing.
-use mathlib.Core.Path.{ap, sym, _∙_}
+use Rattle.general.proofs.Names.{ap, sym, _∙_, needs}
 use Rattle.corrector.specs.declared.Correction.{Correction}
 use Rattle.corrector.specs.Correct.{outcome, refusedBlock}
-use borrow.Author.Needs.{needs}
-use Rattle.comparison.proofs.correcting.hx_correct.Statement.{statement}
 use Rattle.comparison.proofs.correcting.hx_correct.Tie as tie
 
 returns : tie.Need-returns
@@ -24,7 +22,7 @@ returns-3 c =
     let correct = c .before .before .before .before .correct in
     sym (ap (λ (x : Correction). outcome x (correct .last .0)) (c .enum-told2 .given .1)) ∙ correct .ensures
 
-pub hx-correct-spec : {M : Type 1} → statement M
+pub hx-correct-spec : {M : Type 1} → Rattle.comparison.proofs.correcting.hx_correct.Statement.statement M
 hx-correct-spec =
     tie.close (tie.spec (λ c κs. search needs) (λ c. search needs) (λ c. search needs) (λ c. search needs) (λ c. search needs) returns
     (λ c. search needs) returns-2 (λ c. search needs) returns-3)

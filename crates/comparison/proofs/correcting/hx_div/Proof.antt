@@ -1,14 +1,7 @@
 -- `hx_div` meets its contract. Assumes nothing.
-use mathlib.Core.Path.{ap, sym, _∙_}
-use Prim.Native.Nat.{ℕ}
+use Rattle.general.proofs.Names.{ap, sym, _∙_, ℕ, arith, needs}
 use Rattle.field.specs.Field.{mul}
-use native.Mathlib.Omega.{arith}
-use borrow.Author.Needs.{needs}
-use Rattle.comparison.proofs.correcting.hx_div.Statement.{statement}
 use Rattle.comparison.proofs.correcting.hx_div.Tie as tie
-
-div-requires : tie.Need-div-requires
-div-requires c κs = (c .before .han-xin .ensures .0, omega (arith, c .before .before .if1 .left))
 
 returns-2 : tie.Need-returns-2
 returns-2 c =
@@ -18,5 +11,6 @@ returns-2 c =
       none = λ z. absurd (c .before .before .before .if1 .left z);
     }
 
-pub hx-div-spec : {M : Type 1} → statement M
-hx-div-spec = tie.close (tie.spec (λ c. search needs) (λ c κs. search needs) div-requires returns-2)
+pub hx-div-spec : {M : Type 1} → Rattle.comparison.proofs.correcting.hx_div.Statement.statement M
+hx-div-spec = tie.close (tie.spec (λ c. search needs) (λ c κs. search needs)
+    (λ c κs. (c .before .han-xin .ensures .0, omega (arith, c .before .before .if1 .left))) returns-2)

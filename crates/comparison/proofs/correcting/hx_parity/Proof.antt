@@ -1,9 +1,7 @@
 -- `hx_parity` meets its contract: one case of the answer after the other. Assumes nothing.
-use mathlib.Core.Path.{ap, sym, _∙_}
+use Rattle.general.proofs.Names.{ap, sym, _∙_, needs}
 use Rattle.parity.specs.declared.Encoded.{Encoded}
 use Rattle.parity.specs.Encode.{encoding}
-use borrow.Author.Needs.{needs}
-use Rattle.comparison.proofs.correcting.hx_parity.Statement.{statement}
 use Rattle.comparison.proofs.correcting.hx_parity.Tie as tie
 
 returns : tie.Need-returns
@@ -18,7 +16,7 @@ returns-2 c =
     let encode = c .before .before .before .before .encode in
     sym (ap (λ (x : Encoded). encoding x (encode .last .0)) (c .enum-told2 .given .1)) ∙ encode .ensures
 
-pub hx-parity-spec : {M : Type 1} → statement M
+pub hx-parity-spec : {M : Type 1} → Rattle.comparison.proofs.correcting.hx_parity.Statement.statement M
 hx-parity-spec =
     tie.close (tie.spec (λ c κs. search needs) (λ c. search needs) (λ c. search needs) (λ c. search needs) returns (λ c. search needs)
     returns-2)

@@ -1,13 +1,7 @@
 -- `hx_block_number` meets its contract. Assumes nothing.
 use Rattle.comparison.specs.Marks.{rowAnswer}
-use mathlib.Core.List.{List}
-use Prim.Native.Nat.{ℕ}
-use lib.ListN.{getD}
-use mathlib.Core.Path.{ap}
-use borrow.Author.Tests.{le-leb, lt-leb, lt-ltb, le-ltb}
+use Rattle.general.proofs.Names.{List, ℕ, getD, ap, le-leb, lt-leb, lt-ltb, le-ltb, needs}
 use Rattle.symbol.specs.Version.{isVersion}
-use borrow.Author.Needs.{needs}
-use Rattle.comparison.proofs.marks.hx_block_number.Statement.{statement}
 use Rattle.comparison.proofs.marks.hx_block_number.Tie as tie
 
 returns : tie.Need-returns
@@ -33,5 +27,5 @@ returns-5 c =
     let if1 = c .before .before .before .before .if1 in
     simp (le-leb _ _ (if1 .left), le-leb _ _ (c .before .before .before .if2 .left), le-leb _ _ (c .before .before .if3 .left), lt-ltb _ _ (c .before .if4 .left)) (ap (λ (r : List ℕ). getD r (start .args .n) 0) (c .block-row .ensures))
 
-pub hx-block-number-spec : {M : Type 1} → statement M
+pub hx-block-number-spec : {M : Type 1} → Rattle.comparison.proofs.marks.hx_block_number.Statement.statement M
 hx-block-number-spec = tie.close (tie.spec returns returns-2 returns-3 returns-4 (λ c κs. search needs) (λ c. search needs) returns-5)

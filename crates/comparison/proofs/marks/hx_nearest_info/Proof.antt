@@ -1,8 +1,6 @@
 -- `hx_nearest_info` meets its contract. Assumes nothing.
-use mathlib.Core.Path.{ap, _∙_}
+use Rattle.general.proofs.Names.{ap, _∙_, needs}
 use Rattle.information.specs.Information.{NearestAnswer}
-use borrow.Author.Needs.{needs}
-use Rattle.comparison.proofs.marks.hx_nearest_info.Statement.{statement}
 use Rattle.comparison.proofs.marks.hx_nearest_info.Tie as tie
 
 returns : tie.Need-returns
@@ -15,5 +13,5 @@ returns c =
       w .3 ∙ ap (λ (x : NearestAnswer). x .distance) e,
     )
 
-pub hx-nearest-info-spec : {M : Type 1} → statement M
+pub hx-nearest-info-spec : {M : Type 1} → Rattle.comparison.proofs.marks.hx_nearest_info.Statement.statement M
 hx-nearest-info-spec = tie.close (tie.spec (λ c κs. search needs) (λ c κs. search needs) returns)

@@ -1,9 +1,7 @@
 -- `hx_total` meets its contract. Assumes nothing.
 use Rattle.comparison.specs.Marks.{totalAnswer}
-use borrow.Author.Tests.{le-leb, lt-leb}
+use Rattle.general.proofs.Names.{le-leb, lt-leb, needs}
 use Rattle.symbol.specs.Version.{isVersion}
-use borrow.Author.Needs.{needs}
-use Rattle.comparison.proofs.marks.hx_total.Statement.{statement}
 use Rattle.comparison.proofs.marks.hx_total.Tie as tie
 
 returns : tie.Need-returns
@@ -18,5 +16,5 @@ returns-3 : tie.Need-returns-3
 unfolding totalAnswer isVersion
 returns-3 c = simp (le-leb _ _ (c .before .before .if1 .left), le-leb _ _ (c .before .if2 .left)) (c .total-codewords .ensures .0)
 
-pub hx-total-spec : {M : Type 1} → statement M
+pub hx-total-spec : {M : Type 1} → Rattle.comparison.proofs.marks.hx_total.Statement.statement M
 hx-total-spec = tie.close (tie.spec returns returns-2 (λ c κs. search needs) returns-3)

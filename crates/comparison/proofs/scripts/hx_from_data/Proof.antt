@@ -3,7 +3,6 @@ use Rattle.segments.specs.declared.Answer.the-variants.{Read, TooLong, Broken, 
 use Rattle.segments.specs.FromData.{fromData}
 use Rattle.comparison.proofs.Fields.{fields}
 use borrow.Author.Needs.{needs}
-use Rattle.comparison.proofs.scripts.hx_from_data.Statement.{statement}
 use Rattle.comparison.proofs.scripts.hx_from_data.Tie as tie
 
 returns : tie.Need-returns
@@ -55,7 +54,7 @@ returns-6 c =
     let q = g .from-data in
     fields (q .result) ScriptFull (q .last .1 .0) (q .last .1 .1 .0) (fromData (a .codewords .now) (a .payload .now) (a .script .now)) (q .ensures) (c .enum-told5 .given .1)
 
-pub hx-from-data-spec : {M : Type 1} → statement M
+pub hx-from-data-spec : {M : Type 1} → Rattle.comparison.proofs.scripts.hx_from_data.Statement.statement M
 hx-from-data-spec =
     tie.close (tie.spec (λ c κs. search needs) (λ c. search needs) (λ c. search needs) (λ c. search needs) (λ c. search needs)
     (λ c. search needs) (λ c. search needs) (λ c. search needs) (λ c. search needs) returns (λ c. search needs) (λ c. search needs)

@@ -1,15 +1,10 @@
 -- `division::divide` meets its contract: one coefficient more becomes zero in each turn. Assumes nothing.
-use mathlib.Core.Path.{_≡_, refl, _∙_}
-use Prim.Native.Nat.{_+_, _≤_, _-_}
-use lib.ListN.{length}
+use Rattle.general.proofs.Names.{_≡_, refl, _∙_, _+_, _≤_, _-_, length, needs, arith}
 use Rattle.field.specs.Table.{polyOf}
 use Rattle.field.proofs.Entries.{the-field}
 use Rattle.reed_solomon.specs.Sum.{seq}
 use Rattle.parity.specs.Inner.{Divided}
 use Rattle.parity.proofs.Remainder.{divided-start, reduced, divided-end}
-use borrow.Author.Needs.{needs}
-use native.Mathlib.Omega.{arith}
-use Rattle.parity.proofs.division.divide.Statement.{statement}
 use Rattle.parity.proofs.division.divide.Tie as tie
 
 abbrev Inv-loop : tie.InvT-loop
@@ -39,7 +34,7 @@ loop-again c =
 returns : tie.Need-returns Inv-loop μ-loop
 returns c = (c .before .loop .inv .0, divided-end _ _ _ _ _ _ _ _ (c .before .loop .inv .1) (c .before .loop .inv .2) (omega arith))
 
-pub divide-spec : {M : Type 1} → statement M
+pub divide-spec : {M : Type 1} → Rattle.parity.proofs.division.divide.Statement.statement M
 divide-spec =
     tie.close (tie.spec Inv-loop μ-loop loop-holds (λ c. search needs) (λ c. search needs) (λ c. search needs) (λ c κs. search needs)
     (λ c. search needs) (λ c. search needs) loop-again (λ c. c .before .loop .inv .0) returns)

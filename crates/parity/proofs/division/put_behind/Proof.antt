@@ -1,13 +1,9 @@
 -- `division::put_behind` meets its contract. Assumes nothing.
-use mathlib.Core.Path.{sym}
-use Prim.Native.Nat.{_-_, _≤_}
-use native.Mathlib.Omega.{arith}
-use borrow.Author.Needs.{needs}
-use Rattle.reed_solomon.specs.Inner.{Each}
-use Rattle.reed_solomon.proofs.Each.{each-same, each-next, each-end}
+use Rattle.general.proofs.Names.{sym, _-_, _≤_, arith, needs}
+use Rattle.general.specs.Each.{Each}
+use Rattle.general.proofs.Each.{each-same, each-next, each-end}
 use Rattle.parity.specs.Inner.{behindOf}
 use Rattle.parity.proofs.Left.{behind-low, behind-high}
-use Rattle.parity.proofs.division.put_behind.Statement.{statement}
 use Rattle.parity.proofs.division.put_behind.Tie as tie
 
 abbrev Inv-loop : tie.InvT-loop
@@ -27,7 +23,7 @@ loop-again c =
 returns : tie.Need-returns Inv-loop μ-loop
 returns c = let loop = c .before .loop in each-end _ _ _ _ _ (loop .inv .0) (omega arith) (omega arith)
 
-pub put-behind-spec : {M : Type 1} → statement M
+pub put-behind-spec : {M : Type 1} → Rattle.parity.proofs.division.put_behind.Statement.statement M
 put-behind-spec =
     tie.close (tie.spec Inv-loop μ-loop loop-holds (λ c. search needs) (λ c. omega (arith, c .before .loop .inv .1))
     (λ c. omega (arith, c .before .before .loop .inv .0 .size)) (λ c. search needs) (λ c. search needs) loop-again

@@ -1,13 +1,9 @@
 -- `errors::add` meets its contract. Assumes nothing.
-use mathlib.Core.Path.{_≡_, refl}
-use Prim.Native.Nat.{_≤_, _-_}
-use lib.ListN.{length}
-use Rattle.reed_solomon.specs.Inner.{Each, repaired}
-use Rattle.reed_solomon.proofs.Each.{each-start, each-end}
+use Rattle.general.proofs.Names.{_≡_, refl, _≤_, _-_, length, needs, arith}
+use Rattle.reed_solomon.specs.Inner.{repaired}
+use Rattle.general.specs.Each.{Each}
+use Rattle.general.proofs.Each.{each-start, each-end}
 use Rattle.reed_solomon.proofs.Residue.{repaired-next}
-use borrow.Author.Needs.{needs}
-use native.Mathlib.Omega.{arith}
-use Rattle.reed_solomon.proofs.errors.add.Statement.{statement}
 use Rattle.reed_solomon.proofs.errors.add.Tie as tie
 
 abbrev Inv-loop : tie.InvT-loop
@@ -16,21 +12,15 @@ Inv-loop block₀ e n k₀ block k = Each (repaired (length block₀) e) k block
 abbrev μ-loop : tie.MeasureT-loop
 μ-loop block₀ e n k₀ block k = n - k
 
-loop-holds : tie.Need-loop-holds Inv-loop μ-loop
-loop-holds c = (each-start _ _, omega arith, refl)
-
 loop-again : tie.Need-loop-again Inv-loop μ-loop
 loop-again c =
     let start = c .before .before .before .before in
     let loop = c .before .before .before .loop in
     (repaired-next (length (start .args .block .now)) (loop .k) (start .args .e .now) (start .args .block .now) (loop .block) (loop .inv .0) (omega arith), omega arith, refl)
 
-returns : tie.Need-returns Inv-loop μ-loop
-returns c = each-end _ _ _ _ _ (c .before .loop .inv .0) (omega arith) (omega arith)
-
-pub add-spec : {M : Type 1} → statement M
+pub add-spec : {M : Type 1} → Rattle.reed_solomon.proofs.errors.add.Statement.statement M
 add-spec =
-    tie.close (tie.spec Inv-loop μ-loop loop-holds (λ c. search needs) (λ c. search needs)
+    tie.close (tie.spec Inv-loop μ-loop (λ c. (each-start _ _, omega arith, refl)) (λ c. search needs) (λ c. search needs)
     (λ c. omega (arith, c .before .before .loop .inv .2)) (λ c. omega (arith, c .before .before .before .loop .inv .0 .size))
     (λ c. omega (arith, c .before .before .before .loop .inv .0 .size)) (λ c. search needs) (λ c. search needs) loop-again
-    (λ c. c .before .loop .inv .0 .size) returns)
+    (λ c. c .before .loop .inv .0 .size) (λ c. each-end _ _ _ _ _ (c .before .loop .inv .0) (omega arith) (omega arith)))

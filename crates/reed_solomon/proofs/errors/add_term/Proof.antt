@@ -1,10 +1,8 @@
 -- `errors::add_term` meets its contract. Assumes nothing.
-use mathlib.Core.Path.{refl, ap}
+use Rattle.general.proofs.Names.{refl, ap, needs}
 use Rattle.field.proofs.Entries.{the-field}
 use Rattle.reed_solomon.specs.Sum.{_⊕_}
 use Rattle.reed_solomon.proofs.Terms.{by-one, by-reduced}
-use borrow.Author.Needs.{needs}
-use Rattle.reed_solomon.proofs.errors.add_term.Statement.{statement}
 use Rattle.reed_solomon.proofs.errors.add_term.Tie as tie
 
 returns : tie.Need-returns
@@ -17,7 +15,7 @@ returns c =
       ap (λ x. v .d ⊕ x) (by-reduced _ (the-field _ (start .pre .0)) _ 3 _ _ _ (c .before .before .before .before .before .folded .ensures .1) (c .before .before .before .before .raised3 .ensures)),
     )
 
-pub add-term-spec : {M : Type 1} → statement M
+pub add-term-spec : {M : Type 1} → Rattle.reed_solomon.proofs.errors.add_term.Statement.statement M
 add-term-spec =
     tie.close (tie.spec (λ c κs. search needs) (λ c. search needs) (λ c κs. search needs) (λ c. search needs) (λ c κs. search needs)
     (λ c κs. search needs) returns)

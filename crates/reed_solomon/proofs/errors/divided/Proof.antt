@@ -1,11 +1,7 @@
 -- `errors::divided` meets its contract: Horner's rule three times over. Assumes nothing.
-use mathlib.Core.Path.{_≡_}
-use Prim.Native.Nat.{_≤_, _-_, _%_}
+use Rattle.general.proofs.Names.{_≡_, _≤_, _-_, _%_, needs, arith}
 use Rattle.field.specs.Table.{polyOf}
 use Rattle.reed_solomon.proofs.Magnitudes.{Dividing, dividing-start, dividing-two, dividing-end, dividing-last}
-use borrow.Author.Needs.{needs}
-use native.Mathlib.Omega.{arith}
-use Rattle.reed_solomon.proofs.errors.divided.Statement.{statement}
 use Rattle.reed_solomon.proofs.errors.divided.Tie as tie
 
 abbrev Inv-loop : tie.InvT-loop
@@ -13,9 +9,6 @@ Inv-loop field s f l d q₀ j₀ q j = Dividing (polyOf field) s f l d j (q .m) 
 
 abbrev μ-loop : tie.MeasureT-loop
 μ-loop field s f l d q₀ j₀ q j = l - j
-
-loop-holds : tie.Need-loop-holds Inv-loop μ-loop
-loop-holds c = (dividing-start _ _ _ _ _, omega arith, omega arith)
 
 loop-again : tie.Need-loop-again Inv-loop μ-loop
 loop-again c =
@@ -30,9 +23,9 @@ returns-2 c =
     let loop = c .before .before .before .before .before .loop in
     dividing-last _ _ _ _ _ _ _ _ _ _ _ (loop .inv .0) (omega arith) (c .last .ensures .0) (c .last .ensures .1)
 
-pub divided-spec : {M : Type 1} → statement M
+pub divided-spec : {M : Type 1} → Rattle.reed_solomon.proofs.errors.divided.Statement.statement M
 divided-spec =
-    tie.close (tie.spec Inv-loop μ-loop loop-holds (λ c. search needs) (λ c. search needs) (λ c. search needs) (λ c. search needs)
-    (λ c. search needs) (λ c. search needs) (λ c. search needs) (λ c. search needs) (λ c. search needs) (λ c. search needs)
-    (λ c. search needs) (λ c κs. search needs) (λ c. search needs) (λ c. search needs) loop-again returns (λ c. search needs)
+    tie.close (tie.spec Inv-loop μ-loop (λ c. (dividing-start _ _ _ _ _, omega arith, omega arith)) (λ c. search needs) (λ c. search needs)
+    (λ c. search needs) (λ c. search needs) (λ c. search needs) (λ c. search needs) (λ c. search needs) (λ c. search needs) (λ c. search needs)
+    (λ c. search needs) (λ c. search needs) (λ c κs. search needs) (λ c. search needs) (λ c. search needs) loop-again returns (λ c. search needs)
     (λ c. search needs) (λ c. search needs) (λ c. search needs) (λ c κs. search needs) returns-2)

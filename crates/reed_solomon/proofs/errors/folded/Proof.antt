@@ -1,13 +1,6 @@
 -- `errors::folded` meets its contract. Assumes nothing.
-use mathlib.Core.Path.{refl}
-use mathlib.Core.Logic.{inl}
-use native.Mathlib.Omega.{arith}
-use borrow.Author.Needs.{needs}
-use Rattle.reed_solomon.proofs.errors.folded.Statement.{statement}
+use Rattle.general.proofs.Names.{refl, inl, arith, needs}
 use Rattle.reed_solomon.proofs.errors.folded.Tie as tie
 
-returns : tie.Need-returns
-returns c = (omega arith, record { is = inl refl })
-
-pub folded-spec : {M : Type 1} → statement M
-folded-spec = tie.close (tie.spec returns (λ c κs. search needs) (λ c. search needs))
+pub folded-spec : {M : Type 1} → Rattle.reed_solomon.proofs.errors.folded.Statement.statement M
+folded-spec = tie.close (tie.spec (λ c. (omega arith, record { is = inl refl })) (λ c κs. search needs) (λ c. search needs))

@@ -1,10 +1,7 @@
 -- `errors::magnitude` meets its contract. Assumes nothing.
-use mathlib.Core.Path.{sym, _∙_}
+use Rattle.general.proofs.Names.{sym, _∙_, arith, needs}
 use Rattle.field.proofs.Entries.{the-field}
 use Rattle.reed_solomon.proofs.Magnitudes.{small-product, magnitude-none, magnitude-some}
-use native.Mathlib.Omega.{arith}
-use borrow.Author.Needs.{needs}
-use Rattle.reed_solomon.proofs.errors.magnitude.Statement.{statement}
 use Rattle.reed_solomon.proofs.errors.magnitude.Tie as tie
 
 returns : tie.Need-returns
@@ -24,7 +21,7 @@ returns-2 c =
     magnitude-some _ (the-field _ (start .pre .0)) _ _ _ _ _ _ _ _ _ (divided .ensures .0) (divided .ensures .1) (omega arith) (omega arith)
     (c .before .div .ensures) (c .raised .ensures)
 
-pub magnitude-spec : {M : Type 1} → statement M
+pub magnitude-spec : {M : Type 1} → Rattle.reed_solomon.proofs.errors.magnitude.Statement.statement M
 magnitude-spec =
     tie.close (tie.spec (λ c κs. search needs) returns (λ c κs. search needs) mul-raised (λ c. search needs) (λ c κs. search needs)
     returns-2)

@@ -1,11 +1,8 @@
 -- `errors::magnitudes` meets its contract. Assumes nothing.
-use Prim.Native.Nat.{_≤_, _-_}
+use Rattle.general.proofs.Names.{_≤_, _-_, needs, arith}
 use Rattle.field.specs.Table.{polyOf}
 use Rattle.reed_solomon.specs.Inner.{Errors}
 use Rattle.reed_solomon.proofs.Magnitudes.{errors-start, errors-next, errors-end}
-use borrow.Author.Needs.{needs}
-use native.Mathlib.Omega.{arith}
-use Rattle.reed_solomon.proofs.errors.magnitudes.Statement.{statement}
 use Rattle.reed_solomon.proofs.errors.magnitudes.Tie as tie
 
 abbrev Inv-loop : tie.InvT-loop
@@ -14,17 +11,14 @@ Inv-loop field first s f l e₀ n d₀ e d = Errors (polyOf field) first s f l d
 abbrev μ-loop : tie.MeasureT-loop
 μ-loop field first s f l e₀ n d₀ e d = n - d
 
-loop-holds : tie.Need-loop-holds Inv-loop μ-loop
-loop-holds c = (errors-start _ _ _ _ _ _, omega arith)
-
 loop-again : tie.Need-loop-again Inv-loop μ-loop
 loop-again c = (errors-next _ _ _ _ _ _ _ _ _ (c .before .before .before .loop .inv .0) (omega arith) (c .error-at .ensures), omega arith)
 
 returns : tie.Need-returns Inv-loop μ-loop
 returns c = errors-end _ _ _ _ _ _ _ _ _ (c .before .loop .inv .0) (c .before .loop .inv .1) (omega arith)
 
-pub magnitudes-spec : {M : Type 1} → statement M
+pub magnitudes-spec : {M : Type 1} → Rattle.reed_solomon.proofs.errors.magnitudes.Statement.statement M
 magnitudes-spec =
-    tie.close (tie.spec Inv-loop μ-loop loop-holds (λ c. omega (arith, c .before .before .loop .inv .0 .size)) (λ c κs. search needs)
-    (λ c. omega (arith, c .before .before .before .loop .inv .0 .size)) (λ c. search needs) (λ c. search needs) loop-again
+    tie.close (tie.spec Inv-loop μ-loop (λ c. (errors-start _ _ _ _ _ _, omega arith)) (λ c. omega (arith, c .before .before .loop .inv .0 .size))
+    (λ c κs. search needs) (λ c. omega (arith, c .before .before .before .loop .inv .0 .size)) (λ c. search needs) (λ c. search needs) loop-again
     (λ c. c .before .loop .inv .0 .size) returns)

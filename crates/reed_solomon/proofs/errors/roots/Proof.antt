@@ -1,14 +1,11 @@
 -- `errors::roots` meets its contract: the terms are carried from four degrees to the next four. Assumes nothing.
-use mathlib.Core.Path.{_≡_, sym}
-use Prim.Native.Nat.{_-_, _%_}
+use Rattle.general.proofs.Names.{_≡_, sym, _-_, _%_, arith, needs}
 use Rattle.field.specs.Table.{polyOf}
 use Rattle.field.proofs.Entries.{the-field}
-use Rattle.reed_solomon.specs.Inner.{Each, Terms, locatorAt}
-use Rattle.reed_solomon.proofs.Each.{each-start}
+use Rattle.reed_solomon.specs.Inner.{Terms, locatorAt}
+use Rattle.general.specs.Each.{Each}
+use Rattle.general.proofs.Each.{each-start}
 use Rattle.reed_solomon.proofs.Terms.{terms-start, terms-next, values-next, values-end}
-use native.Mathlib.Omega.{arith}
-use borrow.Author.Needs.{needs}
-use Rattle.reed_solomon.proofs.errors.roots.Statement.{statement}
 use Rattle.reed_solomon.proofs.errors.roots.Tie as tie
 
 abbrev Inv-loop : tie.InvT-loop
@@ -43,7 +40,7 @@ returns c =
     let start = c .before .before .before .before in
     values-end _ (the-field _ (start .pre .0)) _ _ (start .pre .1 .2) _ _ _ _ (c .before .loop .inv .1) (omega arith) (start .pre .1 .4)
 
-pub roots-spec : {M : Type 1} → statement M
+pub roots-spec : {M : Type 1} → Rattle.reed_solomon.proofs.errors.roots.Statement.statement M
 roots-spec =
     tie.close (tie.spec Inv-loop μ-loop loop-holds (λ c. sym (c .before .before .loop .inv .0 .size)) step-requires
     (λ c κs. omega arith) (λ c. search needs) (λ c. search needs) loop-again (λ c. c .before .loop .inv .1 .size) returns)

@@ -1,13 +1,11 @@
 -- `errors::step` meets its contract: each term is added at four places and then carried to the next four. Assumes nothing.
-use Prim.Native.Nat.{suc, _≤_, _-_}
+use Rattle.general.proofs.Names.{suc, _≤_, _-_, needs, arith}
 use Rattle.field.specs.Table.{polyOf}
 use Rattle.field.proofs.Entries.{the-field}
-use Rattle.reed_solomon.specs.Inner.{Each, carried, Sums}
-use Rattle.reed_solomon.proofs.Each.{each-start, each-next, each-end}
+use Rattle.reed_solomon.specs.Inner.{carried, Sums}
+use Rattle.general.specs.Each.{Each}
+use Rattle.general.proofs.Each.{each-start, each-next, each-end}
 use Rattle.reed_solomon.proofs.Terms.{by-reduced, sums-start, sums-next, sums-end}
-use borrow.Author.Needs.{needs}
-use native.Mathlib.Omega.{arith}
-use Rattle.reed_solomon.proofs.errors.step.Statement.{statement}
 use Rattle.reed_solomon.proofs.errors.step.Tie as tie
 
 abbrev Inv-loop : tie.InvT-loop
@@ -15,9 +13,6 @@ Inv-loop field terms₀ l v₀ i₀ terms v i = Sums (polyOf field) l terms₀ i
 
 abbrev μ-loop : tie.MeasureT-loop
 μ-loop field terms₀ l v₀ i₀ terms v i = suc l - i
-
-loop-holds : tie.Need-loop-holds Inv-loop μ-loop
-loop-holds c = (sums-start _ _ _, each-start _ _, omega arith)
 
 loop-again : tie.Need-loop-again Inv-loop μ-loop
 loop-again c =
@@ -33,8 +28,8 @@ loop-again c =
 returns : tie.Need-returns Inv-loop μ-loop
 returns c = (sums-end _ _ _ _ _ _ _ _ _ (c .before .loop .inv .0) (omega arith), each-end _ _ _ _ _ (c .before .loop .inv .1) (omega arith) (omega arith))
 
-pub step-spec : {M : Type 1} → statement M
+pub step-spec : {M : Type 1} → Rattle.reed_solomon.proofs.errors.step.Statement.statement M
 step-spec =
-    tie.close (tie.spec Inv-loop μ-loop loop-holds (λ c. omega (arith, c .before .before .loop .inv .1 .size)) (λ c κs. search needs)
-    (λ c. search needs) (λ c κs. search needs) (λ c κs. search needs) (λ c. omega arith) (λ c. search needs) (λ c. search needs)
-    loop-again (λ c. c .before .loop .inv .1 .size) returns)
+    tie.close (tie.spec Inv-loop μ-loop (λ c. (sums-start _ _ _, each-start _ _, omega arith))
+    (λ c. omega (arith, c .before .before .loop .inv .1 .size)) (λ c κs. search needs) (λ c. search needs) (λ c κs. search needs)
+    (λ c κs. search needs) (λ c. omega arith) (λ c. search needs) (λ c. search needs) loop-again (λ c. c .before .loop .inv .1 .size) returns)

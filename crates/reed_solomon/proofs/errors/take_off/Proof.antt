@@ -1,18 +1,15 @@
 -- `errors::take_off` meets its contract. Assumes nothing.
-use mathlib.Core.Path.{_≡_, sym, ap, _∙_}
-use Prim.Native.Nat.{ℕ, _≤_, _-_, _+_, _*_, _%_}
+use Rattle.general.proofs.Names.{_≡_, sym, ap, _∙_, ℕ, _≤_, _-_, _+_, _*_, _%_, needs, arith}
 use Rattle.field.specs.Field.{power, mul}
 use Rattle.field.specs.Table.{polyOf}
 use Rattle.field.proofs.Field.{mul-power}
 use Rattle.field.proofs.Entries.{the-field}
-use Rattle.reed_solomon.specs.Inner.{Each, without}
-use Rattle.reed_solomon.proofs.Each.{each-start, each-end}
+use Rattle.reed_solomon.specs.Inner.{without}
+use Rattle.general.specs.Each.{Each}
+use Rattle.general.proofs.Each.{each-start, each-end}
 use Rattle.reed_solomon.proofs.Magnitudes.{small-product}
 use Rattle.reed_solomon.proofs.Values.{reduced-power}
 use Rattle.reed_solomon.proofs.Residue.{off-none, off-next, weight-start, weight-more}
-use borrow.Author.Needs.{needs}
-use native.Mathlib.Omega.{arith}
-use Rattle.reed_solomon.proofs.errors.take_off.Statement.{statement}
 use Rattle.reed_solomon.proofs.errors.take_off.Tie as tie
 
 abbrev Inv-loop : tie.InvT-loop
@@ -21,9 +18,6 @@ Inv-loop field first s₀ parity y d n₀ j₀ s n j =
 
 abbrev μ-loop : tie.MeasureT-loop
 μ-loop field first s₀ parity y d n₀ j₀ s n j = parity - j
-
-returns : tie.Need-returns Inv-loop μ-loop
-returns c = off-none _ (the-field _ (c .before .before .pre .0)) _ _ _ _ _ (c .if1 .taken)
 
 mul-reduced : tie.Need-mul-reduced Inv-loop μ-loop
 mul-reduced c =
@@ -58,9 +52,9 @@ loop-again c =
 returns-2 : tie.Need-returns-2 Inv-loop μ-loop
 returns-2 c = each-end _ _ _ _ _ (c .before .loop .inv .0) (c .before .loop .inv .3) (omega arith)
 
-pub take-off-spec : {M : Type 1} → statement M
+pub take-off-spec : {M : Type 1} → Rattle.reed_solomon.proofs.errors.take_off.Statement.statement M
 take-off-spec =
-    tie.close (tie.spec Inv-loop μ-loop returns (λ c κs. search needs) mul-reduced (λ c. search needs) (λ c κs. search needs) loop-holds
-    (λ c κs. search needs) (λ c. omega (arith, c .before .before .before .loop .inv .0 .size))
-    (λ c. omega (arith, c .before .before .before .loop .inv .0 .size)) (λ c. search needs) (λ c κs. search needs) (λ c. search needs)
-    (λ c. search needs) loop-again (λ c. c .before .loop .inv .0 .size) returns-2)
+    tie.close (tie.spec Inv-loop μ-loop (λ c. off-none _ (the-field _ (c .before .before .pre .0)) _ _ _ _ _ (c .if1 .taken)) (λ c κs. search needs)
+    mul-reduced (λ c. search needs) (λ c κs. search needs) loop-holds (λ c κs. search needs)
+    (λ c. omega (arith, c .before .before .before .loop .inv .0 .size)) (λ c. omega (arith, c .before .before .before .loop .inv .0 .size))
+    (λ c. search needs) (λ c κs. search needs) (λ c. search needs) (λ c. search needs) loop-again (λ c. c .before .loop .inv .0 .size) returns-2)

@@ -1,11 +1,9 @@
 -- `errors::take_off_all` meets its contract: place by place. Assumes nothing.
-use Prim.Native.Nat.{_≤_, _-_}
+use Rattle.general.proofs.Names.{_≤_, _-_, needs, arith}
 use Rattle.field.specs.Table.{polyOf}
-use Rattle.reed_solomon.specs.Inner.{Each, withoutAll}
+use Rattle.reed_solomon.specs.Inner.{withoutAll}
+use Rattle.general.specs.Each.{Each}
 use Rattle.reed_solomon.proofs.Residue.{off-all-start, off-all-next, off-all-end}
-use borrow.Author.Needs.{needs}
-use native.Mathlib.Omega.{arith}
-use Rattle.reed_solomon.proofs.errors.take_off_all.Statement.{statement}
 use Rattle.reed_solomon.proofs.errors.take_off_all.Tie as tie
 
 abbrev Inv-loop : tie.InvT-loop
@@ -41,7 +39,7 @@ returns c =
     off-all-end (polyOf (start .args .field .now)) (start .args .first) (start .args .n) (start .args .parity) (start .args .e .now) (start .args .s .now)
     (loop .k) (loop .s) (loop .inv .0) (loop .inv .1) (omega arith)
 
-pub take-off-all-spec : {M : Type 1} → statement M
+pub take-off-all-spec : {M : Type 1} → Rattle.reed_solomon.proofs.errors.take_off_all.Statement.statement M
 take-off-all-spec =
     tie.close (tie.spec Inv-loop μ-loop loop-holds (λ c. search needs) (λ c. search needs) (λ c. search needs) take-off-requires
     (λ c. search needs) (λ c. search needs) loop-again (λ c. c .before .loop .inv .0 .size) returns)

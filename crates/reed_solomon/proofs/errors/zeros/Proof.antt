@@ -1,12 +1,7 @@
 -- `errors::zeros` meets its contract: one place after the other is counted. Assumes nothing.
-use mathlib.Core.Path.{_≡_, refl, ap, _∙_}
-use mathlib.Core.Logic.{⊎-elim}
-use Prim.Native.Nat.{ℕ, _≤_, _-_}
+use Rattle.general.proofs.Names.{_≡_, refl, ap, _∙_, ⊎-elim, ℕ, _≤_, _-_, needs, arith}
 use Rattle.reed_solomon.specs.Inner.{zerosOf}
 use Rattle.reed_solomon.proofs.Distance.{zeros-more, zeros-same}
-use borrow.Author.Needs.{needs}
-use native.Mathlib.Omega.{arith}
-use Rattle.reed_solomon.proofs.errors.zeros.Statement.{statement}
 use Rattle.reed_solomon.proofs.errors.zeros.Tie as tie
 
 abbrev Inv-loop : tie.InvT-loop
@@ -31,7 +26,7 @@ returns c =
     let a = c .before .before .args in
     let e : c .before .loop .d ≡ a .n = omega arith in c .before .loop .inv .0 ∙ ap (λ (k : ℕ). zerosOf k (a .e .now)) e
 
-pub zeros-spec : {M : Type 1} → statement M
+pub zeros-spec : {M : Type 1} → Rattle.reed_solomon.proofs.errors.zeros.Statement.statement M
 zeros-spec =
     tie.close (tie.spec Inv-loop μ-loop loop-holds (λ c. search needs) (λ c. search needs) (λ c. search needs) (λ c. search needs)
     loop-again returns)

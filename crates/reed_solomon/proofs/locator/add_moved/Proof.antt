@@ -1,12 +1,10 @@
 -- `locator::add_moved` meets its contract: below m nothing is added. Assumes nothing.
-use Prim.Native.Nat.{_≤_, _-_}
+use Rattle.general.proofs.Names.{_≤_, _-_, needs, arith}
 use Rattle.field.specs.Table.{polyOf}
-use Rattle.reed_solomon.specs.Inner.{Each, added}
-use Rattle.reed_solomon.proofs.Each.{each-end}
+use Rattle.reed_solomon.specs.Inner.{added}
+use Rattle.general.specs.Each.{Each}
+use Rattle.general.proofs.Each.{each-end}
 use Rattle.reed_solomon.proofs.Massey.{adding-start, adding-next}
-use borrow.Author.Needs.{needs}
-use native.Mathlib.Omega.{arith}
-use Rattle.reed_solomon.proofs.locator.add_moved.Statement.{statement}
 use Rattle.reed_solomon.proofs.locator.add_moved.Tie as tie
 
 abbrev Inv-loop : tie.InvT-loop
@@ -31,12 +29,9 @@ loop-again c =
       omega arith,
     )
 
-returns : tie.Need-returns Inv-loop μ-loop
-returns c = each-end _ _ _ _ _ (c .before .loop .inv .0) (omega arith) (omega arith)
-
-pub add-moved-spec : {M : Type 1} → statement M
+pub add-moved-spec : {M : Type 1} → Rattle.reed_solomon.proofs.locator.add_moved.Statement.statement M
 add-moved-spec =
     tie.close (tie.spec Inv-loop μ-loop loop-holds (λ c. search needs) (λ c. search needs) (λ c κs. search needs)
     (λ c. omega (arith, c .before .before .before .before .loop .inv .0 .size))
     (λ c. omega (arith, c .before .before .before .before .loop .inv .0 .size)) (λ c. search needs) (λ c. search needs) loop-again
-    (λ c. c .before .loop .inv .0 .size) returns)
+    (λ c. c .before .loop .inv .0 .size) (λ c. each-end _ _ _ _ _ (c .before .loop .inv .0) (omega arith) (omega arith)))

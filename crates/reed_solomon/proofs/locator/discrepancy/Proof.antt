@@ -1,15 +1,10 @@
 -- `locator::discrepancy` meets its contract: the sum, term by term. Assumes nothing.
-use mathlib.Core.Path.{_≡_, refl, sym, ap, ap₂, _∙_}
-use Prim.Native.Nat.{suc, _≤_, _-_}
-use lib.Bits.{bitXor}
+use Rattle.general.proofs.Names.{_≡_, refl, sym, ap, ap₂, _∙_, suc, _≤_, _-_, bitXor, needs, arith}
 use Rattle.field.specs.Table.{polyOf}
 use Rattle.field.specs.Field.{mul}
 use Rattle.reed_solomon.specs.Sum.{seq, sum}
 use Rattle.reed_solomon.specs.Register.{discrepancy}
 use Rattle.reed_solomon.proofs.Sum.{sum-next}
-use borrow.Author.Needs.{needs}
-use native.Mathlib.Omega.{arith}
-use Rattle.reed_solomon.proofs.locator.discrepancy.Statement.{statement}
 use Rattle.reed_solomon.proofs.locator.discrepancy.Tie as tie
 
 abbrev Inv-loop : tie.InvT-loop
@@ -29,7 +24,7 @@ returns : tie.Need-returns Inv-loop μ-loop
 unfolding discrepancy
 returns c = let e : c .before .loop .i ≡ suc (c .before .before .before .before .args .l) = omega arith in c .before .loop .inv .0 ∙ ap (sum _) e
 
-pub discrepancy-spec : {M : Type 1} → statement M
+pub discrepancy-spec : {M : Type 1} → Rattle.reed_solomon.proofs.locator.discrepancy.Statement.statement M
 discrepancy-spec =
     tie.close (tie.spec Inv-loop μ-loop loop-holds (λ c. search needs) (λ c. search needs) (λ c. search needs) (λ c κs. search needs)
     (λ c. search needs) (λ c. search needs) loop-again returns)

@@ -1,10 +1,7 @@
 -- `locator::extend` meets its contract: nothing missed, missed at the same length, and missed with a longer register. Assumes nothing.
-use mathlib.Core.Path.{sym, _∙_}
+use Rattle.general.proofs.Names.{sym, _∙_, arith, needs}
 use Rattle.field.proofs.Entries.{the-field}
 use Rattle.reed_solomon.proofs.Massey.{register-kept, register-stayed, register-grown}
-use native.Mathlib.Omega.{arith}
-use borrow.Author.Needs.{needs}
-use Rattle.reed_solomon.proofs.locator.extend.Statement.{statement}
 use Rattle.reed_solomon.proofs.locator.extend.Tie as tie
 
 returns : tie.Need-returns
@@ -41,7 +38,7 @@ returns-3 c =
     (omega arith)
     _ (grow .ensures .1) (omega arith)
 
-pub extend-spec : {M : Type 1} → statement M
+pub extend-spec : {M : Type 1} → Rattle.reed_solomon.proofs.locator.extend.Statement.statement M
 extend-spec =
     tie.close (tie.spec (λ c κs. search needs) (λ c. search needs) returns (λ c κs. search needs) (λ c. search needs)
     (λ c. search needs) (λ c. search needs) (λ c. search needs) (λ c κs. search needs) (λ c. search needs) (λ c. search needs) returns-2

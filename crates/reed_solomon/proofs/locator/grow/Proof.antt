@@ -1,12 +1,8 @@
 -- `locator::grow` meets its contract: from the top down to m, and the places below. Assumes nothing.
-use mathlib.Core.Path.{_∙_}
-use Prim.Native.Nat.{_≤_}
+use Rattle.general.proofs.Names.{_∙_, _≤_, needs, arith}
 use Rattle.field.specs.Table.{polyOf}
-use Rattle.reed_solomon.proofs.Each.{above-start}
+use Rattle.general.proofs.Each.{above-start}
 use Rattle.reed_solomon.proofs.Massey.{Growing, growing-next, growing-end}
-use borrow.Author.Needs.{needs}
-use native.Mathlib.Omega.{arith}
-use Rattle.reed_solomon.proofs.locator.grow.Statement.{statement}
 use Rattle.reed_solomon.proofs.locator.grow.Tie as tie
 
 abbrev Inv-loop : tie.InvT-loop
@@ -39,7 +35,7 @@ returns c =
     let loop = c .before .before .before .before .before .before .loop in
     growing-end _ _ _ _ _ _ _ _ _ _ (loop .inv .0) (omega arith) (omega arith) (c .before .before .copy .ensures)
 
-pub grow-spec : {M : Type 1} → statement M
+pub grow-spec : {M : Type 1} → Rattle.reed_solomon.proofs.locator.grow.Statement.statement M
 grow-spec =
     tie.close (tie.spec Inv-loop μ-loop loop-holds (λ c. search needs) (λ c. search needs) (λ c. search needs) (λ c. search needs)
     (λ c κs. search needs) (λ c. search needs) (λ c. search needs) (λ c. search needs) loop-again copy-requires

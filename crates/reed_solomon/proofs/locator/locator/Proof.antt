@@ -1,13 +1,8 @@
 -- `locator::locator` meets its contract. Assumes nothing.
-use mathlib.Core.Path.{refl, sym, _∙_}
-use Prim.Native.Nat.{_≤_, _-_}
-use lib.ListN.{replicate}
+use Rattle.general.proofs.Names.{refl, sym, _∙_, _≤_, _-_, replicate, arith, needs}
 use Rattle.field.specs.Table.{polyOf}
 use Rattle.reed_solomon.specs.Inner.{Register}
 use Rattle.reed_solomon.proofs.Massey.{zeros, register-start, register-end}
-use native.Mathlib.Omega.{arith}
-use borrow.Author.Needs.{needs}
-use Rattle.reed_solomon.proofs.locator.locator.Statement.{statement}
 use Rattle.reed_solomon.proofs.locator.locator.Tie as tie
 
 abbrev Inv-loop : tie.InvT-loop
@@ -26,17 +21,14 @@ extend-requires c κs =
     let start = c .before .before .before .before .before .before in
     (start .pre .0, (omega arith, (start .pre .1 .1 .0, c .before .before .before .loop .inv .0)))
 
-loop-again : tie.Need-loop-again Inv-loop μ-loop
-loop-again c = (c .before .before .before .extend .ensures, omega arith)
-
 same-length : tie.Need-same-length Inv-loop μ-loop
 same-length c = c .before .loop .inv .0 .size-f ∙ sym (c .before .before .before .before .pre .1 .1 .1 .0)
 
 returns : tie.Need-returns Inv-loop μ-loop
 returns c = register-end _ _ _ _ _ _ _ _ _ (c .before .loop .inv .0) (c .before .loop .inv .1) (omega arith)
 
-pub locator-spec : {M : Type 1} → statement M
+pub locator-spec : {M : Type 1} → Rattle.reed_solomon.proofs.locator.locator.Statement.statement M
 locator-spec =
     tie.close (tie.spec Inv-loop μ-loop (λ c. search needs) (λ c. search needs) loop-holds
-    (λ c. sym (c .before .before .before .loop .inv .0 .size-g)) extend-requires (λ c. search needs) (λ c. search needs) loop-again
-    same-length returns)
+    (λ c. sym (c .before .before .before .loop .inv .0 .size-g)) extend-requires (λ c. search needs) (λ c. search needs)
+    (λ c. (c .before .before .before .extend .ensures, omega arith)) same-length returns)

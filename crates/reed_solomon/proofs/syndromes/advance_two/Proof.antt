@@ -1,15 +1,12 @@
 -- `syndromes::advance_two` meets its contract: one syndrome after the other is advanced. Assumes nothing.
-use mathlib.Core.List.{[], _∷_}
-use Prim.Native.Nat.{_≤_, _-_}
+use Rattle.general.proofs.Names.{[], _∷_, _≤_, _-_, needs, arith}
 use Rattle.field.specs.Table.{polyOf}
 use Rattle.field.proofs.Entries.{the-field}
 use Rattle.reed_solomon.specs.Block.{evalFrom}
-use Rattle.reed_solomon.specs.Inner.{Each, advanced}
-use Rattle.reed_solomon.proofs.Each.{each-start, each-next, each-end}
+use Rattle.reed_solomon.specs.Inner.{advanced}
+use Rattle.general.specs.Each.{Each}
+use Rattle.general.proofs.Each.{each-start, each-next, each-end}
 use Rattle.reed_solomon.proofs.Values.{two-at-once}
-use borrow.Author.Needs.{needs}
-use native.Mathlib.Omega.{arith}
-use Rattle.reed_solomon.proofs.syndromes.advance_two.Statement.{statement}
 use Rattle.reed_solomon.proofs.syndromes.advance_two.Tie as tie
 
 abbrev Inv-loop : tie.InvT-loop
@@ -17,9 +14,6 @@ Inv-loop field first s₀ parity a b j₀ s j = Each (advanced (polyOf field) fi
 
 abbrev μ-loop : tie.MeasureT-loop
 μ-loop field first s₀ parity a b j₀ s j = parity - j
-
-loop-holds : tie.Need-loop-holds Inv-loop μ-loop
-loop-holds c = (each-start _ _, omega arith)
 
 loop-again : tie.Need-loop-again Inv-loop μ-loop
 unfolding evalFrom
@@ -31,11 +25,9 @@ loop-again c =
       omega arith,
     )
 
-returns : tie.Need-returns Inv-loop μ-loop
-returns c = each-end _ _ _ _ _ (c .before .loop .inv .0) (omega arith) (omega arith)
-
-pub advance-two-spec : {M : Type 1} → statement M
+pub advance-two-spec : {M : Type 1} → Rattle.reed_solomon.proofs.syndromes.advance_two.Statement.statement M
 advance-two-spec =
-    tie.close (tie.spec Inv-loop μ-loop loop-holds (λ c. search needs) (λ c. omega (arith, c .before .before .loop .inv .0 .size))
-    (λ c. search needs) (λ c κs. search needs) (λ c κs. search needs) (λ c κs. search needs) (λ c. omega arith) (λ c. search needs)
-    (λ c. search needs) loop-again (λ c. c .before .loop .inv .0 .size) returns)
+    tie.close (tie.spec Inv-loop μ-loop (λ c. (each-start _ _, omega arith)) (λ c. search needs)
+    (λ c. omega (arith, c .before .before .loop .inv .0 .size)) (λ c. search needs) (λ c κs. search needs) (λ c κs. search needs)
+    (λ c κs. search needs) (λ c. omega arith) (λ c. search needs) (λ c. search needs) loop-again (λ c. c .before .loop .inv .0 .size)
+    (λ c. each-end _ _ _ _ _ (c .before .loop .inv .0) (omega arith) (omega arith)))

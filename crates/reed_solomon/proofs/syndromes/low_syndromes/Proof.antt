@@ -1,12 +1,7 @@
 -- `syndromes::low_syndromes` meets its contract: four bytes after the other, and the rest. Assumes nothing.
-use mathlib.Core.Path.{_∙_}
-use Prim.Native.Nat.{_≤_, _-_, _+_, _*_, _/_}
-use lib.ListN.{length}
+use Rattle.general.proofs.Names.{_∙_, _≤_, _-_, _+_, _*_, _/_, length, needs, arith}
 use Rattle.field.specs.Table.{polyOf}
 use Rattle.reed_solomon.proofs.Values.{Running, running-start, running-next, running-rest, cut-four}
-use borrow.Author.Needs.{needs}
-use native.Mathlib.Omega.{arith}
-use Rattle.reed_solomon.proofs.syndromes.low_syndromes.Statement.{statement}
 use Rattle.reed_solomon.proofs.syndromes.low_syndromes.Tie as tie
 
 abbrev Inv-loop : tie.InvT-loop
@@ -14,9 +9,6 @@ Inv-loop field first block parity s₀ i₀ s i = Running (polyOf field) first p
 
 abbrev μ-loop : tie.MeasureT-loop
 μ-loop field first block parity s₀ i₀ s i = length block / 4 - i
-
-loop-holds : tie.Need-loop-holds Inv-loop μ-loop
-loop-holds c = (running-start _ _ _ _ _ _, omega arith)
 
 advance-four-requires : tie.Need-advance-four-requires Inv-loop μ-loop
 advance-four-requires c κs =
@@ -43,8 +35,9 @@ same-length c = c .before .before .advance-rest .ensures .size ∙ c .before .be
 returns : tie.Need-returns Inv-loop μ-loop
 returns c = running-rest _ _ _ _ _ _ _ _ _ (c .before .before .before .before .before .loop .inv .0) (c .before .before .advance-rest .ensures)
 
-pub low-syndromes-spec : {M : Type 1} → statement M
+pub low-syndromes-spec : {M : Type 1} → Rattle.reed_solomon.proofs.syndromes.low_syndromes.Statement.statement M
 low-syndromes-spec =
-    tie.close (tie.spec Inv-loop μ-loop loop-holds (λ c. search needs) (λ c. search needs) (λ c. search needs) (λ c. search needs)
+    tie.close (tie.spec Inv-loop μ-loop (λ c. (running-start _ _ _ _ _ _, omega arith)) (λ c. search needs) (λ c. search needs) (λ c. search needs)
     (λ c. search needs) (λ c. search needs) (λ c. search needs) (λ c. search needs) (λ c. search needs) (λ c. search needs) (λ c. search needs)
-    advance-four-requires (λ c. search needs) (λ c. search needs) loop-again (λ c. search needs) advance-rest-requires same-length returns)
+    (λ c. search needs) advance-four-requires (λ c. search needs) (λ c. search needs) loop-again (λ c. search needs) advance-rest-requires same-length
+    returns)

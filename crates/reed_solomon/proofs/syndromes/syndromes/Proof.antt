@@ -1,13 +1,8 @@
 -- `syndromes::syndromes` meets its contract: four bytes a time, or pair after pair and the rest. Assumes nothing.
-use mathlib.Core.Path.{_∙_}
-use Prim.Native.Nat.{_≤_, _-_, _+_, _/_}
-use lib.ListN.{length}
+use Rattle.general.proofs.Names.{_∙_, _≤_, _-_, _+_, _/_, length, needs, arith}
 use Rattle.field.specs.Table.{polyOf}
 use Rattle.field.proofs.Entries.{the-field}
 use Rattle.reed_solomon.proofs.Values.{Running, running-start, running-next, running-rest, all-advanced, cut-two}
-use borrow.Author.Needs.{needs}
-use native.Mathlib.Omega.{arith}
-use Rattle.reed_solomon.proofs.syndromes.syndromes.Statement.{statement}
 use Rattle.reed_solomon.proofs.syndromes.syndromes.Tie as tie
 
 abbrev Inv-loop : tie.InvT-loop
@@ -25,9 +20,6 @@ returns c =
     let bytes = c .before .before .before .before .before .before .shared-slice-known in
     all-advanced _ (the-field _ (start .pre .0)) _ _ _ _ _ (start .pre .1 .1 .0) (start .pre .1 .1 .1) (λ i. omega (arith, bytes .given i))
     (c .before .before .low-syndromes .ensures)
-
-loop-holds : tie.Need-loop-holds Inv-loop μ-loop
-loop-holds c = (running-start _ _ _ _ _ _, omega arith)
 
 advance-two-requires : tie.Need-advance-two-requires Inv-loop μ-loop
 advance-two-requires c κs =
@@ -59,8 +51,9 @@ returns-2 c =
     all-advanced _ (the-field _ (start .pre .0)) _ _ _ _ _ (start .pre .1 .1 .0) (start .pre .1 .1 .1) (λ i. omega (arith, bytes .given i))
     (running-rest _ _ _ _ _ _ _ _ _ (loop .inv .0) (c .before .before .advance-rest .ensures))
 
-pub syndromes-spec : {M : Type 1} → statement M
+pub syndromes-spec : {M : Type 1} → Rattle.reed_solomon.proofs.syndromes.syndromes.Statement.statement M
 syndromes-spec =
     tie.close (tie.spec Inv-loop μ-loop (λ c. search needs) low-syndromes-requires (λ c. c .before .before .low-syndromes .ensures .size) returns
-    loop-holds (λ c. search needs) (λ c. search needs) (λ c. search needs) (λ c. search needs) (λ c. search needs) advance-two-requires
-    (λ c. search needs) (λ c. search needs) loop-again (λ c. search needs) advance-rest-requires same-length-2 returns-2)
+    (λ c. (running-start _ _ _ _ _ _, omega arith)) (λ c. search needs) (λ c. search needs) (λ c. search needs) (λ c. search needs)
+    (λ c. search needs) advance-two-requires (λ c. search needs) (λ c. search needs) loop-again (λ c. search needs) advance-rest-requires
+    same-length-2 returns-2)

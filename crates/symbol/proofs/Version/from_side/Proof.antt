@@ -1,10 +1,6 @@
 -- `Version::from_side` meets its contract.
-use Prim.Native.Nat.{_%_}
+use Rattle.general.proofs.Names.{_%_, arith, le-leb, lt-leb, eq-eqb, ne-eqb, needs}
 use Rattle.symbol.specs.Version.{isSide, sideRefusal, sideVersion}
-use native.Mathlib.Omega.{arith}
-use borrow.Author.Tests.{le-leb, lt-leb, eq-eqb, ne-eqb}
-use borrow.Author.Needs.{needs}
-use Rattle.symbol.proofs.Version.from_side.Statement.{statement}
 use Rattle.symbol.proofs.Version.from_side.Tie as tie
 
 returns : tie.Need-returns
@@ -29,5 +25,5 @@ returns-4 c =
     let if2 = c .before .if2 in
     let h = eq-eqb (c .before .before .before .args .side % 2) 1 (omega arith) in (simp (le-leb _ _ (if1 .left), le-leb _ _ (if2 .left), h), simp (le-leb _ _ (if1 .left), le-leb _ _ (if2 .left), h))
 
-pub from-side-spec : {M : Type 1} → statement M
+pub from-side-spec : {M : Type 1} → Rattle.symbol.proofs.Version.from_side.Statement.statement M
 from-side-spec = tie.close (tie.spec returns returns-2 returns-3 (λ c. search needs) returns-4)

@@ -1,0 +1,235 @@
+-- Blocks corrected one after the other: what one block more, or one batch more, does, and what all come to. Assumes nothing.
+use Rattle.general.proofs.Names.{_≡_, refl, sym, ap, ap₂, _∙_, _⊎_, inl, inr, _≢_, Bool, true, false, cond, Option, none, some, List, [], _∷_, _++_}
+use Rattle.general.proofs.Names.{append-assoc, flatMap, zipWith, ℕ, zero, suc, _+_, _-_, _≤_, zero-le, add-zero, add-assoc, arith, eqb, eqb·suc-zero}
+use Rattle.general.proofs.Names.{length, take, drop, length-take, length-drop, take-append-drop, drop-drop, length-take-le}
+use Rattle.reed_solomon.specs.Block.{nearest, unfit}
+use Rattle.reed_solomon.proofs.Nearest.{some-near}
+use Rattle.corrector.specs.Correct.{BlockOutcome, refusedBlock, settled, correctOf, outcome}
+use Rattle.corrector.specs.declared.Correction.{Correction}
+use Rattle.corrector.specs.declared.Correction.the-variants as Correction
+use Rattle.parity.proofs.Followed.{distance-le}
+use Rattle.block_table.specs.Blocks.{Shape, size, totalSize, batch, cut, joined}
+use Rattle.block_table.proofs.Rows.{total-append}
+use Rattle.block_table.proofs.Cuts.{Shaped, cut-shaped, length-joined}
+use Rattle.blocks.specs.declared.Blocks.{Blocks}
+use Rattle.blocks.specs.declared.Blocks.the-variants.{Corrected, Refused}
+use Rattle.blocks.specs.Blockwise.{outcomes, firstRefused, countOf, blocksOf, corrected, leftOf, correctionsOf}
+use Rattle.blocks.specs.Inner.{spliced, Pass, answerOf, more, plus, onward, outcomeAt, leftAt, passed, Corrects}
+use Rattle.blocks.proofs.Splice.{part-back, opened, spliced-front, spliced-behind, spliced-length}
+
+-- ---- one block
+
+-- it keeps its length, has no more corrections than codewords, and is as it was if it is refused
+pub block-facts : (p : ℕ) (w : List ℕ)
+    → let o = correctOf 0x163 1 p w in (length (o .block) ≡ length w) × (o .count ≤ length w) × (o .number ≢ 0 → o .block ≡ w)
+unfolding correctOf settled refusedBlock
+block-facts p w = go (unfit p w) (nearest 0x163 1 p w) refl
+  where
+    go : (t : Bool) (v : Option (List ℕ)) → nearest 0x163 1 p w ≡ v
+        → let o = cond t (refusedBlock 5 w) (settled w v) in (length (o .block) ≡ length w) × (o .count ≤ length w) × (o .number ≢ 0 → o .block ≡ w)
+    go true v e = (refl, zero-le, λ d. refl)
+    go false none e = (refl, zero-le, λ d. refl)
+    go false (some v) e = (some-near 0x163 1 p w v e .size, distance-le w v, λ d. absurd (d refl))
+
+-- ---- all blocks
+
+pub blocks-shaped : (bs : List Shape) (ws : List (List ℕ)) → Shaped bs ws → Shaped bs (blocksOf (outcomes bs ws))
+unfolding outcomes blocksOf zipWith
+blocks-shaped [] [] h = tt
+blocks-shaped [] (w ∷ ws) h = absurd h
+blocks-shaped (b ∷ bs) [] h = absurd h
+blocks-shaped (b ∷ bs) (w ∷ ws) h = (block-facts (b .parity) w .0 ∙ h .0, blocks-shaped bs ws (h .1))
+
+pub count-le : (bs : List Shape) (s : List ℕ) → countOf (corrected bs s) ≤ totalSize bs
+unfolding outcomes cut countOf totalSize zipWith
+count-le [] s = zero-le
+count-le (b ∷ bs) s =
+    omega (arith, block-facts (b .parity) (take (size b) s) .1, length-take (size b) s, count-le bs (drop (size b) s))
+
+pub joined-size : (bs : List Shape) (t : List ℕ) → totalSize bs ≤ length t → length (joined (blocksOf (corrected bs t))) ≡ totalSize bs
+joined-size bs t h = length-joined bs (blocksOf (corrected bs t)) (blocks-shaped bs (cut bs t) (cut-shaped bs t h))
+
+pub settled-number : (w : List ℕ) (o : Option (List ℕ)) → (settled w o .number ≡ 0) ⊎ (settled w o .number ≡ 6)
+unfolding settled refusedBlock
+settled-number w none = inr refl
+settled-number w (some v) = inl refl
+
+-- a number, or, if it is 0, the refusal behind it
+abbrev pub first : ℕ → ℕ → ℕ
+first n r = cond (eqb n 0) r n
+
+pub first-zero : (n r : ℕ) → first n r ≡ 0 → (n ≡ 0) × (r ≡ 0)
+first-zero zero r e = (refl, e)
+first-zero (suc n) r e = absurd (omega (arith, ap (λ (t : Bool). cond t r (suc n)) (eqb·suc-zero n)))
+
+-- ---- the stream that is left
+
+pub left-behind : (bs cs : List Shape) (s : List ℕ) → firstRefused (corrected bs s) ≡ 0
+    → leftOf (bs ++ cs) s ≡ joined (blocksOf (corrected bs s)) ++ leftOf cs (drop (totalSize bs) s)
+unfolding leftOf outcomes cut firstRefused blocksOf joined totalSize zipWith flatMap
+left-behind [] cs s e = refl
+left-behind (b ∷ bs) cs s e =
+    let o = correctOf 0x163 1 (b .parity) (take (size b) s) in
+    let t = drop (size b) s in
+    let us = joined (blocksOf (corrected bs t)) in
+    let z = first-zero (o .number) (firstRefused (corrected bs t)) e in
+    ap (λ (n : ℕ). o .block ++ cond (eqb n 0) (leftOf (bs ++ cs) t) t) (z .0)
+    ∙ ap (λ (l : List ℕ). o .block ++ l) (left-behind bs cs t (z .1) ∙ ap (λ (l : List ℕ). us ++ leftOf cs l) (drop-drop (totalSize bs) (size b) s))
+    ∙ sym (append-assoc (o .block) us (leftOf cs (drop (size b + totalSize bs) s)))
+
+-- ---- one pass behind another
+
+more-zero : (r : Blocks) → more 0 r ≡ r
+more-zero (Corrected m) = let e : 0 + m ≡ m = omega arith in ap Corrected e
+more-zero Refused = refl
+
+more-more : (n m : ℕ) (r : Blocks) → more n (more m r) ≡ more (n + m) r
+more-more n m (Corrected k) = let e : n + (m + k) ≡ n + m + k = omega arith in ap Corrected e
+more-more n m Refused = refl
+
+plus-zero : (q : Pass) → plus 0 q ≡ q
+plus-zero q = λ i. record { answer = more-zero (q .answer) i; stream = q .stream }
+
+-- an answer that leaves a stream, and what is done with it then
+abbrev follow : Blocks → List ℕ → (List ℕ → Pass) → Pass
+follow (Corrected m) s f = plus m (f s)
+follow Refused s f = record { answer = Refused; stream = s }
+
+onward-follow : (n c : ℕ) (s : List ℕ) (r : Blocks) (t : List ℕ) (f : List ℕ → Pass)
+    → let q = onward n c s (record { answer = r; stream = t }) in onward n c s (follow r t f) ≡ follow (q .answer) (q .stream) f
+onward-follow (suc n) c s r t f = refl
+onward-follow zero c s Refused t f = refl
+onward-follow zero c s (Corrected m) t f = λ i. record { answer = more-more c m (f t .answer) i; stream = f t .stream }
+
+passed-append : (bs cs : List Shape) (a : ℕ) (s : List ℕ)
+    → passed (bs ++ cs) a s ≡ follow (passed bs a s .answer) (passed bs a s .stream) (passed cs (a + totalSize bs))
+unfolding passed totalSize
+passed-append [] cs a s =
+    sym (plus-zero (passed cs a s)) ∙ ap (λ (k : ℕ). plus 0 (passed cs k s)) (sym (add-zero a))
+passed-append (b ∷ bs) cs a s =
+    let o = outcomeAt b a s in
+    let s₁ = leftAt b a s in
+    let q = passed bs (a + size b) s₁ in
+    let u = onward (o .number) (o .count) s₁ q in
+    ap (onward (o .number) (o .count) s₁) (passed-append bs cs (a + size b) s₁)
+    ∙ onward-follow (o .number) (o .count) s₁ (q .answer) (q .stream) (passed cs (a + size b + totalSize bs))
+    ∙ ap (λ (k : ℕ). follow (u .answer) (u .stream) (passed cs k)) (add-assoc a (size b) (totalSize bs))
+
+-- ---- what a pass comes to
+
+abbrev pub told : ℕ → ℕ → Blocks
+told zero n = Corrected n
+told (suc k) n = Refused
+
+onward-told : (n c k m : ℕ) (pre w u t : List ℕ)
+    → onward n c ((pre ++ w) ++ t) (record { answer = told k m; stream = (pre ++ w) ++ u })
+    ≡ record { answer = told (first n k) (c + m); stream = pre ++ (w ++ cond (eqb n 0) u t) }
+onward-told zero c zero m pre w u t = λ i. record { answer = Corrected (c + m); stream = append-assoc pre w u i }
+onward-told zero c (suc k) m pre w u t = λ i. record { answer = Refused; stream = append-assoc pre w u i }
+onward-told (suc n) c k m pre w u t =
+    (λ i. record { answer = Refused; stream = append-assoc pre w t i })
+    ∙ ap (λ (x : Bool). record { answer = told (cond x k (suc n)) (c + m); stream = pre ++ (w ++ cond x u t) }) (sym (eqb·suc-zero n))
+
+pub passed-is : (bs : List Shape) (a : ℕ) (s : List ℕ) → a + totalSize bs ≤ length s
+    → passed bs a s ≡ record {
+      answer = told (firstRefused (corrected bs (drop a s))) (countOf (corrected bs (drop a s)));
+      stream = take a s ++ leftOf bs (drop a s);
+    }
+unfolding passed outcomes cut firstRefused countOf leftOf totalSize zipWith
+passed-is [] a s h = ap (λ (l : List ℕ). record { answer = Corrected 0; stream = l }) (sym (take-append-drop a s))
+passed-is (b ∷ bs) a s h =
+    let o = outcomeAt b a s in
+    let s₁ = leftAt b a s in
+    let t = drop (size b) (drop a s) in
+    let n : length (o .block) ≡ size b =
+    block-facts (b .parity) (take (size b) (drop a s)) .0 ∙ length-take-le (size b) (drop a s) (omega (arith, length-drop a s)) in
+    let room : a + size b ≤ length s = omega arith in
+    let e : drop (a + size b) s₁ ≡ t = spliced-behind a (size b) (o .block) s n room ∙ sym (drop-drop (size b) a s) in
+    let f : s₁ ≡ (take a s ++ o .block) ++ t =
+    opened a (size b) (o .block) s n room ∙ ap (λ (l : List ℕ). (take a s ++ o .block) ++ l) (sym (drop-drop (size b) a s)) in
+    ap₂ (λ (u : List ℕ) (q : Pass). onward (o .number) (o .count) u q) f
+    (passed-is bs (a + size b) s₁ (omega (arith, spliced-length a (size b) (o .block) s n room))
+    ∙ ap₂ (λ (p u : List ℕ). record { answer = told (firstRefused (corrected bs u)) (countOf (corrected bs u)); stream = p ++ leftOf bs u })
+    (spliced-front a (size b) (o .block) s n room) e)
+    ∙ onward-told (o .number) (o .count) (firstRefused (corrected bs t)) (countOf (corrected bs t)) (take a s) (o .block) (leftOf bs t) t
+
+told-le : (k n : ℕ) → correctionsOf (told k n) ≤ n
+unfolding correctionsOf
+told-le zero n = omega arith
+told-le (suc k) n = zero-le
+
+-- no more corrections than codewords
+pub corrects-le : {bs : List Shape} {a : ℕ} {s s′ : List ℕ} {r : Blocks} → Corrects bs a s s′ r → a + totalSize bs ≤ length s → correctionsOf r ≤ totalSize bs
+corrects-le {bs} {a} {s} {s′} {r} C h =
+    omega (
+      arith,
+      ap (λ (q : Pass). correctionsOf (q .answer)) (C .is ∙ passed-is bs a s h),
+      told-le (firstRefused (corrected bs (drop a s))) (countOf (corrected bs (drop a s))),
+      count-le bs (drop a s),
+    )
+
+-- ---- a loop over blocks
+
+-- Where a pass over bs from a on stands: rest is left to do from a′ on, after n corrections.
+pub record Passing (bs : List Shape) (a : ℕ) (s : List ℕ) (rest : List Shape) (a′ n : ℕ) (s′ : List ℕ) : Type 0 where
+  pub same : passed bs a s ≡ plus n (passed rest a′ s′)
+  pub size : length s′ ≡ length s
+  pub room : a′ + totalSize rest ≤ length s
+  pub few : n ≤ a′
+
+pub passing-start : (bs : List Shape) (a : ℕ) (s : List ℕ) → a + totalSize bs ≤ length s → Passing bs a s bs a 0 s
+passing-start bs a s h = record { same = sym (plus-zero (passed bs a s)); size = refl; room = h; few = zero-le }
+
+module _ {bs : List Shape} {a : ℕ} {s : List ℕ} {rest : List Shape} {a′ n : ℕ} {s′ : List ℕ} (P : Passing bs a s rest a′ n s′)
+    (cs ds : List Shape) (e : rest ≡ cs ++ ds) where
+  pub passing-room : a′ + totalSize cs + totalSize ds ≤ length s
+  passing-room = omega (arith, ap totalSize e, total-append cs ds)
+
+  whole : {s″ : List ℕ} {r : Blocks} → Corrects cs a′ s′ s″ r → passed bs a s ≡ plus n (follow r s″ (passed ds (a′ + totalSize cs)))
+  whole C =
+      P .same
+      ∙ ap (plus n) (ap (λ (l : List Shape). passed l a′ s′) e ∙ passed-append cs ds a′ s′
+      ∙ ap (λ (q : Pass). follow (q .answer) (q .stream) (passed ds (a′ + totalSize cs))) (sym (C .is)))
+
+  pub passing-next : {s″ : List ℕ} {r : Blocks} (m a″ : ℕ) → Corrects cs a′ s′ s″ r → r ≡ Corrected m → length s″ ≡ length s′
+      → a″ ≡ a′ + totalSize cs → Passing bs a s ds a″ (n + m) s″
+  unfolding correctionsOf
+  passing-next {s″} {r} m a″ C f k l = record {
+    same =
+        whole C ∙ ap₂ (λ (x : Blocks) (y : ℕ). plus n (follow x s″ (passed ds y))) f (sym l)
+        ∙ (λ i. record { answer = more-more n m (passed ds a″ s″ .answer) i; stream = passed ds a″ s″ .stream });
+    size = k ∙ P .size;
+    room = omega (arith, passing-room);
+    few = omega (arith, ap correctionsOf f, corrects-le C (omega (arith, passing-room, P .size)));
+  }
+
+  pub passing-stop : {s″ : List ℕ} {r : Blocks} → Corrects cs a′ s′ s″ r → r ≡ Refused → Corrects bs a s s″ Refused
+  passing-stop {s″} C f = record { is = sym (whole C ∙ ap (λ (x : Blocks). plus n (follow x s″ (passed ds (a′ + totalSize cs)))) f) }
+
+pub passing-end : {bs : List Shape} {a : ℕ} {s : List ℕ} {rest : List Shape} {a′ n : ℕ} {s′ : List ℕ} → Passing bs a s rest a′ n s′ → rest ≡ []
+    → Corrects bs a s s′ (Corrected n)
+unfolding passed
+passing-end {a′ = a′} {n = n} {s′ = s′} P e = record {
+  is = sym (P .same ∙ ap (λ (l : List Shape). plus n (passed l a′ s′)) e ∙ ap (λ (k : ℕ). record { answer = Corrected k; stream = s′ }) (add-zero n));
+}
+
+-- ---- one block, as the corrector leaves it
+
+pub one-corrects : (d p a e : ℕ) (s xs : List ℕ) (c : Correction) (r : Blocks) → e ≡ a + (d + p) → r ≡ answerOf c
+    → outcome c xs ≡ correctOf 0x163 1 p (take (e - a) (drop a s)) → Corrects (batch 1 d p) a s (take a s ++ (xs ++ drop (e - a) (drop a s))) r
+unfolding passed batch answerOf outcome refusedBlock
+one-corrects d p a e s xs c r h f g = record {
+  is =
+      ap₂ (λ (x : Blocks) (y : List ℕ). record { answer = x; stream = y }) f (part-back a (d + p) e s xs h)
+      ∙ go c
+      ∙ ap after
+      (g ∙ (let n : e - a ≡ d + p = omega arith in ap (λ (k : ℕ). correctOf 0x163 1 p (take k (drop a s))) n));
+}
+  where
+    after : BlockOutcome → Pass
+    after o = let s₁ = spliced a (d + p) (o .block) s in onward (o .number) (o .count) s₁ (record { answer = Corrected 0; stream = s₁ })
+
+    go : (c : Correction) → record { answer = answerOf c; stream = spliced a (d + p) xs s } ≡ after (outcome c xs)
+    go (Correction.Corrected n) = ap (λ (k : ℕ). record { answer = Corrected k; stream = spliced a (d + p) xs s }) (sym (add-zero n))
+    go Correction.Unfit = refl
+    go Correction.OutOfReach = refl

@@ -1,9 +1,0 @@
--- The files of laws, those that others rest on first.
-pub mod Splice
-pub mod Rule
-pub mod Corrects
-pub mod Pours
-pub mod Settle
-pub mod Written
-pub mod Theorems
-pub mod Answers

@@ -1,0 +1,5 @@
+-- Laws that belong to no layer.
+pub mod Names
+pub mod Finite
+pub mod Xor
+pub mod Each

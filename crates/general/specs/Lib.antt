@@ -1,0 +1,2 @@
+-- What inner functions of several crates say. Nobody has to believe it.
+pub mod Each

@@ -1,0 +1,189 @@
+-- A mark made by the writer: what its making says, and what is read of its information. Assumes nothing.
+use Rattle.general.proofs.Names.{_≡_, refl, sym, ap, ap₂, _∙_, subst, Bool, true, false, cond, _&&_, Option, none, some, List, [], _∷_, ℕ, _+_, _*_, _/_}
+use Rattle.general.proofs.Names.{_%_, _^_, _-_, _<_, _≤_, arith, ℕ-discrete, eq-eqb, ne-eqb, le-leb, ltb-true, eqb, ltb, leb, length}
+use Rattle.symbol.specs.Version.{sideOf, isVersion, isSide, sideVersion}
+use Rattle.symbol.specs.Layout.{layoutOf}
+use Rattle.symbol.proofs.Theorems.{layout-length}
+use Rattle.information.specs.Information.{isInfo, infoBits, wordAt, copyOf, infoFlips, nearestWord, wordDistance, NearestAnswer, nearestOf}
+use Rattle.information.proofs.Apart.{word-lt}
+use Rattle.information.proofs.Flips.{flips-distance, flips-nearest, write-then-first, write-then-second, info-length, info-bits}
+use Rattle.block_table.specs.Blocks.{shapesOf, hasBlocks}
+use Rattle.codewords.specs.Codewords.{maskBit, squareOf}
+use Rattle.codewords.proofs.Back.{length-square}
+use Rattle.blocks.specs.Blockwise.{streamOf}
+use Rattle.segments.specs.Script.{Segment}
+use Rattle.script.specs.Writer.{allHave, encodings}
+use Rattle.script.specs.Check.{commandsOf, scriptData}
+use Rattle.script.specs.Inner.{Fits}
+use Rattle.marks.specs.Read.{firstRefusal, unless, levelIn, maskIn, distanceIn, nearestIn}
+use Rattle.marks.specs.Write.{Writing, roomOf, scriptRefusals, writeRefusal, markOf, writeOf}
+use Rattle.marks.proofs.Refusals.{true-unless, first-none, first-one, both-true, true-both, leb-fact, eqb-fact}
+use Rattle.marks.proofs.Modules.{nearest-bits}
+use Rattle.codewords.proofs.Masks.{mask-bit-lt}
+use Rattle.codewords.proofs.Small.{Below, square-below}
+
+-- ---- version, level and mask in their ranges
+
+pub record Ranges (v l k : ℕ) : Type 0 where
+  pub low : 1 ≤ v
+  pub high : v ≤ 84
+  pub level : l ≤ 3
+  pub mask : k ≤ 3
+
+pub ranges : (v l k : ℕ) → isInfo v l k ≡ true → Ranges v l k
+unfolding isInfo isVersion
+ranges v l k e =
+    let a = both-true (leb 1 v && leb v 84) (leb l 3 && leb k 3) e in
+    let b = both-true (leb 1 v) (leb v 84) (a .0) in
+    let c = both-true (leb l 3) (leb k 3) (a .1) in
+    record { low = leb-fact 1 v (b .0); high = leb-fact v 84 (b .1); level = leb-fact l 3 (c .0); mask = leb-fact k 3 (c .1) }
+
+pub version-is : (v : ℕ) → 1 ≤ v → v ≤ 84 → isVersion v ≡ true
+unfolding isVersion
+version-is v a b = true-both (leb 1 v) (leb v 84) (le-leb 1 v a) (le-leb v 84 b)
+
+pub info-is : (v l k : ℕ) → Ranges v l k → isInfo v l k ≡ true
+unfolding isInfo
+info-is v l k R =
+    true-both (isVersion v) (leb l 3 && leb k 3) (version-is v (R .low) (R .high))
+    (true-both (leb l 3) (leb k 3) (le-leb l 3 (R .level)) (le-leb k 3 (R .mask)))
+
+-- a version's side is one, and says the version
+pub side-is : (v : ℕ) → 1 ≤ v → v ≤ 84 → isSide (sideOf v) ≡ true
+unfolding isSide
+side-is v a b =
+    true-both (leb 23 (sideOf v)) (leb (sideOf v) 189 && eqb (sideOf v % 2) 1) (le-leb 23 (sideOf v) (omega arith))
+    (true-both (leb (sideOf v) 189) (eqb (sideOf v % 2) 1) (le-leb (sideOf v) 189 (omega arith)) (eq-eqb (sideOf v % 2) 1 (omega arith)))
+
+pub side-version : (v : ℕ) → 1 ≤ v → v ≤ 84 → sideVersion (sideOf v) ≡ v
+unfolding sideVersion
+side-version v a b = ap (λ (t : Bool). cond t ((sideOf v - 21) / 2) 0) (side-is v a b) ∙ (let e : (sideOf v - 21) / 2 ≡ v = omega arith in e)
+
+-- ---- what an accepted writing says
+
+pub record Written (v l k : ℕ) (s p sq : List ℕ) : Type 0 where
+  pub ranged : Ranges v l k
+  pub blocked : hasBlocks v l ≡ true
+  pub size : length sq ≡ sideOf v * sideOf v
+  pub fits : Fits s p (roomOf v l)
+
+-- no refusal of script and payload
+script-fits : (s p : List ℕ) (n : ℕ) (z : Option (List Segment)) → commandsOf s p ≡ z → firstRefusal (scriptRefusals z p n) ≡ 0 → Fits s p n
+script-fits s p n none q e = absurd (omega (arith, first-one 11))
+script-fits s p n (some gs) q e =
+    let room = leb (length (encodings gs)) (8 * n) in
+    let bits = unless room 13 in
+    let a = first-none (unless (allHave gs) 12) (unless (ltb 0 (length p)) 8 ∷ bits ∷ []) e in
+    let b = first-none (unless (ltb 0 (length p)) 8) (bits ∷ []) (a .1) in
+    let c = first-none bits [] (b .1) in
+    record {
+      segments = gs;
+      are = q;
+      have = true-unless (allHave gs) 11 (a .0);
+      filled = ltb-true 0 (length p) (true-unless (ltb 0 (length p)) 7 (b .0));
+      room = leb-fact (length (encodings gs)) (8 * n) (true-unless room 12 (c .0));
+    }
+
+module _ (v l k : ℕ) (s p sq : List ℕ) where
+  abbrev texts : List ℕ
+  texts = scriptRefusals (commandsOf s p) p (roomOf v l)
+
+  abbrev sized : Bool
+  sized = eqb (length sq) (sideOf v * sideOf v)
+
+  pub no-refusal : writeRefusal v l k s p sq ≡ 0 → Written v l k s p sq
+  unfolding writeRefusal
+  no-refusal e =
+      let a = first-none (unless (isInfo v l k) 1) (unless (hasBlocks v l) 1 ∷ unless sized 2 ∷ texts) e in
+      let b = first-none (unless (hasBlocks v l) 1) (unless sized 2 ∷ texts) (a .1) in
+      let c = first-none (unless sized 2) texts (b .1) in
+      record {
+        ranged = ranges v l k (true-unless (isInfo v l k) 0 (a .0));
+        blocked = true-unless (hasBlocks v l) 0 (b .0);
+        size = eqb-fact (length sq) (sideOf v * sideOf v) (true-unless sized 1 (c .0));
+        fits = script-fits s p (roomOf v l) (commandsOf s p) refl (c .1);
+      }
+
+  pub written : (m : List ℕ) → writeOf v l k s p sq ≡ record { number = 0; square = m } → Written v l k s p sq × (m ≡ markOf v l k s p)
+  unfolding writeOf
+  written m e = elim (ℕ-discrete (writeRefusal v l k s p sq) 0) [
+    | yes z ↦ (no-refusal z, sym (ap (λ (w : Writing). w .square) e) ∙ simp (eq-eqb (writeRefusal v l k s p sq) 0 z))
+    | no d ↦ absurd (d (sym (simp (ne-eqb (writeRefusal v l k s p sq) 0 d)) ∙ ap (λ (w : Writing). w .number) e))
+  ]
+
+-- ---- the mark as a square
+
+module _ (v l k : ℕ) (s p : List ℕ) (R : Ranges v l k) where
+  abbrev mark : List ℕ
+  mark = markOf v l k s p
+
+  abbrev stream : List ℕ
+  stream = streamOf (shapesOf v l) (scriptData (roomOf v l) (commandsOf s p))
+
+  abbrev base : List ℕ
+  base = squareOf (maskBit (sideOf v) k) (layoutOf v) stream
+
+  base-length : length base ≡ sideOf v * sideOf v
+  base-length = length-square (maskBit (sideOf v) k) (layoutOf v) stream ∙ layout-length v
+
+  pub mark-length : length mark ≡ sideOf v * sideOf v
+  unfolding markOf
+  mark-length = info-length (sideOf v) (infoBits v l k) base ∙ base-length
+
+  pub mark-below : Below 2 mark
+  unfolding markOf
+  mark-below = info-bits (sideOf v) (infoBits v l k) base (square-below (maskBit (sideOf v) k) (layoutOf v) stream (mask-bit-lt (sideOf v) k))
+
+  -- its word, among the sixteen of its version
+  word-is : infoBits v l k ≡ wordAt v (4 * l + k)
+  unfolding wordAt
+  word-is =
+      let a : l ≡ (4 * l + k) / 4 = omega (arith, R .mask) in
+      let b : k ≡ (4 * l + k) % 4 = omega (arith, R .mask) in
+      ap₂ (infoBits v) a b
+
+  word-small : infoBits v l k < 2 ^ 34
+  word-small = subst (λ (w : ℕ). w < 2 ^ 34) (sym word-is) (word-lt v (4 * l + k) (R .high) (omega (arith, R .level, R .mask)))
+
+  -- with at most 8 information modules flipped, level and mask are those written
+  module _ (h : List ℕ) (size : length h ≡ sideOf v * sideOf v) (b : Below 2 h) (few : infoFlips (layoutOf v) mark h ≤ 8) where
+    abbrev copy : Bool → ℕ
+    copy second = copyOf (sideOf v) second h
+
+    first-copy : copyOf (sideOf v) false mark ≡ wordAt v (4 * l + k)
+    unfolding markOf
+    first-copy = write-then-first v (R .low) (infoBits v l k) base (omega (arith, base-length)) word-small ∙ word-is
+
+    second-copy : copyOf (sideOf v) true mark ≡ wordAt v (4 * l + k)
+    unfolding markOf
+    second-copy = write-then-second v (R .low) (infoBits v l k) base (omega (arith, base-length)) word-small ∙ word-is
+
+    near : nearestWord v (copy false) (copy true) ≡ 4 * l + k
+    near =
+        flips-nearest v (R .low) mark h mark-length size (4 * l + k) mark-below b first-copy second-copy (R .high) (omega (arith, R .level, R .mask)) few
+
+    versioned : isVersion v ≡ true
+    versioned = version-is v (R .low) (R .high)
+
+    found : nearestIn v h ≡ record { number = 0; level = l; mask = k; distance = wordDistance v (copy false) (copy true) (4 * l + k) }
+    unfolding nearestOf
+    found =
+        nearest-bits v h b
+        ∙ simp (versioned, near)
+        (let a : (4 * l + k) / 4 ≡ l = omega (arith, R .mask) in
+        let b : (4 * l + k) % 4 ≡ k = omega (arith, R .mask) in
+        λ i. record { number = 0; level = a i; mask = b i; distance = wordDistance v (copy false) (copy true) (4 * l + k) })
+
+    pub level-is : levelIn v h ≡ l
+    level-is = ap (λ (x : NearestAnswer). x .level) found
+
+    pub mask-is : maskIn v h ≡ k
+    mask-is = ap (λ (x : NearestAnswer). x .mask) found
+
+    pub distance-le : distanceIn v h ≤ 8
+    distance-le =
+        omega (
+          arith,
+          ap (λ (x : NearestAnswer). x .distance) found,
+          flips-distance v (R .low) mark h mark-length size (4 * l + k) mark-below b first-copy second-copy,
+        )

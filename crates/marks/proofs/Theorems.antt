@@ -1,0 +1,140 @@
+-- A WRITTEN MARK IS READ BACK (SPECIFICATION 11), by Read a square and by Read with known version, level, mask, over the definitions that
+-- the contracts cite; its words are those of specs/Promise.antt. First: a mark made by the writer is read as it was written, whichever
+-- modules flip within reach. Second: what a reading answers for any square at all that passes its first refusals. Assumes nothing.
+use Rattle.general.proofs.Names.{_≡_, sym, ap, _∙_, _≢_, List, _++_, ℕ, _/_, _≤_, _<_, length, getD, drop}
+use Rattle.symbol.specs.Version.{sideOf, sideVersion}
+use Rattle.symbol.specs.Layout.{layoutOf}
+use Rattle.information.specs.Information.{infoFlips}
+use Rattle.marks.specs.Receipt.{receiptOf}
+use Rattle.marks.specs.Read.{Reading, refused, levelIn, maskIn, distanceIn, readRefusal, knownRefusal, bodyOf, readOf, readKnownOf}
+use Rattle.marks.specs.Write.{writeOf}
+use Rattle.marks.specs.Promise.{blockCount, blockIn, parityIn, changedAt, changed, InReach, EachInReach, setTo, correctionsAt}
+use Rattle.reed_solomon.specs.Block.{distance}
+use Rattle.marks.proofs.Marks.{Ranges}
+use Rattle.marks.proofs.Starts.{level-range}
+use Rattle.marks.proofs.ReadBack as back
+use Rattle.marks.proofs.AnySquare as any
+
+-- ---- 1. Marks made by the writer (11.1 to 11.8)
+
+-- A script (a list of bytes) and a payload are written at a version, level and mask into a square, which then is `mark`. `square` is any
+-- square of the same size with module bytes 0 or 1, each block of which differs from the written block in at most floor(parity / 2)
+-- codewords. The receipt has 12 bytes, and the buffers p and s are long enough.
+module _ (v level mask : ℕ) (script payload before mark : List ℕ) (bytes : (i : ℕ) → getD script i 0 < 256)
+    (made : writeOf v level mask script payload before ≡ record { number = 0; square = mark })
+    (square : List ℕ) (size : length square ≡ length mark) (modules : (i : ℕ) → getD square i 0 < 2)
+    (reach : (j : ℕ) → j < blockCount v level → changedAt v level mask square mark j ≤ parityIn v level j / 2)
+    (p s r : List ℕ) (receipt : length r ≡ 12) (room-p : length payload ≤ length p) (room-s : length script ≤ length s) where
+  -- If at most 8 of the 68 information modules differ, Read a square answers 0, with the script, payload, version, level and mask that were
+  -- written, and the count is exactly the number of block codewords that differ.
+  pub mark-is-read : infoFlips (layoutOf v) mark square ≤ 8
+      → readOf square (sideOf v) p s r ≡ record {
+        number = 0;
+        receipt = receiptOf v level mask (changed v level mask square mark) (distanceIn v square) (length payload) (length script);
+        payload = payload ++ drop (length payload) p;
+        script = script ++ drop (length script) s;
+      }
+  mark-is-read few = back.mark-read v level mask script payload before mark bytes made square size modules reach p s r receipt room-p room-s few
+
+  -- Read with known version, level, mask does so whatever the information modules are; its receipt shows distance 0.
+  pub mark-is-read-known : readKnownOf square v level mask p s r ≡ record {
+    number = 0;
+    receipt = receiptOf v level mask (changed v level mask square mark) 0 (length payload) (length script);
+    payload = payload ++ drop (length payload) p;
+    script = script ++ drop (length script) s;
+  }
+  mark-is-read-known = back.mark-known v level mask script payload before mark bytes made square size modules reach p s r receipt room-p room-s
+
+-- ---- 2. Any square that passes the refusals before 6 (11.9 to 11.12)
+
+-- A square that passes refusals 1 to 4 of Read a square, where the receipt has 12 bytes. Its version is its side's, level and mask are the
+-- nearest.
+module _ (sq : List ℕ) (side : ℕ) (p s r : List ℕ) (receipt : length r ≡ 12) (passes : readRefusal side sq ≡ 0) where
+  abbrev pub version : ℕ
+  version = sideVersion side
+
+  abbrev pub level : ℕ
+  level = levelIn (sideVersion side) sq
+
+  abbrev pub mask : ℕ
+  mask = maskIn (sideVersion side) sq
+
+  abbrev low : 1 ≤ version
+  low = any.ranged sq side p s r receipt passes .0
+
+  abbrev high : version ≤ 84
+  high = any.ranged sq side p s r receipt passes .1
+
+  abbrev body : readOf sq side p s r ≡ bodyOf version level mask (distanceIn version sq) sq p s
+  body = any.read-body sq side p s r receipt passes
+
+  -- If some block has no codeword within floor(parity / 2) places, the answer is 6, and payload and script are left ..
+  pub lost-is-six : (j : ℕ) → j < blockCount version level → ((w : List ℕ) → InReach version level mask sq j w → ⊥) → readOf sq side p s r ≡ refused 6 p s
+  lost-is-six j h e = body ∙ any.lost-six version level mask (distanceIn version sq) sq p s low high (level-range version sq) j h e
+
+  -- .. and 6 comes only then.
+  pub six-is-lost : readOf sq side p s r .number ≡ 6
+      → (j : ℕ) × (j < blockCount version level) × ((w : List ℕ) → InReach version level mask sq j w → ⊥)
+  six-is-lost e =
+      any.six-lost version level mask (distanceIn version sq) sq p s low high (level-range version sq) (sym (ap (λ (x : Reading). x .number) body) ∙ e)
+
+  -- No block has two.
+  pub no-block-has-two : (j : ℕ) → j < blockCount version level → (u w : List ℕ) → InReach version level mask sq j u → InReach version level mask sq j w → u ≡ w
+  no-block-has-two = any.no-two version level mask (distanceIn version sq) sq p s low high (level-range version sq)
+
+  -- The corrections of a block are the places in which it differs from its codeword.
+  pub corrections-are : (j : ℕ) → j < blockCount version level → (w : List ℕ) → InReach version level mask sq j w
+      → correctionsAt version level mask sq j ≡ distance (blockIn version level mask sq j) w
+  corrections-are = any.corrections version level mask (distanceIn version sq) sq p s low high (level-range version sq)
+
+  -- When each has one, each is set to it: payload and script, or the refusal, are what Segments from data gives for their data parts, and
+  -- the count is the number of places in which the square's blocks differ from them ..
+  pub each-is-set : (ws : List (List ℕ)) → EachInReach version level mask sq ws → readOf sq side p s r ≡ setTo version level mask (distanceIn version sq) sq ws p s
+  each-is-set ws E = body ∙ any.each-told version level mask (distanceIn version sq) sq p s low high (level-range version sq) ws E
+
+  -- .. and each has one wherever the answer is not 6.
+  pub not-six-is-set : readOf sq side p s r .number ≢ 6
+      → (ws : List (List ℕ)) × EachInReach version level mask sq ws × (readOf sq side p s r ≡ setTo version level mask (distanceIn version sq) sq ws p s)
+  not-six-is-set n =
+      let x = any.other-each version level mask (distanceIn version sq) sq p s low high (level-range version sq) (λ e. n (ap (λ (x : Reading). x .number) body ∙ e)) in
+      (x .0, x .1, each-is-set (x .0) (x .1))
+
+-- A square that Read a square accepts passes its first refusals, so that all of this holds for it.
+pub accepted-passes : (sq : List ℕ) (side : ℕ) (p s r : List ℕ) → readOf sq side p s r .number ≡ 0 → (length r ≡ 12) × (readRefusal side sq ≡ 0)
+unfolding readOf
+accepted-passes sq side p s r e = any.begins r p s (readRefusal side sq) _ e
+
+-- The same for Read with known version, level, mask.
+module _ (sq : List ℕ) (v l k : ℕ) (p s r : List ℕ) (receipt : length r ≡ 12) (passes : knownRefusal v l k sq ≡ 0) where
+  abbrev in-range : Ranges v l k
+  in-range = any.in-range sq v l k p s r receipt passes
+
+  abbrev known-body : readKnownOf sq v l k p s r ≡ bodyOf v l k 0 sq p s
+  known-body = any.known-body sq v l k p s r receipt passes
+
+  pub known-lost-is-six : (j : ℕ) → j < blockCount v l → ((w : List ℕ) → InReach v l k sq j w → ⊥) → readKnownOf sq v l k p s r ≡ refused 6 p s
+  known-lost-is-six j h e = known-body ∙ any.lost-six v l k 0 sq p s (in-range .low) (in-range .high) (in-range .level) j h e
+
+  pub known-six-is-lost : readKnownOf sq v l k p s r .number ≡ 6 → (j : ℕ) × (j < blockCount v l) × ((w : List ℕ) → InReach v l k sq j w → ⊥)
+  known-six-is-lost e = any.six-lost v l k 0 sq p s (in-range .low) (in-range .high) (in-range .level) (sym (ap (λ (x : Reading). x .number) known-body) ∙ e)
+
+  pub known-no-block-has-two : (j : ℕ) → j < blockCount v l → (u w : List ℕ) → InReach v l k sq j u → InReach v l k sq j w → u ≡ w
+  known-no-block-has-two = any.no-two v l k 0 sq p s (in-range .low) (in-range .high) (in-range .level)
+
+  pub known-corrections-are : (j : ℕ) → j < blockCount v l → (w : List ℕ) → InReach v l k sq j w
+      → correctionsAt v l k sq j ≡ distance (blockIn v l k sq j) w
+  known-corrections-are = any.corrections v l k 0 sq p s (in-range .low) (in-range .high) (in-range .level)
+
+  pub known-each-is-set : (ws : List (List ℕ)) → EachInReach v l k sq ws → readKnownOf sq v l k p s r ≡ setTo v l k 0 sq ws p s
+  known-each-is-set ws E = known-body ∙ any.each-told v l k 0 sq p s (in-range .low) (in-range .high) (in-range .level) ws E
+
+  pub known-not-six-is-set : readKnownOf sq v l k p s r .number ≢ 6
+      → (ws : List (List ℕ)) × EachInReach v l k sq ws × (readKnownOf sq v l k p s r ≡ setTo v l k 0 sq ws p s)
+  known-not-six-is-set n =
+      let x = any.other-each v l k 0 sq p s (in-range .low) (in-range .high) (in-range .level) (λ e. n (ap (λ (x : Reading). x .number) known-body ∙ e)) in
+      (x .0, x .1, known-each-is-set (x .0) (x .1))
+
+pub known-accepted-passes : (sq : List ℕ) (v l k : ℕ) (p s r : List ℕ) → readKnownOf sq v l k p s r .number ≡ 0
+    → (length r ≡ 12) × (knownRefusal v l k sq ≡ 0)
+unfolding readKnownOf
+known-accepted-passes sq v l k p s r e = any.begins r p s (knownRefusal v l k sq) _ e

@@ -1,0 +1,49 @@
+-- SPECIFICATION 11, "A written mark is read back": the words in which the theorem (proofs/Theorems.antt) is stated.
+use mathlib.Core.Path.{_≡_}
+use mathlib.Core.List.{List}
+use Prim.Native.Nat.{ℕ, _<_}
+use lib.Dec.{T}
+use lib.ListN.{length}
+use Rattle.reed_solomon.specs.Block.{distance, inReach}
+use Rattle.corrector.specs.Correct.{correctOf}
+use Rattle.block_table.specs.Blocks.{shapesOf, dataParts}
+use Rattle.blocks.specs.Blockwise.{differences, blockAt, parityAt}
+use Rattle.segments.specs.FromData.{fromData}
+use Rattle.marks.specs.Read.{Reading, blocksIn, told}
+
+-- how many blocks a version and level have
+abbrev pub blockCount : ℕ → ℕ → ℕ
+blockCount v level = length (shapesOf v level)
+
+-- block j of a square for a version, level and mask, and how many of its codewords are parity
+abbrev pub blockIn : ℕ → ℕ → ℕ → List ℕ → ℕ → List ℕ
+blockIn v level mask sq j = blockAt (blocksIn v level mask sq) j
+
+abbrev pub parityIn : ℕ → ℕ → ℕ → ℕ
+parityIn v level j = parityAt (shapesOf v level) j
+
+-- how many codewords of block j, and of all blocks, are changed from one square to another
+abbrev pub changedAt : ℕ → ℕ → ℕ → List ℕ → List ℕ → ℕ → ℕ
+changedAt v level mask a b j = distance (blockIn v level mask a j) (blockIn v level mask b j)
+
+abbrev pub changed : ℕ → ℕ → ℕ → List ℕ → List ℕ → ℕ
+changed v level mask a b = differences (blocksIn v level mask a) (blocksIn v level mask b)
+
+-- w is a codeword within floor(parity / 2) places of block j
+abbrev pub InReach : ℕ → ℕ → ℕ → List ℕ → ℕ → List ℕ → Type 0
+InReach v level mask sq j w = T (inReach 0x163 1 (parityIn v level j) (blockIn v level mask sq j) w)
+
+-- ws has such a codeword for each block
+pub record EachInReach (v level mask : ℕ) (sq : List ℕ) (ws : List (List ℕ)) : Type 0 where
+  pub number : length ws ≡ blockCount v level
+  pub each : (j : ℕ) → j < blockCount v level → InReach v level mask sq j (blockAt ws j)
+
+-- what a reading gives that sets each block to its word of ws: the count is the number of places in which the blocks differ from them;
+-- payload and script, or the refusal, are what Segments from data gives for their data parts
+abbrev pub setTo : ℕ → ℕ → ℕ → ℕ → List ℕ → List (List ℕ) → List ℕ → List ℕ → Reading
+setTo v level mask d sq ws p s =
+    told v level mask d (differences (blocksIn v level mask sq) ws) (fromData (dataParts (shapesOf v level) ws) p s)
+
+-- how many codewords of block j Correct a block sets right
+abbrev pub correctionsAt : ℕ → ℕ → ℕ → List ℕ → ℕ → ℕ
+correctionsAt v level mask sq j = correctOf 0x163 1 (parityIn v level j) (blockIn v level mask sq j) .count

@@ -1,0 +1,112 @@
+-- SPECIFICATION 10.9 and 10.10: Read a square, and Read with known version, level, mask. The first refusal that applies is given, each
+-- tested over the whole input.
+use mathlib.Core.Bool.{Bool, true, false, cond}
+use mathlib.Core.List.{List, [], _∷_, map}
+use Prim.Native.Nat.{ℕ, _*_}
+use lib.Dec.{leb, eqb}
+use lib.ListN.{length}
+use Rattle.symbol.specs.Version.{sideOf, isSide, sideVersion}
+use Rattle.symbol.specs.Layout.{layoutOf}
+use Rattle.information.specs.Information.{isInfo, copyOf, NearestAnswer, nearestOf}
+use Rattle.block_table.specs.Blocks.{totalOf, shapesOf, hasBlocks, cut}
+use Rattle.codewords.specs.Codewords.{maskBit, codewordsOf, dataBits, toStream}
+use Rattle.script.specs.Writer.{all}
+use Rattle.blocks.specs.Blockwise.{firstRefused, countOf, corrected, correctedData}
+use Rattle.segments.specs.FromData.{DataOutcome, fromData}
+use Rattle.marks.specs.Receipt.{receiptOf, refusalReceipt}
+
+-- what a reading gives: the refusal number or 0, and what receipt, payload and script hold afterwards
+pub record Reading : Type 0 where
+  pub number : ℕ
+  pub receipt : List ℕ
+  pub payload : List ℕ
+  pub script : List ℕ
+
+-- what a call that returns n leaves: receipt r, payload p, script s
+abbrev pub readingOf : ℕ → List ℕ → List ℕ → List ℕ → Reading
+readingOf n r p s = record { number = n; receipt = r; payload = p; script = s }
+
+-- a refusal leaves payload and script, and its number is in the receipt
+unfoldable pub refused : ℕ → List ℕ → List ℕ → Reading
+refused n p s = readingOf n (refusalReceipt n) p s
+
+-- the first of some numbers that is not 0, or 0
+unfoldable pub firstRefusal : List ℕ → ℕ
+firstRefusal [] = 0
+firstRefusal (n ∷ ns) = cond (eqb n 0) (firstRefusal ns) n
+
+-- a number where a test fails
+abbrev pub unless : Bool → ℕ → ℕ
+unless test n = cond test 0 n
+
+-- no byte is above 1
+unfoldable pub areModules : List ℕ → Bool
+areModules sq = all (λ m. leb m 1) sq
+
+-- a module as a bit: 1 is dark, all else is light
+abbrev pub moduleBit : ℕ → ℕ
+moduleBit m = cond (eqb m 1) 1 0
+
+-- the nearest level and mask of a square of version v, and their distance
+unfoldable pub nearestIn : ℕ → List ℕ → NearestAnswer
+nearestIn v sq = nearestOf v (copyOf (sideOf v) false (map moduleBit sq)) (copyOf (sideOf v) true (map moduleBit sq))
+
+abbrev pub levelIn : ℕ → List ℕ → ℕ
+levelIn v sq = nearestIn v sq .level
+
+abbrev pub maskIn : ℕ → List ℕ → ℕ
+maskIn v sq = nearestIn v sq .mask
+
+abbrev pub distanceIn : ℕ → List ℕ → ℕ
+distanceIn v sq = nearestIn v sq .distance
+
+-- the stream of a square of version v under a mask
+unfoldable pub streamFrom : ℕ → ℕ → List ℕ → List ℕ
+streamFrom v mask sq = toStream (codewordsOf (totalOf v) (dataBits (maskBit (sideOf v) mask) 0 (layoutOf v) (map moduleBit sq)))
+
+-- SPECIFICATION 11.3: the blocks of a square, for a version, level and mask
+unfoldable pub blocksIn : ℕ → ℕ → ℕ → List ℕ → List (List ℕ)
+blocksIn v level mask sq = cut (shapesOf v level) (streamFrom v mask sq)
+
+-- 1 side not odd or not 23 to 189; 2 not s × s bytes; 3 a byte above 1; 4 distance above 10; 1 by SPECIFICATION 7.4
+unfoldable pub readRefusal : ℕ → List ℕ → ℕ
+readRefusal side sq =
+    firstRefusal
+    (unless (isSide side) 1 ∷ unless (eqb (length sq) (side * side)) 2 ∷ unless (areModules sq) 3
+    ∷ unless (leb (distanceIn (sideVersion side) sq) 10) 4 ∷ unless (hasBlocks (sideVersion side) (levelIn (sideVersion side) sq)) 1 ∷ [])
+
+-- the same without 4; the first 1 is for version, level and mask
+unfoldable pub knownRefusal : ℕ → ℕ → ℕ → List ℕ → ℕ
+knownRefusal v level mask sq =
+    firstRefusal
+    (unless (isInfo v level mask) 1 ∷ unless (eqb (length sq) (sideOf v * sideOf v)) 2 ∷ unless (areModules sq) 3 ∷ unless (hasBlocks v level) 1 ∷ [])
+
+-- what the segments of the corrected blocks give, with the count of their corrections
+unfoldable pub told : ℕ → ℕ → ℕ → ℕ → ℕ → DataOutcome → Reading
+told v level mask distance count o =
+    readingOf (o .number)
+    (cond (eqb (o .number) 0) (receiptOf v level mask count distance (o .payloadLength) (o .scriptLength)) (refusalReceipt (o .number)))
+    (o .payload) (o .script)
+
+-- 6 if a block has no codeword in reach; then 7 to 10, and payload and script, as Segments from data
+unfoldable pub bodyOf : ℕ → ℕ → ℕ → ℕ → List ℕ → List ℕ → List ℕ → Reading
+bodyOf v level mask distance sq p s =
+    let os = corrected (shapesOf v level) (streamFrom v mask sq) in
+    cond (eqb (firstRefused os) 0)
+    (told v level mask distance (countOf os) (fromData (correctedData (shapesOf v level) (streamFrom v mask sq)) p s))
+    (refused (firstRefused os) p s)
+
+-- 2 if the receipt has not 12 bytes, and nothing is written at all
+unfoldable pub withReceipt : List ℕ → List ℕ → List ℕ → ℕ → Reading → Reading
+withReceipt r p s refusal body =
+    cond (eqb (length r) 12) (cond (eqb refusal 0) body (refused refusal p s)) (readingOf 2 r p s)
+
+-- SPECIFICATION 10.9: Read a square
+unfoldable pub readOf : List ℕ → ℕ → List ℕ → List ℕ → List ℕ → Reading
+readOf sq side p s r =
+    let v = sideVersion side in
+    withReceipt r p s (readRefusal side sq) (bodyOf v (levelIn v sq) (maskIn v sq) (distanceIn v sq) sq p s)
+
+-- SPECIFICATION 10.10: Read with known version, level, mask; its receipt shows distance 0
+unfoldable pub readKnownOf : List ℕ → ℕ → ℕ → ℕ → List ℕ → List ℕ → List ℕ → Reading
+readKnownOf sq v level mask p s r = withReceipt r p s (knownRefusal v level mask sq) (bodyOf v level mask 0 sq p s)

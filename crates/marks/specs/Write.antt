@@ -1,0 +1,55 @@
+-- SPECIFICATION 10.11: Write a square.
+use mathlib.Core.Bool.{cond}
+use mathlib.Core.Option.{Option, none, some}
+use mathlib.Core.List.{List, [], _∷_}
+use Prim.Native.Nat.{ℕ, _*_}
+use lib.Dec.{ltb, leb, eqb}
+use lib.ListN.{length}
+use Rattle.symbol.specs.Version.{sideOf}
+use Rattle.symbol.specs.Layout.{layoutOf}
+use Rattle.information.specs.Information.{isInfo, infoBits, infoWritten}
+use Rattle.block_table.specs.Blocks.{shapesOf, hasBlocks, totalData}
+use Rattle.codewords.specs.Codewords.{maskBit, squareOf}
+use Rattle.blocks.specs.Blockwise.{streamOf}
+use Rattle.segments.specs.Script.{Segment}
+use Rattle.script.specs.Writer.{allHave, encodings}
+use Rattle.script.specs.Check.{commandsOf, scriptData}
+use Rattle.marks.specs.Read.{firstRefusal, unless}
+
+-- what writing gives: the refusal number or 0, and what the square holds afterwards
+pub record Writing : Type 0 where
+  pub number : ℕ
+  pub square : List ℕ
+
+-- what a call that returns n leaves in the square
+abbrev pub writingOf : ℕ → List ℕ → Writing
+writingOf n sq = record { number = n; square = sq }
+
+-- how many data codewords a version and level have
+abbrev pub roomOf : ℕ → ℕ → ℕ
+roomOf v level = totalData (shapesOf v level)
+
+-- the tests of the segments that a script makes of the payload p, for so many data codewords: 11 the commands make none; 12 a segment has
+-- a byte, pair or four bytes that its mode lacks; 8 payload empty; 13 more bits than 8 × data codewords
+abbrev pub scriptRefusals : Option (List Segment) → List ℕ → ℕ → List ℕ
+scriptRefusals none p room = 11 ∷ []
+scriptRefusals (some gs) p room = unless (allHave gs) 12 ∷ unless (ltb 0 (length p)) 8 ∷ unless (leb (length (encodings gs)) (8 * room)) 13 ∷ []
+
+-- 1 version, level or mask outside its range, or by SPECIFICATION 7.4; 2 square not s × s; then script and payload
+unfoldable pub writeRefusal : ℕ → ℕ → ℕ → List ℕ → List ℕ → List ℕ → ℕ
+writeRefusal v level mask s p sq =
+    firstRefusal
+    (unless (isInfo v level mask) 1 ∷ unless (hasBlocks v level) 1 ∷ unless (eqb (length sq) (sideOf v * sideOf v)) 2
+    ∷ scriptRefusals (commandsOf s p) p (roomOf v level))
+
+-- the mark: the bits of the script in the data codewords, blocks with their parity, the stream in the masked data modules, and the word
+unfoldable pub markOf : ℕ → ℕ → ℕ → List ℕ → List ℕ → List ℕ
+markOf v level mask s p =
+    infoWritten (sideOf v) (infoBits v level mask)
+    (squareOf (maskBit (sideOf v) mask) (layoutOf v) (streamOf (shapesOf v level) (scriptData (roomOf v level) (commandsOf s p))))
+
+-- a refusal leaves the square
+unfoldable pub writeOf : ℕ → ℕ → ℕ → List ℕ → List ℕ → List ℕ → Writing
+writeOf v level mask s p sq =
+    cond (eqb (writeRefusal v level mask s p sq) 0) (writingOf 0 (markOf v level mask s p))
+    (writingOf (writeRefusal v level mask s p sq) sq)

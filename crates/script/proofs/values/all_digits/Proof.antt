@@ -1,0 +1,28 @@
+-- `all_digits` meets its contract. Assumes nothing.
+use Rattle.general.proofs.Names.{_≡_, refl, sym, _∙_, _&&_, _≤_, _-_, arith, needs, ltb, length, drop}
+use Rattle.script.specs.Writer.{all, isDigit}
+use Rattle.script.proofs.Runs.{digits-next, digits-end}
+use Rattle.script.proofs.values.all_digits.Tie as tie
+
+abbrev Inv-loop : tie.InvT-loop
+Inv-loop run top₀ j₀ top j = (j ≤ length run) × (all isDigit run ≡ (ltb top 10 && all isDigit (drop j run)))
+
+abbrev μ-loop : tie.MeasureT-loop
+μ-loop run top₀ j₀ top j = length run - j
+
+loop-again : tie.Need-loop-again Inv-loop μ-loop
+loop-again c =
+    let d = c .before in
+    let l = d .before .before .before .loop in
+    let a = d .before .before .before .before .before .args in
+    (omega arith, l .inv .1 ∙ digits-next (a .run .now) (l .j) (l .top) (d .digit-value .result) (c .greater .result) (omega arith) (d .digit-value .ensures) (c .greater .ensures))
+
+returns : tie.Need-returns Inv-loop μ-loop
+returns c =
+    let l = c .before .loop in
+    digits-end (c .before .before .before .args .run .now) (l .j) (l .top) (omega arith) ∙ sym (l .inv .1)
+
+pub all-digits-spec : {M : Type 1} → Rattle.script.proofs.values.all_digits.Statement.statement M
+all-digits-spec =
+    tie.close (tie.spec Inv-loop μ-loop (λ c. (omega arith, refl)) (λ c. omega arith) (λ c κs. search needs) (λ c κs. search needs)
+    (λ c. omega arith) (λ c. omega arith) loop-again returns)
