@@ -43,9 +43,11 @@ joined-bits old r n v h l =
     let y : ℕ = old / 2 ^ (8 - r) * 2 ^ n + v % 2 ^ n in
     let e : 32 ≡ r + n + p = omega arith in
     let o : 8 ≡ r + (8 - r) = omega arith in
-    let a : lowBits 32 (y * 2 ^ p) ≡ lowBits (r + n) y ++ lowBits p (y * 2 ^ p) = ap (λ (k : ℕ). lowBits k (y * 2 ^ p)) e ∙ low-split (r + n) p (y * 2 ^ p) ∙ rw (shl-shr y p) in
+    let a : lowBits 32 (y * 2 ^ p) ≡ lowBits (r + n) y ++ lowBits p (y * 2 ^ p) = ap (λ (k : ℕ). lowBits k (y * 2 ^ p)) e
+    ∙ low-split (r + n) p (y * 2 ^ p) ∙ rw (shl-shr y p) in
     let b : lowBits n y ≡ lowBits n v = low-add n n (old / 2 ^ (8 - r)) (v % 2 ^ n) (omega arith) ∙ low-mod n v in
-    let t : take r (lowBits 8 old) ≡ lowBits r (old / 2 ^ (8 - r)) = ap (λ (k : ℕ). take r (lowBits k old)) o ∙ rw (low-split r (8 - r) old) (take-at (lowBits r (old / 2 ^ (8 - r))) (lowBits (8 - r) old) r (length-low r (old / 2 ^ (8 - r)))) in
+    let t : take r (lowBits 8 old) ≡ lowBits r (old / 2 ^ (8 - r)) = ap (λ (k : ℕ). take r (lowBits k old)) o
+    ∙ rw (low-split r (8 - r) old) (take-at (lowBits r (old / 2 ^ (8 - r))) (lowBits (8 - r) old) r (length-low r (old / 2 ^ (8 - r)))) in
     ap (take (r + n)) a
     ∙ take-at (lowBits (r + n) y) (lowBits p (y * 2 ^ p)) (r + n) (length-low (r + n) y)
     ∙ low-split r n y
@@ -67,7 +69,8 @@ inside (a ∷ b ∷ c ∷ []) zero r n v h l k = absurd (omega arith)
 inside (a ∷ b ∷ c ∷ d ∷ s) zero r n v h l k =
     let e : 8 * 0 + (r + n) ≡ r + n = omega arith in
     let z : 8 * 0 + r ≡ r = omega arith in
-    rw (e, z) (front a r n v (bitsOf s) h l ∙ ap (λ (q : List ℕ). q ++ lowBits n v) (sym (take-append-le r (lowBits 8 a) (bitsOf (b ∷ c ∷ d ∷ s)) (rw length-low (omega arith)))))
+    rw (e, z) (front a r n v (bitsOf s) h l ∙ ap (λ (q : List ℕ). q ++ lowBits n v)
+    (sym (take-append-le r (lowBits 8 a) (bitsOf (b ∷ c ∷ d ∷ s)) (rw length-low (omega arith)))))
 inside (a ∷ s) (suc f) r n v h l k =
     let e : 8 * suc f + (r + n) ≡ suc (suc (suc (suc (suc (suc (suc (suc (8 * f + (r + n))))))))) = omega arith in
     let z : 8 * suc f + r ≡ suc (suc (suc (suc (suc (suc (suc (suc (8 * f + r)))))))) = omega arith in
@@ -92,15 +95,20 @@ joined-is old r n v h l k =
     let s : a < 2 ^ r = shr-lt {n = old} r (8 - r) (rw o h) in
     let t : y < 2 ^ (r + n) = under a r (v % 2 ^ n) n s (mod-lt v (pow-pos n)) in
     let m : old - old % 2 ^ (8 - r) ≡ a * 2 ^ (8 - r) = omega (arith, split old (8 - r)) in
-    let x : a * 2 ^ (8 - r) * 2 ^ 24 ≡ a * 2 ^ n * 2 ^ p = mul-assoc a (2 ^ (8 - r)) (2 ^ 24) ∙ rw (← pow-add 2 (8 - r) 24, f, pow-add 2 n p) (sym (mul-assoc a (2 ^ n) (2 ^ p))) in
-    (rw (one-shifted n k, one-shifted (8 - r) (omega arith), m, x, shl-exact n p 64 (mod-lt v (pow-pos n)) (omega arith)) (sym (add-mul (a * 2 ^ n) (v % 2 ^ n) (2 ^ p))), rw e at (shl-lt (r + n) p t))
+    let x : a * 2 ^ (8 - r) * 2 ^ 24 ≡ a * 2 ^ n * 2 ^ p = mul-assoc a (2 ^ (8 - r)) (2 ^ 24)
+    ∙ rw (← pow-add 2 (8 - r) 24, f, pow-add 2 n p) (sym (mul-assoc a (2 ^ n) (2 ^ p))) in (
+      rw (one-shifted n k, one-shifted (8 - r) (omega arith), m, x, shl-exact n p 64 (mod-lt v (pow-pos n)) (omega arith))
+          (sym (add-mul (a * 2 ^ n) (v % 2 ^ n) (2 ^ p))),
+      rw e at (shl-lt (r + n) p t),
+    )
   where
     under : (a r m n : ℕ) → a < 2 ^ r → m < 2 ^ n → a * 2 ^ n + m < 2 ^ (r + n)
     under a r m n i j =
         let x : suc a * 2 ^ n ≤ 2 ^ r * 2 ^ n = mul-le-mul-right (2 ^ n) i in
         rw (pow-add 2 r n) (omega (arith, suc-mul a (2 ^ n)))
 
-pub appended : (s : List ℕ) (at n v : ℕ) → n ≤ 24 → at / 8 + 4 ≤ length s → take (at + n) (bitsOf (sets s (at / 8) (fourOf (joined (getD s (at / 8) 0) (at % 8) n v)))) ≡ take at (bitsOf s) ++ lowBits n v
+pub appended : (s : List ℕ) (at n v : ℕ) → n ≤ 24 → at / 8 + 4 ≤ length s
+    → take (at + n) (bitsOf (sets s (at / 8) (fourOf (joined (getD s (at / 8) 0) (at % 8) n v)))) ≡ take at (bitsOf s) ++ lowBits n v
 appended s at n v l k =
     let e : at + n ≡ 8 * (at / 8) + (at % 8 + n) = omega arith in
     let z : at ≡ 8 * (at / 8) + at % 8 = omega arith in

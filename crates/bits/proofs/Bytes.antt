@@ -13,7 +13,8 @@ value-add a [] = omega arith
 value-add a (b ∷ bs) =
     let z : 0 * 2 + b ≡ b = omega arith in
     value-add (a * 2 + b) bs
-    ∙ rw (z, value-add b bs, pow-succ' 2 (length bs), add-mul (a * 2) b (2 ^ length bs), mul-assoc a 2 (2 ^ length bs)) (add-assoc (a * (2 * 2 ^ length bs)) (b * 2 ^ length bs) (value 0 bs))
+    ∙ rw (z, value-add b bs, pow-succ' 2 (length bs), add-mul (a * 2) b (2 ^ length bs), mul-assoc a 2 (2 ^ length bs))
+    (add-assoc (a * (2 * 2 ^ length bs)) (b * 2 ^ length bs) (value 0 bs))
 
 pub value-small : (bs : List ℕ) → ((i : ℕ) → getD bs i 0 < 2) → value 0 bs < 2 ^ length bs
 unfolding value
@@ -33,7 +34,9 @@ value-small (b ∷ bs) h =
 even : (c k n : ℕ) → n < k → c * 2 ^ k ≡ c * 2 ^ (k - n - 1) * 2 * 2 ^ n
 even c k n h =
     let e : k ≡ k - n - 1 + 1 + n = omega arith in
-    ap (λ (z : ℕ). c * 2 ^ z) e ∙ rw (pow-add 2 (k - n - 1 + 1) n, pow-add 2 (k - n - 1) 1) (sym (mul-assoc (c * 2 ^ (k - n - 1)) 2 (2 ^ n) ∙ mul-assoc c (2 ^ (k - n - 1)) (2 * 2 ^ n) ∙ ap (λ (z : ℕ). c * z) (sym (mul-assoc (2 ^ (k - n - 1)) 2 (2 ^ n)))))
+    ap (λ (z : ℕ). c * 2 ^ z) e ∙ rw (pow-add 2 (k - n - 1 + 1) n, pow-add 2 (k - n - 1) 1)
+    (sym (mul-assoc (c * 2 ^ (k - n - 1)) 2 (2 ^ n) ∙ mul-assoc c (2 ^ (k - n - 1)) (2 * 2 ^ n)
+    ∙ ap (λ (z : ℕ). c * z) (sym (mul-assoc (2 ^ (k - n - 1)) 2 (2 ^ n)))))
 
 pub low-add : (n k c x : ℕ) → n ≤ k → lowBits n (c * 2 ^ k + x) ≡ lowBits n x
 unfolding lowBits

@@ -17,7 +17,14 @@ value-append a (x ∷ xs) ys = value-append (a * 2 + x) xs ys
 -- the middle of three parts
 cut-out : (x m z : List ℕ) → value 0 m < 2 ^ length m → value 0 z < 2 ^ length z → value 0 (x ++ (m ++ z)) / 2 ^ length z % 2 ^ length m ≡ value 0 m
 cut-out x m z hm hz =
-    rw (value-append 0 x (m ++ z), value-append (value 0 x) m z, value-add (value (value 0 x) m) z, high (value (value 0 x) m) (length z) hz, value-add (value 0 x) m, low (value 0 x) (length m) hm)
+    rw (
+      value-append 0 x (m ++ z),
+      value-append (value 0 x) m z,
+      value-add (value (value 0 x) m) z,
+      high (value (value 0 x) m) (length z) hz,
+      value-add (value 0 x) m,
+      low (value 0 x) (length m) hm,
+    )
 
 -- the bits of the byte i
 byte-bits : (s : List ℕ) (i : ℕ) → i < length s → take 8 (drop (8 * i) (bitsOf s)) ≡ lowBits 8 (getD s i 0)
@@ -44,13 +51,27 @@ unfolding window
 window-more s f k b h l e =
     let z : 8 * (k + 1) ≡ 8 * k + 8 = omega arith in
     let y : 8 * f + 8 * k ≡ 8 * (f + k) = omega arith in
-    sym (rw (z, take-add (8 * k) 8 (drop (8 * f) (bitsOf s)), value-append 0 (take (8 * k) (drop (8 * f) (bitsOf s))) (take 8 (drop (8 * k) (drop (8 * f) (bitsOf s)))), drop-drop (8 * k) (8 * f) (bitsOf s), y, byte-bits s (f + k) h, ← e, value-low 8 (value 0 (take (8 * k) (drop (8 * f) (bitsOf s)))) b, mod-eq-of-lt l))
+    sym (rw (
+      z,
+      take-add (8 * k) 8 (drop (8 * f) (bitsOf s)),
+      value-append 0 (take (8 * k) (drop (8 * f) (bitsOf s)))
+          (take 8 (drop (8 * k) (drop (8 * f) (bitsOf s)))),
+      drop-drop (8 * k) (8 * f) (bitsOf s),
+      y,
+      byte-bits s (f + k) h,
+      ← e,
+      value-low 8
+          (value 0 (take (8 * k) (drop (8 * f) (bitsOf s)))) b,
+      mod-eq-of-lt l,
+    ))
 
 pub window-small : (s : List ℕ) (f k m : ℕ) → f + k ≤ length s → k ≤ m → window s f k < 2 ^ (8 * m)
 unfolding window
 window-small s f k m h l =
     let n : length (take (8 * k) (drop (8 * f) (bitsOf s))) ≡ 8 * k = length-take-le (8 * k) (drop (8 * f) (bitsOf s)) (rw length-left (omega arith)) in
-    let v : value 0 (take (8 * k) (drop (8 * f) (bitsOf s))) < 2 ^ (8 * k) = rw n at (value-small (take (8 * k) (drop (8 * f) (bitsOf s))) (take-small (8 * k) (drop (8 * f) (bitsOf s)) (λ i. rw getD-drop (bit-lt s (8 * f + i))))) in
+    let v : value 0 (take (8 * k) (drop (8 * f) (bitsOf s))) < 2 ^ (8 * k) =
+    rw n at (value-small (take (8 * k) (drop (8 * f) (bitsOf s)))
+    (take-small (8 * k) (drop (8 * f) (bitsOf s)) (λ i. rw getD-drop (bit-lt s (8 * f + i))))) in
     lt-of-lt-of-le v (pow-mono (omega arith))
 
 -- n bits from the position at = 8 f + r on, out of the k bytes from f on
@@ -65,7 +86,8 @@ window-read s f k r n p h e =
     let bt : (i : ℕ) → getD t i 0 < 2 = λ i. rw getD-drop (bit-lt s (8 * f + i)) in
     let bm : (i : ℕ) → getD (drop r t) i 0 < 2 = λ i. rw getD-drop (bt (r + i)) in
     let bz : (i : ℕ) → getD (drop n (drop r t)) i 0 < 2 = λ i. rw getD-drop (bm (n + i)) in
-    let c = cut-out (take r t) (take n (drop r t)) (take p (drop n (drop r t))) (value-small (take n (drop r t)) (take-small n (drop r t) bm)) (value-small (take p (drop n (drop r t))) (take-small p (drop n (drop r t)) bz)) in
+    let c = cut-out (take r t) (take n (drop r t)) (take p (drop n (drop r t))) (value-small (take n (drop r t)) (take-small n (drop r t) bm))
+    (value-small (take p (drop n (drop r t))) (take-small p (drop n (drop r t)) bz)) in
     rw (z, take-add r (n + p) t, take-add n p (drop r t), ← drop-drop r (8 * f) (bitsOf s)) (rw (lm, lz) at c)
 
 -- what `read_bits` answers
@@ -82,7 +104,8 @@ read-window s at n v h l e =
     rw (le-leb n (length (drop at (bitsOf s))) k, e, one-shifted n (omega arith), w, z)
 
 -- four bytes at once
-pub window-four : (s : List ℕ) (f a b c d : ℕ) → f + 4 ≤ length s → (a < 256) × (b < 256) × (c < 256) × (d < 256) → a ≡ getD s f 0 → b ≡ getD s (f + 1) 0 → c ≡ getD s (f + 2) 0 → d ≡ getD s (f + 3) 0
+pub window-four : (s : List ℕ) (f a b c d : ℕ) → f + 4 ≤ length s → (a < 256) × (b < 256) × (c < 256) × (d < 256) → a ≡ getD s f 0
+    → b ≡ getD s (f + 1) 0 → c ≡ getD s (f + 2) 0 → d ≡ getD s (f + 3) 0
     → ((a * 256 + b) * 256 + c) * 256 + d ≡ window s f 4
 window-four s f a b c d h l ea eb ec ed =
     let z : f + 0 ≡ f = omega arith in
@@ -92,7 +115,8 @@ window-four s f a b c d h l ea eb ec ed =
     first : window s f 0 * 256 + a ≡ window s f 1 → a ≡ window s f 1
     first e = let n = window-none s f in omega arith
 
-pub read-four : (s : List ℕ) (at n v : ℕ) → at / 8 + 4 ≤ length s → n ≤ 21 → v ≡ window s (at / 8) 4 → Value (v / 2 ^ (32 - at % 8 - n) % ((1 * 2 ^ n) % 2 ^ 64)) ≡ readBits n (drop at (bitsOf s))
+pub read-four : (s : List ℕ) (at n v : ℕ) → at / 8 + 4 ≤ length s → n ≤ 21 → v ≡ window s (at / 8) 4
+    → Value (v / 2 ^ (32 - at % 8 - n) % ((1 * 2 ^ n) % 2 ^ 64)) ≡ readBits n (drop at (bitsOf s))
 unfolding readBits
 read-four s at n v h l e =
     let z : 8 * (at / 8) + at % 8 ≡ at = omega arith in

@@ -78,7 +78,8 @@ pub value-low : (n a v : ℕ) → value a (lowBits n v) ≡ a * 2 ^ n + v % 2 ^ 
 unfolding lowBits value
 value-low zero a v = omega (arith, mod-one v)
 value-low (suc n) a v = value-low n (a * 2 + v / 2 ^ n % 2) v ∙
-    rw (← one-add n, mod-pow-add v 1 n, one-add, pow-succ' 2 n, add-mul (a * 2) (v / 2 ^ n % 2) (2 ^ n), mul-assoc a 2 (2 ^ n)) (add-assoc (a * (2 * 2 ^ n)) ((v / 2 ^ n % 2) * 2 ^ n) (v % 2 ^ n))
+    rw (← one-add n, mod-pow-add v 1 n, one-add, pow-succ' 2 n, add-mul (a * 2) (v / 2 ^ n % 2) (2 ^ n), mul-assoc a 2 (2 ^ n))
+    (add-assoc (a * (2 * 2 ^ n)) ((v / 2 ^ n % 2) * 2 ^ n) (v % 2 ^ n))
 
 -- a number of n bits is what its bits say
 pub low-back : (n v : ℕ) → v < 2 ^ n → value 0 (lowBits n v) ≡ v

@@ -49,7 +49,8 @@ flip (suc n) k x b h l f = ⊎-elim here (λ q. there q (flip n k x b q l f)) (e
     here : k ≡ n → lowBits (suc n) (bitXor x (2 ^ k)) ≡ set (lowBits (suc n) x) (suc n - 1 - k) b
     here e =
         let z : suc n - 1 - k ≡ 0 = omega arith in
-        let o : bitXor x (2 ^ k) / 2 ^ n % 2 ≡ b = rw (← e) (xor-bit x (2 ^ k) k ∙ ap (λ (q : ℕ). bitXor (x / 2 ^ k % 2) (q % 2)) (div-self (pow-pos k)) ∙ flipped (x / 2 ^ k % 2) b (omega arith) l f) in
+        let o : bitXor x (2 ^ k) / 2 ^ n % 2 ≡ b = rw (← e) (xor-bit x (2 ^ k) k
+        ∙ ap (λ (q : ℕ). bitXor (x / 2 ^ k % 2) (q % 2)) (div-self (pow-pos k)) ∙ flipped (x / 2 ^ k % 2) b (omega arith) l f) in
         rw (z, o, stay n k x (omega arith))
 
     there : k < n → lowBits n (bitXor x (2 ^ k)) ≡ set (lowBits n x) (n - 1 - k) b → lowBits (suc n) (bitXor x (2 ^ k)) ≡ set (lowBits (suc n) x) (suc n - 1 - k) b

@@ -28,7 +28,8 @@ pub joined-cut : (bs : List Shape) (s : List ℕ) → length s ≡ totalSize bs 
 unfolding cut joined flatMap totalSize
 joined-cut [] [] e = refl
 joined-cut [] (x ∷ s) e = absurd (omega arith)
-joined-cut (b ∷ bs) s e = ap (λ (r : List ℕ). take (size b) s ++ r) (joined-cut bs (drop (size b) s) (omega (arith, length-drop (size b) s))) ∙ take-append-drop (size b) s
+joined-cut (b ∷ bs) s e = ap (λ (r : List ℕ). take (size b) s ++ r) (joined-cut bs (drop (size b) s) (omega (arith, length-drop (size b) s)))
+    ∙ take-append-drop (size b) s
 
 pub length-joined : (bs : List Shape) (ws : List (List ℕ)) → Shaped bs ws → length (joined ws) ≡ totalSize bs
 unfolding totalSize joined flatMap

@@ -17,7 +17,8 @@ unfolding everyRow
 from f zero i xs t k h = absurd (not-suc-le-zero h)
 from f (suc n) i xs t zero h = subst (λ (m : ℕ). T (f m (take 9 xs))) (sym (add-zero i)) (and-left (f i (take 9 xs)) (everyRow f n (suc i) (drop 9 xs)) t)
 from f (suc n) i xs t (suc k) h =
-    let ih : T (f (suc i + k) (take 9 (drop (9 * k) (drop 9 xs)))) = from f n (suc i) (drop 9 xs) (and-right (f i (take 9 xs)) (everyRow f n (suc i) (drop 9 xs)) t) k (le-of-suc-le-suc h) in
+    let ih : T (f (suc i + k) (take 9 (drop (9 * k) (drop 9 xs)))) =
+    from f n (suc i) (drop 9 xs) (and-right (f i (take 9 xs)) (everyRow f n (suc i) (drop 9 xs)) t) k (le-of-suc-le-suc h) in
     let n9 : 9 + 9 * k ≡ 9 * suc k = omega arith in
     let e : drop (9 * k) (drop 9 xs) ≡ drop (9 * suc k) xs = drop-drop (9 * k) 9 xs ∙ ap (λ (m : ℕ). drop m xs) n9 in
     let g : suc i + k ≡ i + suc k = omega arith in
@@ -66,7 +67,8 @@ unfolding blocks
 rows-length = refl
 
 -- a row copied number by number
-pub row-copied : (v level : ℕ) → 1 ≤ v → v ≤ 84 → level ≤ 3 → (r : List ℕ) → length r ≡ 9 → ((k : ℕ) → k < 9 → getD r k 0 ≡ getD blocks ((4 * (v - 1) + level) * 9 + k) 0) → r ≡ rowOf v level
+pub row-copied : (v level : ℕ) → 1 ≤ v → v ≤ 84 → level ≤ 3 → (r : List ℕ) → length r ≡ 9
+    → ((k : ℕ) → k < 9 → getD r k 0 ≡ getD blocks ((4 * (v - 1) + level) * 9 + k) 0) → r ≡ rowOf v level
 unfolding rowOf rowAt
 row-copied v level lo hi le r l e =
     ext-getD 0 r (take 9 (drop (9 * (4 * (v - 1) + level)) blocks))

@@ -1,4 +1,4 @@
-// SPECIFICATION 7.1 and 7.4: the block table, and the data modules of a layout (han_xin.rs: `TOTAL_CODEWORDS`, `BLOCKS`).
+// SPECIFICATION 7.1: the block table (han_xin.rs: `TOTAL_CODEWORDS`, `BLOCKS`).
 ghost use mathlib.Core.Path.{_≡_};
 ghost use Prim.Native.Nat.{ℕ, _+_, _<_, _≤_};
 ghost use lib.ListN.{length, getD};

@@ -9,7 +9,8 @@ use Rattle.block_table.specs.Blocks.{rowHolds, Shape, size, totalSize, totalDat
 use Rattle.block_table.specs.Inner.{Sound}
 use Rattle.block_table.proofs.Rows.{row-total}
 use Rattle.block_table.proofs.Cuts.{Shaped, cut-shaped, cut-joined, length-joined, data-back}
-use Rattle.blocks.specs.Blockwise.{firstRefused, countOf, blocksOf, corrected, leftOf, correctedData, withParities, streamOf, differences, blockAt, parityAt}
+use Rattle.blocks.specs.Blockwise.{firstRefused, countOf, blocksOf, corrected, leftOf, correctedData, withParities, streamOf, differences, blockAt}
+use Rattle.blocks.specs.Blockwise.{parityAt}
 use Rattle.blocks.proofs.Corrects.{block-facts, blocks-shaped, joined-size, left-behind}
 use Rattle.blocks.proofs.Rule.{cut-front}
 use Rattle.blocks.proofs.Settle.{Coded, lost-refused, each-settled, either, coded-shaped, coded-each}

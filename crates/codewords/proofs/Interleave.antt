@@ -52,14 +52,16 @@ on-step : (p k q : ℕ) → q < k → Among (p + 13 * q) (steps p k)
 unfolding steps
 on-step p zero q h = absurd (omega arith)
 on-step p (suc k) zero h = inl (omega arith)
-on-step p (suc k) (suc q) h = inr (let e : p + 13 + 13 * q ≡ p + 13 * suc q = omega arith in subst (λ (x : ℕ). Among x (steps (p + 13) k)) e (on-step (p + 13) k q (omega arith)))
+on-step p (suc k) (suc q) h =
+    inr (let e : p + 13 + 13 * q ≡ p + 13 * suc q = omega arith in subst (λ (x : ℕ). Among x (steps (p + 13) k)) e (on-step (p + 13) k q (omega arith)))
 
 on-start : (n p r j : ℕ) → p < n → r ≤ p % 13 → p % 13 < r + j → r + j ≤ 13 → Among p (starts n r j)
 unfolding starts
 on-start n p r zero h lo hi c = absurd (omega arith)
 on-start n p r (suc j) h lo hi c = elim (ℕ-discrete (p % 13) r) [
   | yes e ↦ among-left p (steps r ((n + 12 - r) / 13)) (starts n (suc r) j)
-      (let z : r + 13 * (p / 13) ≡ p = omega arith in subst (λ (x : ℕ). Among x (steps r ((n + 12 - r) / 13))) z (on-step r ((n + 12 - r) / 13) (p / 13) (omega arith)))
+      (let z : r + 13 * (p / 13) ≡ p = omega arith in subst (λ (x : ℕ). Among x (steps r ((n + 12 - r) / 13))) z
+      (on-step r ((n + 12 - r) / 13) (p / 13) (omega arith)))
   | no d ↦ among-right p (steps r ((n + 12 - r) / 13)) (starts n (suc r) j) (on-start n p (suc r) j h (omega arith) (omega arith) (omega arith))
 ]
 
@@ -114,7 +116,8 @@ agree [] cs a b p l e h (inl z) = z
 agree [] cs a b p l e h (inr x) = absurd x
 agree (q ∷ ps) [] a b p l e h o = absurd (omega arith)
 agree (q ∷ ps) (c ∷ cs) a b p l e h o =
-    agree ps cs (set a q c) (set b q c) p (omega arith) (length-set a q c ∙ e ∙ sym (length-set b q c)) (omega (arith, length-set a q c)) (elim (ℕ-discrete p q) [
+    agree ps cs (set a q c) (set b q c) p (omega arith) (length-set a q c ∙ e ∙ sym (length-set b q c)) (omega (arith, length-set a q c))
+    (elim (ℕ-discrete p q) [
       | yes z ↦ inl (at a h z ∙ sym (at b (omega arith) z))
       | no z ↦ other z o
     ])
@@ -228,7 +231,8 @@ module _ {d : Bool} {total : ℕ} {cs out₀ : List ℕ} {start : ℕ} where
     lent = length-take-le total cs (s .whole)
 
     turned : p < total → (n < length (take total cs))
-        × Moving d (take total cs) (set (take total out) (into d p n) (getD (take total cs) (outOf d p n) 0)) (from (length (take total cs)) (p + 13) start) (n + 1)
+        × Moving d (take total cs) (set (take total out) (into d p n) (getD (take total cs) (outOf d p n) 0)) (from (length (take total cs)) (p + 13) start)
+        (n + 1)
     turned h = move-more d (take total cs) (take total out) n p start (omega (arith, lent)) (s .moving)
 
     pub move-place : p < total → n < total

@@ -31,13 +31,15 @@ module _ (m : ℕ → ℕ) where
   length-placed i (suc (suc (suc k)) ∷ ks) ds = ap suc (length-placed (suc i) ks ds)
 
   -- squares that agree on the data modules have the same data bits
-  pub data-agree : (i : ℕ) (ks a b : List ℕ) → length a ≡ length b → ((p : ℕ) → p < length ks → getD ks p 0 ≡ 0 → getD a p 0 ≡ getD b p 0) → dataBits m i ks a ≡ dataBits m i ks b
+  pub data-agree : (i : ℕ) (ks a b : List ℕ) → length a ≡ length b → ((p : ℕ) → p < length ks → getD ks p 0 ≡ 0 → getD a p 0 ≡ getD b p 0)
+      → dataBits m i ks a ≡ dataBits m i ks b
   unfolding dataBits
   data-agree i [] a b e h = refl
   data-agree i (k ∷ ks) [] [] e h = refl
   data-agree i (k ∷ ks) [] (y ∷ b) e h = absurd (omega arith)
   data-agree i (k ∷ ks) (x ∷ a) [] e h = absurd (omega arith)
-  data-agree i (zero ∷ ks) (x ∷ a) (y ∷ b) e h = ap₂ _∷_ (ap (λ (z : ℕ). bitXor z (m i)) (h 0 (omega arith) refl)) (data-agree (suc i) ks a b (omega arith) (λ p l. h (suc p) (omega arith)))
+  data-agree i (zero ∷ ks) (x ∷ a) (y ∷ b) e h =
+      ap₂ _∷_ (ap (λ (z : ℕ). bitXor z (m i)) (h 0 (omega arith) refl)) (data-agree (suc i) ks a b (omega arith) (λ p l. h (suc p) (omega arith)))
   data-agree i (suc k ∷ ks) (x ∷ a) (y ∷ b) e h = data-agree (suc i) ks a b (omega arith) (λ p l. h (suc p) (omega arith))
 
   -- as many as data modules among the kinds of the square

@@ -60,7 +60,8 @@ pub stream-below : (total : ℕ) (m : ℕ → ℕ) (ks sq : List ℕ) → ((i : 
 unfolding toStream
 stream-below total m ks sq small h =
     let cs = codewordsOf total (dataBits m 0 ks sq) in
-    store-below 256 (order (length cs)) cs (replicate (length cs) 0) (codewords-below total (dataBits m 0 ks sq) (data-below m small 0 ks sq h)) (zeros-below (length cs))
+    store-below 256 (order (length cs)) cs (replicate (length cs) 0) (codewords-below total (dataBits m 0 ks sq) (data-below m small 0 ks sq h))
+    (zeros-below (length cs))
 
 -- the square of a stream has bits
 pub square-below : (m : ℕ → ℕ) (ks s : List ℕ) → ((i : ℕ) → m i < 2) → Below 2 (squareOf m ks s)

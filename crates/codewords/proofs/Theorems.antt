@@ -28,5 +28,6 @@ written-stream = back.written-stream
 pub square-bits : (m : ℕ → ℕ) (ks s : List ℕ) → ((i : ℕ) → m i < 2) → (i : ℕ) → getD (squareOf m ks s) i 0 < 2
 square-bits = small.square-below
 
-pub stream-bytes : (total : ℕ) (m : ℕ → ℕ) (ks sq : List ℕ) → ((i : ℕ) → m i < 2) → ((i : ℕ) → getD sq i 0 < 2) → (i : ℕ) → getD (streamIn total m ks sq) i 0 < 256
+pub stream-bytes : (total : ℕ) (m : ℕ → ℕ) (ks sq : List ℕ) → ((i : ℕ) → m i < 2) → ((i : ℕ) → getD sq i 0 < 2) → (i : ℕ)
+    → getD (streamIn total m ks sq) i 0 < 256
 stream-bytes = small.stream-below

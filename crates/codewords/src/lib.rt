@@ -28,7 +28,8 @@ pub fn masked(mask: usize, i: usize, j: usize) -> usize
 // Codewords from the i-th on to the stream places start, start + 13, ..; answers the next i.
 fn store_start(out: &mut [u8], codewords: &[u8], total: usize, start: usize, i: usize) -> usize
     requires { ⌜ Moves true total (now codewords) (now out) start i × (start < 13) ⌝ }
-    ensures { λ r. ⌜ Moves true total (now (codewords .entry)) (now (out .exit)) (start + 1) r × (drop total (now (out .exit)) ≡ drop total (now (out .entry))) ⌝ }
+    ensures { λ r. ⌜ Moves true total (now (codewords .entry)) (now (out .exit)) (start + 1) r
+        × (drop total (now (out .exit)) ≡ drop total (now (out .entry))) ⌝ }
 {
     let mut n = i;
     let mut p = start;
@@ -56,7 +57,8 @@ pub fn to_stream(out: &mut [u8], codewords: &[u8], total: usize)
 // Codewords from the i-th on out of the stream places start, start + 13, ..; answers the next i.
 fn collect_start(out: &mut [u8], stream: &[u8], total: usize, start: usize, i: usize) -> usize
     requires { ⌜ Moves false total (now stream) (now out) start i × (start < 13) ⌝ }
-    ensures { λ r. ⌜ Moves false total (now (stream .entry)) (now (out .exit)) (start + 1) r × (drop total (now (out .exit)) ≡ drop total (now (out .entry))) ⌝ }
+    ensures { λ r. ⌜ Moves false total (now (stream .entry)) (now (out .exit)) (start + 1) r
+        × (drop total (now (out .exit)) ≡ drop total (now (out .entry))) ⌝ }
 {
     let mut n = i;
     let mut p = start;

@@ -83,7 +83,8 @@ pub extern "C" fn hx_info_bits(version: usize, level: usize, mask: usize) -> Bit
 }
 
 fn nearest(a: NearestInfo) -> Near
-    ensures { λ r. ⌜ (r .number ≡ nearestAnswer a .number) × (r .level ≡ nearestAnswer a .level) × (r .mask ≡ nearestAnswer a .mask) × (r .distance ≡ nearestAnswer a .distance) ⌝ }
+    ensures { λ r. ⌜ (r .number ≡ nearestAnswer a .number) × (r .level ≡ nearestAnswer a .level) × (r .mask ≡ nearestAnswer a .mask)
+        × (r .distance ≡ nearestAnswer a .distance) ⌝ }
 {
     match a {
         NearestInfo::Nearest {
@@ -107,7 +108,8 @@ fn nearest(a: NearestInfo) -> Near
 
 #[no_mangle]
 pub extern "C" fn hx_nearest_info(version: usize, first: u64, second: u64) -> Near
-    ensures { λ r. ⌜ (r .number ≡ nearestOf version first second .number) × (r .level ≡ nearestOf version first second .level) × (r .mask ≡ nearestOf version first second .mask) × (r .distance ≡ nearestOf version first second .distance) ⌝ }
+    ensures { λ r. ⌜ (r .number ≡ nearestOf version first second .number) × (r .level ≡ nearestOf version first second .level)
+        × (r .mask ≡ nearestOf version first second .mask) × (r .distance ≡ nearestOf version first second .distance) ⌝ }
 {
     nearest(information::nearest_info(version, first, second))
 }

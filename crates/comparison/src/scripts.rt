@@ -20,7 +20,8 @@ pub extern "C" fn hx_from_data(
     payload: &mut [u8],
     script: &mut [u8],
 ) -> DataAnswer
-    ensures { λ r. ⌜ DataSays (fromData (now (codewords .entry)) (now (payload .entry)) (now (script .entry))) (r .number) (r .payload) (r .script) (now (payload .exit)) (now (script .exit)) ⌝ }
+    ensures { λ r. ⌜ DataSays (fromData (now (codewords .entry)) (now (payload .entry)) (now (script .entry))) (r .number) (r .payload) (r .script)
+        (now (payload .exit)) (now (script .exit)) ⌝ }
 {
     let answer = parse::from_data(codewords, payload, script);
     match answer {

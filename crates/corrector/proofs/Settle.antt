@@ -44,7 +44,8 @@ distance-self [] = refl
 distance-self (x ∷ xs) = flag-same x (distance xs xs) ∙ distance-self xs
 
 -- a codeword is its own
-pub zero-settled : (poly : ℕ) → Passes poly → (first parity : ℕ) (w : List ℕ) → length w ≤ 255 → Bytes w → ((j : ℕ) → j < parity → eval poly (power poly (first + j)) w ≡ 0)
+pub zero-settled : (poly : ℕ) → Passes poly → (first parity : ℕ) (w : List ℕ) → length w ≤ 255 → Bytes w
+    → ((j : ℕ) → j < parity → eval poly (power poly (first + j)) w ≡ 0)
     → record { number = 0; count = 0; block = w } ≡ settled w (nearest poly first parity w)
 unfolding settled
 zero-settled poly P first parity w small bw z =

@@ -10,29 +10,37 @@ use Rattle.drawing.specs.Puts.{patternOf, getD₀, Drawn, Placing, Blank
 use Rattle.codewords.proofs.Placement.{length-placed}
 use Rattle.placement.proofs.Rows.{part, part-front, part-length, part-at, row-next, Agree, agree-first, agree-later}
 
-next : (m : ℕ → ℕ) (i : ℕ) (us vs ds : List ℕ) → placed m (suc i) (us ++ vs) ds ≡ placed m (suc i) us ds ++ placed m (suc i + length us) vs (drop (dataModules us) ds)
+next : (m : ℕ → ℕ) (i : ℕ) (us vs ds : List ℕ)
+    → placed m (suc i) (us ++ vs) ds ≡ placed m (suc i) us ds ++ placed m (suc i + length us) vs (drop (dataModules us) ds)
     → placed m (suc i) (us ++ vs) ds ≡ placed m (suc i) us ds ++ placed m (i + suc (length us)) vs (drop (dataModules us) ds)
-next m i us vs ds h = let e : suc i + length us ≡ i + suc (length us) = omega arith in h ∙ ap (λ (j : ℕ). placed m (suc i) us ds ++ placed m j vs (drop (dataModules us) ds)) e
+next m i us vs ds h =
+    let e : suc i + length us ≡ i + suc (length us) = omega arith in h ∙ ap (λ (j : ℕ). placed m (suc i) us ds ++ placed m j vs (drop (dataModules us) ds)) e
 
 -- a row, then the others with the bits that are left
 placed-append : (m : ℕ → ℕ) (i : ℕ) (us vs ds : List ℕ) → placed m i (us ++ vs) ds ≡ placed m i us ds ++ placed m (i + length us) vs (drop (dataModules us) ds)
 unfolding placed dataModules
 placed-append m i [] vs ds = let e : i ≡ i + 0 = omega arith in ap (λ (j : ℕ). placed m j vs ds) e
-placed-append m i (zero ∷ us) vs [] = ap (λ (l : List ℕ). 0 ∷ l) (next m i us vs [] (placed-append m (suc i) us vs []) ∙ ap (λ (l : List ℕ). placed m (suc i) us [] ++ placed m (i + suc (length us)) vs l) (drop-nil (dataModules us)))
+placed-append m i (zero ∷ us) vs [] =
+    ap (λ (l : List ℕ). 0 ∷ l)
+    (next m i us vs [] (placed-append m (suc i) us vs []) ∙ ap (λ (l : List ℕ). placed m (suc i) us [] ++ placed m (i + suc (length us)) vs l)
+    (drop-nil (dataModules us)))
 placed-append m i (zero ∷ us) vs (d ∷ ds) = ap (λ (l : List ℕ). bitXor d (m i) ∷ l) (next m i us vs ds (placed-append m (suc i) us vs ds))
 placed-append m i (suc zero ∷ us) vs ds = ap (λ (l : List ℕ). 0 ∷ l) (next m i us vs ds (placed-append m (suc i) us vs ds))
 placed-append m i (suc (suc zero) ∷ us) vs ds = ap (λ (l : List ℕ). 0 ∷ l) (next m i us vs ds (placed-append m (suc i) us vs ds))
-placed-append m i (suc (suc (suc k)) ∷ us) vs ds = rw (module-miss (suc (suc (suc k))) us (λ z. omega arith)) (ap (λ (l : List ℕ). 1 ∷ l) (next m i us vs ds (placed-append m (suc i) us vs ds)))
+placed-append m i (suc (suc (suc k)) ∷ us) vs ds =
+    rw (module-miss (suc (suc (suc k))) us (λ z. omega arith)) (ap (λ (l : List ℕ). 1 ∷ l) (next m i us vs ds (placed-append m (suc i) us vs ds)))
 
 -- by another mask that is the same there
 placed-masks : (m n : ℕ → ℕ) (i j : ℕ) (us ds : List ℕ) → Agree us m n i j → placed m i us ds ≡ placed n j us ds
 unfolding placed
 placed-masks m n i j [] ds h = refl
 placed-masks m n i j (zero ∷ us) [] h = ap (λ (l : List ℕ). 0 ∷ l) (placed-masks m n (suc i) (suc j) us [] (agree-later m n i j 0 us h))
-placed-masks m n i j (zero ∷ us) (d ∷ ds) h = ap₂ (λ (y : ℕ) (l : List ℕ). bitXor d y ∷ l) (agree-first m n i j us h) (placed-masks m n (suc i) (suc j) us ds (agree-later m n i j 0 us h))
+placed-masks m n i j (zero ∷ us) (d ∷ ds) h =
+    ap₂ (λ (y : ℕ) (l : List ℕ). bitXor d y ∷ l) (agree-first m n i j us h) (placed-masks m n (suc i) (suc j) us ds (agree-later m n i j 0 us h))
 placed-masks m n i j (suc zero ∷ us) ds h = ap (λ (l : List ℕ). 0 ∷ l) (placed-masks m n (suc i) (suc j) us ds (agree-later m n i j 1 us h))
 placed-masks m n i j (suc (suc zero) ∷ us) ds h = ap (λ (l : List ℕ). 0 ∷ l) (placed-masks m n (suc i) (suc j) us ds (agree-later m n i j 2 us h))
-placed-masks m n i j (suc (suc (suc k)) ∷ us) ds h = ap (λ (l : List ℕ). 1 ∷ l) (placed-masks m n (suc i) (suc j) us ds (agree-later m n i j (suc (suc (suc k))) us h))
+placed-masks m n i j (suc (suc (suc k)) ∷ us) ds h =
+    ap (λ (l : List ℕ). 1 ∷ l) (placed-masks m n (suc i) (suc j) us ds (agree-later m n i j (suc (suc (suc k))) us h))
 
 pub row-drawn : {ks sq : List ℕ} (at side : ℕ) → Drawn ks sq at → at + side ≤ length ks → Drawn (part at (at + side) ks) (part at (at + side) sq) 0
 row-drawn {ks} {sq} at side d h = record {
@@ -41,13 +49,15 @@ row-drawn {ks} {sq} at side d h = record {
       part-at at side k sq l ∙ d .is (at + k) (omega arith) (omega arith) ∙ ap patternOf (sym (part-at at side k ks l));
 }
 
-pub row-blank : {mask : ℕ} {row cw : List ℕ} (ks sq : List ℕ) (at side : ℕ) → length sq ≡ length ks → Row mask row → side ≤ 189 → at + side ≤ length ks → length cw ≤ 65535 → Blank (part at (at + side) sq) (part at (at + side) ks) row cw
+pub row-blank : {mask : ℕ} {row cw : List ℕ} (ks sq : List ℕ) (at side : ℕ) → length sq ≡ length ks → Row mask row → side ≤ 189 → at + side ≤ length ks
+    → length cw ≤ 65535 → Blank (part at (at + side) sq) (part at (at + side) ks) row cw
 row-blank {mask} ks sq at side e r s h f =
     let k : length (part at (at + side) ks) ≡ side = part-length at side ks h in
     record { side = omega arith; size = part-length at side sq (omega arith) ∙ sym k; room = r .size; masks = r .small; few = f }
 
 -- one row more: `new` stands in the place of its row, and the bits behind those of the row are left
-pub placing-row : {whole after sq sq′ ds ds′ new : List ℕ} (m : ℕ → ℕ) (ks row : List ℕ) (i side : ℕ) → Placing m ks whole after sq ds (i * side) → i * side + side ≤ length ks → ((c : ℕ) → c < side → getD row c 0 ≡ m (i * side + c))
+pub placing-row : {whole after sq sq′ ds ds′ new : List ℕ} (m : ℕ → ℕ) (ks row : List ℕ) (i side : ℕ) → Placing m ks whole after sq ds (i * side)
+    → i * side + side ≤ length ks → ((c : ℕ) → c < side → getD row c 0 ≡ m (i * side + c))
     → new ≡ placed (getD₀ row) 0 (part (i * side) (i * side + side) ks) ds → ds′ ≡ drop (dataModules (part (i * side) (i * side + side) ks)) ds
     → sq′ ≡ take (i * side) sq ++ (new ++ drop (i * side + side - i * side) (drop (i * side) sq)) → Placing m ks whole after sq′ ds′ ((i + 1) * side)
 placing-row {whole} {after} {sq} {sq′} {ds} {ds′} {new} m ks row i side p h a e f g =
@@ -59,24 +69,34 @@ placing-row {whole} {after} {sq} {sq′} {ds} {ds′} {new} m ks row i side p h 
     let same : placed m (i * side) (part (i * side) (i * side + side) ks) ds ≡ new =
     placed-masks m (getD₀ row) at 0 us ds (λ c k d. sym (a c (omega arith)) ∙ (let z : c ≡ 0 + c = omega arith in ap (getD₀ row) z)) ∙ sym e in
     let both : placed m (i * side) (drop (i * side) ks) ds ≡ new ++ placed m (i * side + side) (drop (i * side + side) ks) ds′ =
-    ap (λ (u : List ℕ). placed m at u ds) whole-row ∙ placed-append m at us vs ds ∙ ap₂ (λ (u : List ℕ) (n : ℕ). u ++ placed m (at + n) vs (drop (dataModules us) ds)) same l ∙ ap (λ (u : List ℕ). new ++ placed m (at + side) vs u) (sym f) in
+    ap (λ (u : List ℕ). placed m at u ds) whole-row ∙ placed-append m at us vs ds
+    ∙ ap₂ (λ (u : List ℕ) (n : ℕ). u ++ placed m (at + n) vs (drop (dataModules us) ds)) same l
+    ∙ ap (λ (u : List ℕ). new ++ placed m (at + side) vs u) (sym f) in
     let n : length new ≡ side = ap length (sym same) ∙ length-placed m at us ds ∙ l in
     let o : length (take (i * side) sq) ≡ i * side = length-take-le at sq (omega arith) in
     let w : length (take (i * side) sq ++ new) ≡ i * side + side = length-append (take at sq) new ∙ ap₂ _+_ o n in
     let q : sq′ ≡ take (i * side) sq ++ new ++ drop (i * side + side) sq =
-    g ∙ sym (append-assoc (take at sq) new (drop (at + side - at) (drop at sq))) ∙ ap (λ (u : List ℕ). take at sq ++ new ++ u) (drop-drop (at + side - at) at sq ∙ (let z : i * side + (i * side + side - i * side) ≡ i * side + side = omega arith in ap (λ (k : ℕ). drop k sq) z)) in
-    let front : take (i * side + side) sq′ ≡ take (i * side) sq ++ new = ap (take (at + side)) q ∙ take-at (take at sq ++ new) (drop (at + side) sq) (at + side) w in
-    let back : drop (i * side + side) sq′ ≡ drop (i * side + side) sq = ap (drop (at + side)) q ∙ drop-at (take at sq ++ new) (drop (at + side) sq) (at + side) w in
-    let size : length sq′ ≡ length sq = ap length q ∙ length-append (take at sq ++ new) (drop (at + side) sq) ∙ omega (arith, length-drop (i * side + side) sq) in
+    g ∙ sym (append-assoc (take at sq) new (drop (at + side - at) (drop at sq)))
+    ∙ ap (λ (u : List ℕ). take at sq ++ new ++ u)
+    (drop-drop (at + side - at) at sq ∙ (let z : i * side + (i * side + side - i * side) ≡ i * side + side = omega arith in ap (λ (k : ℕ). drop k sq) z)) in
+    let front : take (i * side + side) sq′ ≡ take (i * side) sq ++ new =
+    ap (take (at + side)) q ∙ take-at (take at sq ++ new) (drop (at + side) sq) (at + side) w in
+    let back : drop (i * side + side) sq′ ≡ drop (i * side + side) sq =
+    ap (drop (at + side)) q ∙ drop-at (take at sq ++ new) (drop (at + side) sq) (at + side) w in
+    let size : length sq′ ≡ length sq =
+    ap length q ∙ length-append (take at sq ++ new) (drop (at + side) sq) ∙ omega (arith, length-drop (i * side + side) sq) in
     subst (Placing m ks whole after sq′ ds′) (row-next i side) (record {
       size = size ∙ p .size;
       few = h;
-      is = ap (λ (u : List ℕ). u ++ placed m (at + side) vs ds′) front ∙ append-assoc (take at sq) new (placed m (at + side) vs ds′) ∙ ap (λ (u : List ℕ). take at sq ++ u) (sym both) ∙ p .is;
-      left = ap (drop (dataModules vs)) f ∙ drop-drop (dataModules vs) (dataModules us) ds ∙ sym (ap (λ (k : ℕ). drop k ds) (ap dataModules whole-row ∙ modules-append us vs)) ∙ p .left;
+      is = ap (λ (u : List ℕ). u ++ placed m (at + side) vs ds′) front ∙ append-assoc (take at sq) new (placed m (at + side) vs ds′)
+          ∙ ap (λ (u : List ℕ). take at sq ++ u) (sym both) ∙ p .is;
+      left = ap (drop (dataModules vs)) f ∙ drop-drop (dataModules vs) (dataModules us) ds
+          ∙ sym (ap (λ (k : ℕ). drop k ds) (ap dataModules whole-row ∙ modules-append us vs)) ∙ p .left;
       drawn = record {
         is = λ k lo hi.
             let z : i * side + side + (k - (i * side + side)) ≡ k = omega arith in
-            ap (λ (j : ℕ). getD sq′ j 0) (sym z) ∙ sym (getD-drop (at + side) sq′ (k - (at + side)) 0) ∙ ap (λ (u : List ℕ). getD u (k - (at + side)) 0) back ∙ getD-drop (at + side) sq (k - (at + side)) 0 ∙ ap (λ (j : ℕ). getD sq j 0) z
+            ap (λ (j : ℕ). getD sq′ j 0) (sym z) ∙ sym (getD-drop (at + side) sq′ (k - (at + side)) 0) ∙ ap (λ (u : List ℕ). getD u (k - (at + side)) 0) back
+            ∙ getD-drop (at + side) sq (k - (at + side)) 0 ∙ ap (λ (j : ℕ). getD sq j 0) z
             ∙ p .drawn .is k (omega arith) hi;
       };
     })

@@ -55,8 +55,10 @@ pub record Blank (sq ks row cw : List ℕ) : Type 0 where
 
 -- from one column of a row to another
 pub record Puts (ks row cw sq sq′ : List ℕ) (p q : Cursor) : Type 0 where
-  pub go : (whole after : List ℕ) → Placing (getD₀ row) ks whole after sq (drop (p .bit) (bitsOf cw)) (p .column) → Placing (getD₀ row) ks whole after sq′ (drop (q .bit) (bitsOf cw)) (q .column)
+  pub go : (whole after : List ℕ) → Placing (getD₀ row) ks whole after sq (drop (p .bit) (bitsOf cw)) (p .column)
+      → Placing (getD₀ row) ks whole after sq′ (drop (q .bit) (bitsOf cw)) (q .column)
 
 -- to the end of the row
 pub record PutsAll (ks row cw sq sq′ : List ℕ) (p : Cursor) (bit : ℕ) : Type 0 where
-  pub go : (whole after : List ℕ) → Placing (getD₀ row) ks whole after sq (drop (p .bit) (bitsOf cw)) (p .column) → (sq′ ≡ whole) × (drop bit (bitsOf cw) ≡ after)
+  pub go : (whole after : List ℕ) → Placing (getD₀ row) ks whole after sq (drop (p .bit) (bitsOf cw)) (p .column)
+      → (sq′ ≡ whole) × (drop bit (bitsOf cw) ≡ after)

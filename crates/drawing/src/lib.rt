@@ -88,7 +88,8 @@ fn put_bit(square: &mut [u8], at: usize, codewords: &[u8], bit: usize, inverted:
 // One module. `row` is the row's mask.
 fn put_one(square: &mut [u8], kinds: &[u8], row: &[u8], codewords: &[u8], p: Cursor) -> Cursor
     requires { ⌜ Blank (now square) (now kinds) (now row) (now codewords) × (p .column < length (now kinds)) ⌝ }
-    ensures { λ q. ⌜ (p .column < q .column) × (q .column ≤ length (now (kinds .entry))) × Puts (now (kinds .entry)) (now (row .entry)) (now (codewords .entry)) (now (square .entry)) (now (square .exit)) p q ⌝ }
+    ensures { λ q. ⌜ (p .column < q .column) × (q .column ≤ length (now (kinds .entry)))
+        × Puts (now (kinds .entry)) (now (row .entry)) (now (codewords .entry)) (now (square .entry)) (now (square .exit)) p q ⌝ }
 {
     let c = p.column;
     if kinds[c] == 0 {
@@ -105,7 +106,8 @@ fn put_one(square: &mut [u8], kinds: &[u8], row: &[u8], codewords: &[u8], p: Cur
 
 // Eight data modules under their mask.
 fn put_eight(square: &mut [u8], row: &[u8], codewords: &[u8], p: Cursor) -> Cursor
-    requires { ⌜ (p .column + 8 ≤ length (now square)) × (length (now square) ≤ 192) × (length (now row) ≡ 192) × ((k : ℕ) → getD (now row) k 0 < 2) × (p .bit / 8 + 1 < length (now codewords)) × (length (now codewords) ≤ 65535) ⌝ }
+    requires { ⌜ (p .column + 8 ≤ length (now square)) × (length (now square) ≤ 192) × (length (now row) ≡ 192) × ((k : ℕ) → getD (now row) k 0 < 2)
+        × (p .bit / 8 + 1 < length (now codewords)) × (length (now codewords) ≤ 65535) ⌝ }
     ensures { λ q. ⌜ PutEight (now (row .entry)) (now (codewords .entry)) (now (square .entry)) (now (square .exit)) p q ⌝ }
 {
     let c = p.column;
@@ -120,7 +122,8 @@ fn put_eight(square: &mut [u8], row: &[u8], codewords: &[u8], p: Cursor) -> Curs
 // Eight data modules, or all modules up to the next that is data, or one.
 fn put_step(square: &mut [u8], kinds: &[u8], row: &[u8], codewords: &[u8], p: Cursor) -> Cursor
     requires { ⌜ Blank (now square) (now kinds) (now row) (now codewords) × (p .column + 8 ≤ length (now kinds)) ⌝ }
-    ensures { λ q. ⌜ (p .column < q .column) × (q .column ≤ length (now (kinds .entry))) × Puts (now (kinds .entry)) (now (row .entry)) (now (codewords .entry)) (now (square .entry)) (now (square .exit)) p q ⌝ }
+    ensures { λ q. ⌜ (p .column < q .column) × (q .column ≤ length (now (kinds .entry)))
+        × Puts (now (kinds .entry)) (now (row .entry)) (now (codewords .entry)) (now (square .entry)) (now (square .exit)) p q ⌝ }
 {
     let k = placement::eight(kinds, p.column);
     if k == 0 {
@@ -153,7 +156,8 @@ fn put_last(square: &mut [u8], kinds: &[u8], row: &[u8], codewords: &[u8], first
 // One row, from a bit of the codewords on; answers the next bit.
 fn put_row(square: &mut [u8], kinds: &[u8], row: &[u8], codewords: &[u8], bit: usize) -> usize
     requires { ⌜ Blank (now square) (now kinds) (now row) (now codewords) × Drawn (now kinds) (now square) 0 ⌝ }
-    ensures { λ r. ⌜ (now (square .exit) ≡ placed (getD₀ (now (row .entry))) 0 (now (kinds .entry)) (drop bit (bitsOf (now (codewords .entry))))) × (drop r (bitsOf (now (codewords .entry))) ≡ drop (dataModules (now (kinds .entry))) (drop bit (bitsOf (now (codewords .entry))))) ⌝ }
+    ensures { λ r. ⌜ (now (square .exit) ≡ placed (getD₀ (now (row .entry))) 0 (now (kinds .entry)) (drop bit (bitsOf (now (codewords .entry)))))
+        × (drop r (bitsOf (now (codewords .entry))) ≡ drop (dataModules (now (kinds .entry))) (drop bit (bitsOf (now (codewords .entry))))) ⌝ }
 {
     let end = placement::groups_end(kinds.len());
     let mut p = Cursor { column: 0, bit };
@@ -165,7 +169,8 @@ fn put_row(square: &mut [u8], kinds: &[u8], row: &[u8], codewords: &[u8], bit: u
 
 // All rows of a square with its patterns.
 fn place_rows(square: &mut [u8], kinds: &[u8], codewords: &[u8], side: usize, mask: usize)
-    requires { ⌜ Drawn (now kinds) (now square) 0 × (length (now square) ≡ length (now kinds)) × (0 < side) × (side ≤ 189) × (length (now square) ≡ side * side) × (length (now codewords) ≤ 65535) ⌝ }
+    requires { ⌜ Drawn (now kinds) (now square) 0 × (length (now square) ≡ length (now kinds)) × (0 < side) × (side ≤ 189)
+        × (length (now square) ≡ side * side) × (length (now codewords) ≤ 65535) ⌝ }
     ensures { λ _. ⌜ now (square .exit) ≡ placed (maskBit side mask) 0 (now (kinds .entry)) (bitsOf (now (codewords .entry))) ⌝ }
 {
     let mut table = [0u16; 576];
@@ -185,7 +190,8 @@ fn place_rows(square: &mut [u8], kinds: &[u8], codewords: &[u8], side: usize, ma
 
 // A square of codewords, patterns first.
 fn place_all(square: &mut [u8], kinds: &[u8], codewords: &[u8], side: usize, mask: usize)
-    requires { ⌜ (length (now square) ≡ length (now kinds)) × (0 < side) × (side ≤ 189) × (length (now square) ≡ side * side) × (length (now codewords) ≤ 65535) ⌝ }
+    requires { ⌜ (length (now square) ≡ length (now kinds)) × (0 < side) × (side ≤ 189) × (length (now square) ≡ side * side)
+        × (length (now codewords) ≤ 65535) ⌝ }
     ensures { λ _. ⌜ now (square .exit) ≡ placed (maskBit side mask) 0 (now (kinds .entry)) (bitsOf (now (codewords .entry))) ⌝ }
 {
     draw(square, kinds);
@@ -203,7 +209,8 @@ pub fn place_codewords(
 )
     requires { ⌜ (length (now square) ≤ length (now kinds)) × (0 < side) × (side ≤ 189) × (length (now square) ≡ side * side) ⌝ }
     requires { ⌜ (total ≤ length (now codewords)) × (total ≤ 65535) ⌝ }
-    ensures { λ _. ⌜ now (square .exit) ≡ placed (maskBit side mask) 0 (take (length (now (square .entry))) (now (kinds .entry))) (bitsOf (take total (now (codewords .entry)))) ⌝ }
+    ensures { λ _. ⌜ now (square .exit) ≡ placed (maskBit side mask) 0 (take (length (now (square .entry))) (now (kinds .entry)))
+        (bitsOf (take total (now (codewords .entry)))) ⌝ }
 {
     let size = side * side;
     place_all(square, &kinds[..size], &codewords[..total], side, mask);

@@ -29,7 +29,8 @@ module _ {w : ℕ} {s : List ℕ} {i : ℕ} {ws t : List ℕ} {a : ℕ} where
   pub word-room : {u : ℕ} {us : List ℕ} (m : ℕ) → Doing w s i ws t a (u ∷ us) → i + w * length ws ≤ m → a + w ≤ m
   word-room {u} {us} m d h = let k : a + (w * length us + w) ≡ i + w * length ws = rw mul-suc at (d .place) in omega arith
 
-  pub word-done : {u : ℕ} {us : List ℕ} {t′ : List ℕ} {r : ℕ} → Doing w s i ws t a (u ∷ us) → Written t a (lowBits w u) r t′ → Doing w s i ws t′ r us
+  pub word-done : {u : ℕ} {us : List ℕ} {t′ : List ℕ} {r : ℕ} → Doing w s i ws t a (u ∷ us) → Written t a (lowBits w u) r t′
+      → Doing w s i ws t′ r us
   unfolding wordBits flatMap
   word-done {u} {us} {t′} {r} d q =
       let k : a + (w * length us + w) ≡ i + w * length ws = rw mul-suc at (d .place) in
@@ -43,14 +44,17 @@ module _ {w : ℕ} {s : List ℕ} {i : ℕ} {ws t : List ℕ} {a : ℕ} where
   pub two-room : {u v : ℕ} {us : List ℕ} (m : ℕ) → Doing w s i ws t a (u ∷ v ∷ us) → i + w * length ws ≤ m → a + (w + w) ≤ m
   two-room {u} {v} {us} m d h = let k : a + (w * length us + w + w) ≡ i + w * length ws = rw (mul-suc, mul-suc) at (d .place) in omega arith
 
-  pub two-done : {u v : ℕ} {us : List ℕ} {t′ : List ℕ} {r : ℕ} → Doing w s i ws t a (u ∷ v ∷ us) → Written t a (lowBits w u ++ lowBits w v) r t′ → Doing w s i ws t′ r us
+  pub two-done : {u v : ℕ} {us : List ℕ} {t′ : List ℕ} {r : ℕ} → Doing w s i ws t a (u ∷ v ∷ us)
+      → Written t a (lowBits w u ++ lowBits w v) r t′ → Doing w s i ws t′ r us
   unfolding wordBits flatMap
   two-done {u} {v} {us} {t′} {r} d q =
       let k : a + (w * length us + w + w) ≡ i + w * length ws = rw (mul-suc, mul-suc) at (d .place) in
       let b : r ≡ a + (w + w) = q .behind ∙ rw (length-append, length-low, length-low) in
       record {
         place = rw b (omega arith);
-        bits = rw (q .bits) (append-assoc (take a (bitsOf t)) (lowBits w u ++ lowBits w v) (wordBits w us) ∙ rw (append-assoc (lowBits w u) (lowBits w v) (wordBits w us)) (d .bits));
+        bits =
+            rw (q .bits)
+            (append-assoc (take a (bitsOf t)) (lowBits w u ++ lowBits w v) (wordBits w us) ∙ rw (append-assoc (lowBits w u) (lowBits w v) (wordBits w us)) (d .bits));
       }
 
   pub all-done : Doing w s i ws t a [] → Written s i (wordBits w ws) a t
@@ -70,10 +74,12 @@ two-words m k x y =
     ∙ rw (high x k (mod-lt y (pow-pos k)), low-add k k x (y % 2 ^ k) (omega arith), ← low-add k k (y / 2 ^ k) (y % 2 ^ k) (omega arith), split y k)
 
 -- what was left is written too
-pub doing-rest : {w : ℕ} {s : List ℕ} {i : ℕ} {ws t : List ℕ} {a : ℕ} {us u : List ℕ} {r : ℕ} → Doing w s i ws t a us → Written t a (wordBits w us) r u → Written s i (wordBits w ws) r u
+pub doing-rest : {w : ℕ} {s : List ℕ} {i : ℕ} {ws t : List ℕ} {a : ℕ} {us u : List ℕ} {r : ℕ} → Doing w s i ws t a us
+    → Written t a (wordBits w us) r u → Written s i (wordBits w ws) r u
 doing-rest d q = record { behind = q .behind ∙ rw (length-words, length-words) (d .place); bits = q .bits ∙ d .bits }
 
-pub doing-as : {w : ℕ} {s : List ℕ} {i : ℕ} {ws t : List ℕ} {a : ℕ} {us vs : List ℕ} → us ≡ vs → Doing w s i ws t a us → Doing w s i ws t a vs
+pub doing-as : {w : ℕ} {s : List ℕ} {i : ℕ} {ws t : List ℕ} {a : ℕ} {us vs : List ℕ} → us ≡ vs → Doing w s i ws t a us
+    → Doing w s i ws t a vs
 doing-as e d = rw e at d
 
 -- ---- digits
@@ -86,7 +92,8 @@ three-digits run j h =
     let e3 : j + 3 ≡ suc (suc (suc j)) = omega arith in
     rw (e1, e2, e3, drop-cons run j 0 (omega arith), drop-cons run (suc j) 0 (omega arith), drop-cons run (suc (suc j)) 0 (omega arith))
 
-pub six-digits : (run : List ℕ) (j : ℕ) → j + 6 ≤ length run → numericWords (drop j run) ≡ groupAt run j ∷ groupAt run (j + 3) ∷ numericWords (drop (j + 6) run)
+pub six-digits : (run : List ℕ) (j : ℕ) → j + 6 ≤ length run
+    → numericWords (drop j run) ≡ groupAt run j ∷ groupAt run (j + 3) ∷ numericWords (drop (j + 6) run)
 six-digits run j h =
     let e : j + 3 + 3 ≡ j + 6 = omega arith in
     three-digits run j (omega arith) ∙ rw (three-digits run (j + 3) (omega arith), e)
@@ -98,7 +105,8 @@ one-digit run j h =
     let d : drop (suc j) run ≡ [] = drop-of-length-le run l in
     rw (drop-cons run j 0 (omega arith), d)
 
-pub two-digits : (run : List ℕ) (j : ℕ) → j + 2 ≡ length run → numericWords (drop j run) ≡ ((getD run j 0 - 48) * 10 + (getD run (j + 1) 0 - 48)) ∷ 1022 ∷ []
+pub two-digits : (run : List ℕ) (j : ℕ) → j + 2 ≡ length run
+    → numericWords (drop j run) ≡ ((getD run j 0 - 48) * 10 + (getD run (j + 1) 0 - 48)) ∷ 1022 ∷ []
 unfolding numericWords
 two-digits run j h =
     let e1 : j + 1 ≡ suc j = omega arith in
@@ -135,12 +143,22 @@ module _ (run : List ℕ) (mode : ℕ) (f : Bool) (j : ℕ) {by w : ℕ} {s : Li
   pub same-words : {v : ℕ} → r ≡ Same v → Behind run mode (j + by) w s i ws t a (v ∷ []) f
   same-words {v} e =
       let g : CharacterIs mode f (drop j run) (Same v) = subst (λ (z : Character). CharacterIs mode f (drop j run) z) e h in
-      record { room = room-behind run j by (stepOf mode) l b (g .2); have = rw b (rw drop-drop at (sym (g .1) ∙ k)); doing = rw b (rw (g .0, drop-drop) at d) }
+      record {
+        room =
+            room-behind run j by (stepOf mode) l b (g .2);
+        have = rw b (rw drop-drop at (sym (g .1) ∙ k));
+        doing = rw b (rw (g .0, drop-drop) at d);
+      }
 
   pub other-words : {v : ℕ} → r ≡ Other v → Behind run mode (j + by) w s i ws t a (switchOf mode ∷ v ∷ []) (not f)
   other-words {v} e =
       let g : CharacterIs mode f (drop j run) (Other v) = subst (λ (z : Character). CharacterIs mode f (drop j run) z) e h in
-      record { room = room-behind run j by (stepOf mode) l b (g .2); have = rw b (rw drop-drop at (sym (g .1) ∙ k)); doing = rw b (rw (g .0, drop-drop) at d) }
+      record {
+        room =
+            room-behind run j by (stepOf mode) l b (g .2);
+        have = rw b (rw drop-drop at (sym (g .1) ∙ k));
+        doing = rw b (rw (g .0, drop-drop) at d);
+      }
 
 pub never-lacking : {A : Type 0} (run : List ℕ) (mode : ℕ) (f : Bool) (j : ℕ) {r : Character} → CharacterIs mode f (drop j run) r
     → hasAll mode (drop j run) ≡ true → r ≡ Lacking → A

@@ -60,7 +60,8 @@ size-positive mode = go (eqb mode 7)
     go true = omega arith
     go false = omega arith
 
-module _ {s p : List ℕ} {n : ℕ} {t : List ℕ} {i j a : ℕ} {c : Command} (h : i < length s) (e : c ≡ commandAt (drop i s)) (d : Left s p n t i j a) where
+module _ {s p : List ℕ} {n : ℕ} {t : List ℕ} {i j a : ℕ} {c : Command} (h : i < length s) (e : c ≡ commandAt (drop i s))
+    (d : Left s p n t i j a) where
   -- what is left, with one turn to come
   here : commands (suc (d .fuel - 1)) (drop i s) (drop j p) ≡ some (d .rest)
   here =
@@ -82,11 +83,11 @@ module _ {s p : List ℕ} {n : ℕ} {t : List ℕ} {i j a : ℕ} {c : Command} (
         command = k;
         taken = m;
         mode-has = both-have .0;
-        room = omega (arith, d .room);
+        room = omega arith;
         done =
             λ w. record {
               fuel = d .fuel - 1;
-              enough = omega (arith, d .enough);
+              enough = omega arith;
               whole = d .whole;
               rest = hs;
               are = d .are;
@@ -102,7 +103,8 @@ module _ {s p : List ℕ} {n : ℕ} {t : List ℕ} {i j a : ℕ} {c : Command} (
   never-wrong q = let k : none ≡ some (d .rest) = sym (at-wrong s p i j h c e (d .fuel - 1) q) ∙ here in never cc
 
   module _ (b : (k : ℕ) → getD s k 0 < 256) where
-    pub run-next : {mode m : ℕ} → c ≡ Run mode m → (1 ≤ mode) × (mode ≤ 7) × Next s p n t i j a (run mode (take m (drop j p))) (commandSize mode) m
+    pub run-next : {mode m : ℕ} → c ≡ Run mode m
+        → (1 ≤ mode) × (mode ≤ 7) × Next s p n t i j a (run mode (take m (drop j p))) (commandSize mode) m
     run-next {mode} {m} q = (bounds .0, bounds .1, go (ltb (length p - j) m) refl)
       where
         bounds : (1 ≤ mode) × (mode ≤ 7) × (m < 65536) × (i + commandSize mode ≤ length s)
@@ -136,7 +138,7 @@ module _ {s p : List ℕ} {n : ℕ} {t : List ℕ} {i j a : ℕ} (h : length s �
       go false k = never cc
 
   nothing : d .rest ≡ []
-  nothing = last (d .fuel) (omega (arith, d .enough)) (d .left)
+  nothing = last (d .fuel) (omega arith) (d .left)
 
   place-is : a ≡ length (encodings (d .whole))
   unfolding encodings flatMap
@@ -146,7 +148,8 @@ module _ {s p : List ℕ} {n : ℕ} {t : List ℕ} {i j a : ℕ} (h : length s �
   end-room = let l = place-is in let m = d .room in omega arith
 
   -- zeros behind
-  pub ended : (u : List ℕ) → ((k : ℕ) → getD u k 0 < 256) → bitsOf u ≡ take a (bitsOf t) ++ replicate (8 * n - a) 0 → u ≡ scriptData n (commandsOf s p)
+  pub ended : (u : List ℕ) → ((k : ℕ) → getD u k 0 < 256) → bitsOf u ≡ take a (bitsOf t) ++ replicate (8 * n - a) 0
+      → u ≡ scriptData n (commandsOf s p)
   unfolding encodings flatMap
   ended u b e =
       let q : take a (bitsOf t) ≡ encodings (d .whole) = rw (nothing, append-nil) at (d .bits) in

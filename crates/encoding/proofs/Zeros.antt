@@ -16,10 +16,12 @@ pub clear-more : (s : List ℕ) (f i : ℕ) → f ≤ i → i < length s → set
 unfolding cleared
 clear-more s f i l h =
     let x : List ℕ = take f s ++ replicate (i - f) 0 in
-    let n : length x ≡ i = length-append (take f s) (replicate (i - f) 0) ∙ rw (length-take-le f s (omega arith), length-replicate {A = ℕ} (i - f) 0) (omega arith) in
+    let n : length x ≡ i = length-append (take f s) (replicate (i - f) 0) ∙ rw (length-take-le f s (omega arith), length-replicate {A = ℕ} (i - f) 0)
+    (omega arith) in
     let m : i + 1 - f ≡ i - f + 1 = omega arith in
     rw (drop-cons s i 0 h, m, ← replicate-append-replicate {A = ℕ} (i - f) 1 0, add-one)
-    (set-at x (getD s i 0) (drop (suc i) s) 0 i n ∙ sym (ap (λ (l : List ℕ). l ++ drop (suc i) s) (sym (append-assoc (take f s) (replicate (i - f) 0) (0 ∷ []))) ∙ append-snoc x 0 (drop (suc i) s)))
+    (set-at x (getD s i 0) (drop (suc i) s) 0 i n ∙ sym (ap (λ (l : List ℕ). l ++ drop (suc i) s)
+    (sym (append-assoc (take f s) (replicate (i - f) 0) (0 ∷ []))) ∙ append-snoc x 0 (drop (suc i) s)))
 
 pub clear-end : (s : List ℕ) (f i : ℕ) → i ≡ length s → cleared s f i ≡ take f s ++ replicate (length s - f) 0
 unfolding cleared
@@ -53,11 +55,24 @@ zero-bits (suc n) =
     rw (e, zero-bits n)
 
 -- what `pad` leaves: zeros up to the end of a byte, then bytes of zeros
-pub padded : (s t u : List ℕ) (at : ℕ) → length t ≡ length s → at ≤ 8 * length s → take (at + (8 - at % 8) % 8) (bitsOf t) ≡ take at (bitsOf s) ++ lowBits ((8 - at % 8) % 8) 0
+pub padded : (s t u : List ℕ) (at : ℕ) → length t ≡ length s → at ≤ 8 * length s
+    → take (at + (8 - at % 8) % 8) (bitsOf t) ≡ take at (bitsOf s) ++ lowBits ((8 - at % 8) % 8) 0
     → u ≡ take ((at + 7) / 8) t ++ replicate (length t - (at + 7) / 8) 0 → bitsOf u ≡ take at (bitsOf s) ++ replicate (8 * length s - at) 0
 padded s t u at l h e f =
     let k : ℕ = (8 - at % 8) % 8 in
     let b : ℕ = (at + 7) / 8 in
     let z : 8 * b ≡ at + k = omega arith in
     let m : k + 8 * (length t - b) ≡ 8 * length s - at = omega arith in
-    rw (f, bits-append (take b t) (replicate (length t - b) 0), bits-take t b, zero-bits (length t - b), z, e, zero-low k, append-assoc (take at (bitsOf s)) (replicate k 0) (replicate (8 * (length t - b)) 0), replicate-append-replicate {A = ℕ} k (8 * (length t - b)) 0, m)
+    rw (
+      f,
+      bits-append (take b t) (replicate (length t - b) 0),
+      bits-take t b,
+      zero-bits (length t - b),
+      z,
+      e,
+      zero-low k,
+      append-assoc (take at (bitsOf s)) (replicate k 0) (replicate (8 * (length t - b)) 0),
+      replicate-append-replicate {A =
+          ℕ} k (8 * (length t - b)) 0,
+      m,
+    )

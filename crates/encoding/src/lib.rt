@@ -43,7 +43,8 @@ fn end_word(mode: usize) -> usize
 
 // The characters of a run in modes 2, 4, 5 and 6, and the end.
 fn write_chars(buf: &mut [u8], from: usize, mode: usize, run: &[u8]) -> usize
-    requires { ⌜ (length (now buf) ≤ 4096) × (hasAll mode (now run) ≡ true) × (from + widthOf mode * length (wordsOf mode (beginsIn mode) (now run)) ≤ 8 * length (now buf)) ⌝ }
+    requires { ⌜ (length (now buf) ≤ 4096) × (hasAll mode (now run) ≡ true)
+        × (from + widthOf mode * length (wordsOf mode (beginsIn mode) (now run)) ≤ 8 * length (now buf)) ⌝ }
     ensures { λ r. ⌜ Written (now (buf .entry)) from (wordBits (widthOf mode) (wordsOf mode (beginsIn mode) (now (run .entry)))) r (now (buf .exit)) ⌝ }
 {
     let by = script::step(mode);
@@ -91,7 +92,8 @@ fn group(run: &[u8], j: usize) -> usize
 // The digits of a run, as far as there are six, with two groups of three in one word: fewer words wait for each other.
 fn write_sixes(buf: &mut [u8], from: usize, run: &[u8]) -> usize
     requires { ⌜ (length (now buf) ≤ 4096) × (from + 10 * length (numericWords (now run)) ≤ 8 * length (now buf)) ⌝ }
-    ensures { λ r. ⌜ Doing 10 (now (buf .entry)) from (numericWords (now (run .entry))) (now (buf .exit)) r (numericWords (drop (length (now (run .entry)) / 6 * 6) (now (run .entry)))) ⌝ }
+    ensures { λ r. ⌜ Doing 10 (now (buf .entry)) from (numericWords (now (run .entry))) (now (buf .exit)) r
+        (numericWords (drop (length (now (run .entry)) / 6 * 6) (now (run .entry)))) ⌝ }
 {
     let mut at = from;
     let mut j: usize = 0;
@@ -153,7 +155,8 @@ fn write_bytes(buf: &mut [u8], from: usize, run: &[u8]) -> usize
 
 // A segment of modes 1 to 7: four bits of mode, then its run.
 fn write_run(buf: &mut [u8], from: usize, mode: usize, chars: &[u8]) -> usize
-    requires { ⌜ (length (now buf) ≤ 4096) × (1 ≤ mode) × (mode ≤ 7) × (modeHas mode (now chars) ≡ true) × (from + length (encodingOf (run mode (now chars))) ≤ 8 * length (now buf)) ⌝ }
+    requires { ⌜ (length (now buf) ≤ 4096) × (1 ≤ mode) × (mode ≤ 7) × (modeHas mode (now chars) ≡ true)
+        × (from + length (encodingOf (run mode (now chars))) ≤ 8 * length (now buf)) ⌝ }
     ensures { λ r. ⌜ Written (now (buf .entry)) from (encodingOf (run mode (now (chars .entry)))) r (now (buf .exit)) ⌝ }
 {
     let at = put(buf, from, 4, mode);

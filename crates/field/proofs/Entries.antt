@@ -4,7 +4,8 @@ use Rattle.general.proofs.Names.{decLt, T, bitXor, xor-block, xor-zero-l, xor-s
 use Rattle.general.proofs.Names.{List·getD-append, getD-append-add, getD-append-seam}
 use Rattle.field.specs.Field.{raised, timesAlpha, power, powers, log, times, mul, orderTest}
 use Rattle.field.specs.Table.{each, logEntry, tableOf, polyOf, Field}
-use Rattle.field.proofs.Field.{Passes, passes, powers-length, powers-at, power-lt, power-log, mul-power, mul-comm, mul-assoc, mul-inverse, mul-one, times-zero}
+use Rattle.field.proofs.Field.{Passes, passes, powers-length, powers-at, power-lt, power-log, mul-power, mul-comm, mul-assoc, mul-inverse}
+use Rattle.field.proofs.Field.{mul-one, times-zero}
 
 pub each-length : (n : ℕ) (f : ℕ → ℕ) → length (each n f) ≡ n
 unfolding each

@@ -13,7 +13,8 @@ T-and false b t = absurd t
 pub below-at : (n : ℕ) (f : ℕ → Bool) → T (below n f) → (k : ℕ) → k < n → T (f k)
 unfolding below
 below-at zero f t k h = absurd (omega arith)
-below-at (suc n) f t k h = elim (eq-or-lt-of-le (le-of-suc-le-suc h)) [ inl e ↦ subst (λ (m : ℕ). T (f m)) (sym e) (T-and (f n) (below n f) t .0) | inr l ↦ below-at n f (T-and (f n) (below n f) t .1) k l ]
+below-at (suc n) f t k h = elim (eq-or-lt-of-le (le-of-suc-le-suc h))
+    [ inl e ↦ subst (λ (m : ℕ). T (f m)) (sym e) (T-and (f n) (below n f) t .0) | inr l ↦ below-at n f (T-and (f n) (below n f) t .1) k l ]
 
 -- what the test says
 pub record Passes (poly : ℕ) : Type 0 where
@@ -172,7 +173,8 @@ module _ (poly : ℕ) (P : Passes poly) where
   raised-sum : (i a b : ℕ) → a < 256 → b < 256 → raised poly i (bitXor a b) ≡ bitXor (raised poly i a) (raised poly i b)
   unfolding raised
   raised-sum zero a b ha hb = refl
-  raised-sum (suc i) a b ha hb = ap (timesAlpha poly) (raised-sum i a b ha hb) ∙ timesAlpha-sum poly (raised poly i a) (raised poly i b) (raised-lt i a ha) (raised-lt i b hb)
+  raised-sum (suc i) a b ha hb = ap (timesAlpha poly) (raised-sum i a b ha hb)
+      ∙ timesAlpha-sum poly (raised poly i a) (raised poly i b) (raised-lt i a ha) (raised-lt i b hb)
 
   -- the logarithm is one, both ways
   pub power-log : (b : ℕ) → 0 < b → b < 256 → power poly (log poly b) ≡ b
@@ -248,7 +250,8 @@ module _ (poly : ℕ) (P : Passes poly) where
   unfolding times
   times-assoc none eb ec = refl
   times-assoc {c} (a-power i) none ec = ap (λ (x : ℕ). times poly x c) (times-zero poly (power poly i)) ∙ sym (times-zero poly (power poly i))
-  times-assoc (a-power i) (a-power j) none = times-zero poly (times poly (power poly i) (power poly j)) ∙ sym (ap (times poly (power poly i)) (times-zero poly (power poly j)) ∙ times-zero poly (power poly i))
+  times-assoc (a-power i) (a-power j) none = times-zero poly (times poly (power poly i) (power poly j))
+      ∙ sym (ap (times poly (power poly i)) (times-zero poly (power poly j)) ∙ times-zero poly (power poly i))
   times-assoc (a-power i) (a-power j) (a-power k) =
       ap (λ (x : ℕ). times poly x (power poly k)) (times-power i j) ∙ times-power (i + j) k
       ∙ ap (λ (n : ℕ). power poly n) (add-assoc i j k)

@@ -35,11 +35,14 @@ pub xor-odd : (a b : ℕ) → bitXor a b % 2 ≡ differ (a % 2) (b % 2)
 xor-odd a b = ap (λ (n : ℕ). n % 2) (xor-step a b) ∙ digits-mod (bitXor (a / 2) (b / 2)) (differ-lt (a % 2) (b % 2) (digit a) (digit b))
 
 pub xor-assoc : (a b c : ℕ) → bitXor (bitXor a b) c ≡ bitXor a (bitXor b c)
-xor-assoc = bin-ind (λ (n : ℕ). (b c : ℕ) → bitXor (bitXor n b) c ≡ bitXor n (bitXor b c)) (λ b c. ap (λ (x : ℕ). bitXor x c) (xor-zero-l b) ∙ sym (xor-zero-l (bitXor b c))) (λ n ih b c.
+xor-assoc =
+    bin-ind (λ (n : ℕ). (b c : ℕ) → bitXor (bitXor n b) c ≡ bitXor n (bitXor b c))
+    (λ b c. ap (λ (x : ℕ). bitXor x c) (xor-zero-l b) ∙ sym (xor-zero-l (bitXor b c))) (λ n ih b c.
     xor-step (bitXor n b) c
     ∙ ap₂ (λ (x y : ℕ). x * 2 + y)
     (ap (λ (x : ℕ). bitXor x (c / 2)) (xor-half n b) ∙ ih (b / 2) (c / 2) ∙ sym (ap (λ (x : ℕ). bitXor (n / 2) x) (xor-half b c)))
-    (ap (λ (x : ℕ). differ x (c % 2)) (xor-odd n b) ∙ differ-assoc (n % 2) (b % 2) (c % 2) (digit n) (digit b) (digit c) ∙ sym (ap (λ (x : ℕ). differ (n % 2) x) (xor-odd b c)))
+    (ap (λ (x : ℕ). differ x (c % 2)) (xor-odd n b) ∙ differ-assoc (n % 2) (b % 2) (c % 2) (digit n) (digit b) (digit c)
+    ∙ sym (ap (λ (x : ℕ). differ (n % 2) x) (xor-odd b c)))
     ∙ sym (xor-step n (bitXor b c)))
 
 differ-le : (x y : ℕ) → differ x y ≤ x + y
@@ -49,11 +52,13 @@ differ-le (suc x) (suc y) = omega (arith, differ-le x y)
 
 pub ones-xor-le : (a b : ℕ) → ones (bitXor a b) ≤ ones a + ones b
 ones-xor-le = bin-ind (λ (n : ℕ). (b : ℕ) → ones (bitXor n b) ≤ ones n + ones b) (λ b. rw (xor-zero-l) (omega arith)) (λ n ih b.
-    let e : ones (bitXor n b) ≡ differ (n % 2) (b % 2) + ones (bitXor (n / 2) (b / 2)) = ones-step (bitXor n b) ∙ ap₂ (λ (x y : ℕ). x + ones y) (xor-odd n b) (xor-half n b) in
+    let e : ones (bitXor n b) ≡ differ (n % 2) (b % 2) + ones (bitXor (n / 2) (b / 2)) =
+    ones-step (bitXor n b) ∙ ap₂ (λ (x y : ℕ). x + ones y) (xor-odd n b) (xor-half n b) in
     omega (arith, ih (b / 2), differ-le (n % 2) (b % 2), ones-step n, ones-step b))
 
 -- the distance between two words, through a third
 pub triangle : (a b c : ℕ) → ones (bitXor a c) ≤ ones (bitXor a b) + ones (bitXor b c)
 triangle a b c =
-    let e : bitXor a c ≡ bitXor (bitXor a b) (bitXor b c) = sym (xor-assoc a b (bitXor b c) ∙ ap (λ (x : ℕ). bitXor a x) (sym (xor-assoc b b c) ∙ ap (λ (x : ℕ). bitXor x c) (xor-self b) ∙ xor-zero-l c)) in
+    let e : bitXor a c ≡ bitXor (bitXor a b) (bitXor b c) =
+    sym (xor-assoc a b (bitXor b c) ∙ ap (λ (x : ℕ). bitXor a x) (sym (xor-assoc b b c) ∙ ap (λ (x : ℕ). bitXor x c) (xor-self b) ∙ xor-zero-l c)) in
     rw e (ones-xor-le (bitXor a b) (bitXor b c))

@@ -13,7 +13,8 @@ pub extern "C" fn hx_read_square(
     script: &mut [u8],
     receipt: &mut [u8],
 ) -> usize
-    ensures { λ r. ⌜ readingOf r (now (receipt .exit)) (now (payload .exit)) (now (script .exit)) ≡ readOf (now (square .entry)) side (now (payload .entry)) (now (script .entry)) (now (receipt .entry)) ⌝ }
+    ensures { λ r. ⌜ readingOf r (now (receipt .exit)) (now (payload .exit)) (now (script .exit))
+        ≡ readOf (now (square .entry)) side (now (payload .entry)) (now (script .entry)) (now (receipt .entry)) ⌝ }
 {
     reader::read_square(square, side, payload, script, receipt)
 }
@@ -29,7 +30,8 @@ pub extern "C" fn hx_read_known(
     script: &mut [u8],
     receipt: &mut [u8],
 ) -> usize
-    ensures { λ r. ⌜ readingOf r (now (receipt .exit)) (now (payload .exit)) (now (script .exit)) ≡ readKnownOf (now (square .entry)) version level mask (now (payload .entry)) (now (script .entry)) (now (receipt .entry)) ⌝ }
+    ensures { λ r. ⌜ readingOf r (now (receipt .exit)) (now (payload .exit)) (now (script .exit))
+        ≡ readKnownOf (now (square .entry)) version level mask (now (payload .entry)) (now (script .entry)) (now (receipt .entry)) ⌝ }
 {
     reader::read_known(square, version, level, mask, payload, script, receipt)
 }

@@ -4,7 +4,8 @@ use Rattle.general.proofs.Names.{arith, T, eqb, ltb, leb, eqb→eq, leb→le, l
 use Rattle.general.proofs.Names.{xor-zero-r, getD, ltb-true, ltb-false, eqb-true, eqb-false}
 use lib.Pow.{shr-lt}
 use lib.Count.{ones, onesIn, ones-step}
-use Rattle.information.specs.Information.{timesX, plusIfOdd, productFrom, gf16Mul, generatorTimes, remainder, wordOf, infoData, infoBits, wordAt, wordDistance, leastOf, nearestWord}
+use Rattle.information.specs.Information.{timesX, plusIfOdd, productFrom, gf16Mul, generatorTimes, remainder, wordOf, infoData, infoBits, wordAt}
+use Rattle.information.specs.Information.{wordDistance, leastOf, nearestWord}
 use Rattle.information.specs.Inner.{differences}
 use Rattle.general.proofs.Xor.{xor-assoc, triangle}
 use Rattle.general.proofs.Finite.{upTo, every}
@@ -28,7 +29,8 @@ generator-xor a b h g =
     let p : (16 * a + b) / 16 ≡ a = omega arith in
     let q : (16 * a + b) % 16 ≡ b = omega arith in
     let t : generatorTimes (bitXor ((16 * a + b) / 16) ((16 * a + b) % 16)) ≡ bitXor (generatorTimes ((16 * a + b) / 16)) (generatorTimes ((16 * a + b) % 16)) =
-    eqb→eq _ _ (every (λ n. eqb (generatorTimes (bitXor (n / 16) (n % 16))) (bitXor (generatorTimes (n / 16)) (generatorTimes (n % 16)))) 256 linear (16 * a + b) n) in
+    eqb→eq _ _
+    (every (λ n. eqb (generatorTimes (bitXor (n / 16) (n % 16))) (bitXor (generatorTimes (n / 16)) (generatorTimes (n % 16)))) 256 linear (16 * a + b) n) in
     rw (p, q) at t
 
 pub generator-lt : (a : ℕ) → a < 16 → generatorTimes a < 65536
@@ -36,7 +38,8 @@ generator-lt a h = ltb→lt _ _ (every (λ n. ltb (generatorTimes n) 65536) 16 s
 
 pub remainder-lt : (r n : ℕ) → r < 65536 → n < 16 → remainder r n < 65536
 unfolding remainder
-remainder-lt r n h g = xor-lt 16 (r % 4096 * 16) (generatorTimes (bitXor n (r / 4096))) (omega arith) (generator-lt (bitXor n (r / 4096)) (xor-lt 4 n (r / 4096) g (omega arith)))
+remainder-lt r n h g =
+    xor-lt 16 (r % 4096 * 16) (generatorTimes (bitXor n (r / 4096))) (omega arith) (generator-lt (bitXor n (r / 4096)) (xor-lt 4 n (r / 4096) g (omega arith)))
 
 -- what two last nibbles change in the parity
 remainder-xor : (r n k : ℕ) → r < 65536 → n < 16 → k < 16 → bitXor (remainder r n) (remainder r k) ≡ generatorTimes (bitXor n k)
@@ -83,7 +86,8 @@ module _ (v : ℕ) (hi : v ≤ 84) where
       ap₂ bitXor (word-last k h) (word-last j g)
       ∙ shift (((v + 20) * 16 + k) * 65536 + remainder begun k) (((v + 20) * 16 + j) * 65536 + remainder begun j)
       ∙ ap (λ (n : ℕ). n * 64)
-      (xor-block 16 ((v + 20) * 16 + k) ((v + 20) * 16 + j) (remainder begun k) (remainder begun j) (remainder-lt begun k begun-lt h) (remainder-lt begun j begun-lt g)
+      (xor-block 16 ((v + 20) * 16 + k) ((v + 20) * 16 + j) (remainder begun k) (remainder begun j) (remainder-lt begun k begun-lt h)
+      (remainder-lt begun j begun-lt g)
       ∙ ap₂ (λ (x y : ℕ). x * 65536 + y)
       (xor-block 4 (v + 20) (v + 20) k j h g ∙ (let z : bitXor (v + 20) (v + 20) ≡ 0 = xor-self (v + 20) in omega arith))
       (remainder-xor begun k j begun-lt h g))
@@ -138,7 +142,8 @@ module _ (d : ℕ → ℕ) where
   nearest-least zero k h = let e : k ≡ 0 = omega arith in rw e (omega arith)
   nearest-least (suc n) k h = by (ltb (d (suc n)) (d (leastOf d n))) refl (eqb k (suc n)) refl (nearest-least n k)
     where
-      by : (b : Bool) → ltb (d (suc n)) (d (leastOf d n)) ≡ b → (c : Bool) → eqb k (suc n) ≡ c → (k ≤ n → d (leastOf d n) ≤ d k) → d (cond b (suc n) (leastOf d n)) ≤ d k
+      by : (b : Bool) → ltb (d (suc n)) (d (leastOf d n)) ≡ b → (c : Bool) → eqb k (suc n) ≡ c → (k ≤ n → d (leastOf d n) ≤ d k)
+          → d (cond b (suc n) (leastOf d n)) ≤ d k
       by true e true f ih = omega (arith, ap d (eqb-true k (suc n) f))
       by true e false f ih = omega (arith, ltb-true (d (suc n)) (d (leastOf d n)) e, ih (omega (arith, eqb-false k (suc n) f)))
       by false e true f ih = omega (arith, ap d (eqb-true k (suc n) f), ltb-false (d (suc n)) (d (leastOf d n)) e)
@@ -158,7 +163,14 @@ few-flips v k a b hi h le = by (eqb (nearestWord v a b) k) refl
         let n-le : n ≤ 15 = nearest-le (wordDistance v a b) 15 in
         let far : 9 ≤ ones (bitXor (wordAt v n) (wordAt v k)) = apart v n k hi (omega arith) h (eqb-false n k e) in
         let least : wordDistance v a b n ≤ wordDistance v a b k = nearest-least (wordDistance v a b) 15 k (omega arith) in
-        absurd (omega (arith, triangle (wordAt v n) a (wordAt v k), triangle (wordAt v n) b (wordAt v k), ap ones (xor-comm a (wordAt v k)), ap ones (xor-comm b (wordAt v k))))
+        absurd (omega (
+          arith,
+          triangle (wordAt v n) a (wordAt v k),
+          triangle (wordAt v n) b (wordAt v k),
+          ap ones (xor-comm a (wordAt v k)),
+          ap ones
+              (xor-comm b (wordAt v k)),
+        ))
 
 -- a word has 34 bits
 pub word-lt : (v k : ℕ) → v ≤ 84 → k < 16 → wordAt v k < 2 ^ 34
@@ -169,7 +181,8 @@ pub word-difference : (v k : ℕ) → v ≤ 84 → k < 16 → bitXor (wordAt v 0
 word-difference v k hi h =
     let e : bitXor (wordAt v k) (wordAt v 0) ≡ (bitXor k 0 * 65536 + generatorTimes (bitXor k 0)) * 64 = words-xor v hi k 0 h (lit< tt) in
     let d : bitXor (wordAt v k) (wordAt v 0) ≡ (k * 65536 + generatorTimes k) * 64 = e ∙ ap (λ (n : ℕ). (n * 65536 + generatorTimes n) * 64) (xor-zero-r k) in
-    ap (bitXor (wordAt v 0)) (sym d ∙ xor-comm (wordAt v k) (wordAt v 0)) ∙ sym (xor-assoc (wordAt v 0) (wordAt v 0) (wordAt v k)) ∙ ap (λ (n : ℕ). bitXor n (wordAt v k)) (xor-self (wordAt v 0)) ∙ xor-zero-l (wordAt v k)
+    ap (bitXor (wordAt v 0)) (sym d ∙ xor-comm (wordAt v k) (wordAt v 0)) ∙ sym (xor-assoc (wordAt v 0) (wordAt v 0) (wordAt v k))
+    ∙ ap (λ (n : ℕ). bitXor n (wordAt v k)) (xor-self (wordAt v 0)) ∙ xor-zero-l (wordAt v k)
 
 -- the table of these differences: a test that antt computes
 differences-all : T (upTo (λ k. eqb (getD differences k 0) ((k * 65536 + generatorTimes k) * 64)) 16)

@@ -35,7 +35,8 @@ pub number-more : (f : ℕ → ℕ) (n : ℕ) {w x : ℕ} → w ≡ numberFrom f
 unfolding numberFrom
 number-more f n e d = ap₂ (λ (a b : ℕ). a * 2 + b) e d ∙ ap (numberFrom f) (sym (add-one n))
 
-pub write-more : (s : ℕ) (b : Bool) (w n : ℕ) (g₀ : List ℕ) {g : List ℕ} {i x : ℕ} → g ≡ bitsWritten s b w n g₀ → i ≡ infoPosition s b n → x ≡ bitOf w n → set g i x ≡ bitsWritten s b w (n + 1) g₀
+pub write-more : (s : ℕ) (b : Bool) (w n : ℕ) (g₀ : List ℕ) {g : List ℕ} {i x : ℕ} → g ≡ bitsWritten s b w n g₀ → i ≡ infoPosition s b n → x ≡ bitOf w n
+    → set g i x ≡ bitsWritten s b w (n + 1) g₀
 unfolding stored
 write-more s b w n g₀ {g} {i} {x} e d f =
     ap (λ (l : List ℕ). set l i x) e ∙ ap₂ (λ (j y : ℕ). set (bitsWritten s b w n g₀) j y) d f ∙ ap (λ (m : ℕ). bitsWritten s b w m g₀) (sym (add-one n))
@@ -45,7 +46,8 @@ pub by-copy : (s n i : ℕ) (b t : Bool) → b ≡ t → i ≡ infoPosition s t 
 by-copy s n i b t e d = d ∙ ap (λ (c : Bool). infoPosition s c n) (sym e)
 
 -- one arm after another, and all of them
-pub arm-next : {s : ℕ} {second : Bool} {w a b c : ℕ} {g g' g'' : List ℕ} → ArmWritten s second w a b g g' → ArmWritten s second w b c g' g'' → ArmWritten s second w a c g g''
+pub arm-next : {s : ℕ} {second : Bool} {w a b c : ℕ} {g g' g'' : List ℕ} → ArmWritten s second w a b g g' → ArmWritten s second w b c g' g''
+    → ArmWritten s second w a c g g''
 arm-next x y = record { is = λ h e. y .is h (x .is h e) }
 
 pub arms-all : {s : ℕ} {second : Bool} {w : ℕ} {g g' : List ℕ} → ArmWritten s second w 0 34 g g' → g' ≡ copyWritten s second w g

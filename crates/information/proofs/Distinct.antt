@@ -23,7 +23,8 @@ arm s n = one (ltb n 9) refl
     two true h e = north h (ltb-true n 17 e)
     two false h e = three (ltb n 26) (ltb-false n 17 e) refl
 
-    one : (b : Bool) → ltb n 9 ≡ b → Arm s n (cond b 8 (cond (ltb n 17) (16 - n) (cond (ltb n 26) (n - 17) 8))) (cond b n (cond (ltb n 17) 8 (cond (ltb n 26) (s - 9) (s - 9 + (n - 25)))))
+    one : (b : Bool) → ltb n 9 ≡ b
+        → Arm s n (cond b 8 (cond (ltb n 17) (16 - n) (cond (ltb n 26) (n - 17) 8))) (cond b n (cond (ltb n 17) 8 (cond (ltb n 26) (s - 9) (s - 9 + (n - 25)))))
     one true e = west (ltb-true n 9 e)
     one false e = two (ltb n 17) (ltb-false n 9 e) refl
 
@@ -77,7 +78,9 @@ module _ (s : ℕ) (big : 23 ≤ s) where
   firstPlace-lt n h = digits-lt (row-lt n) (column-lt n h)
 
   half : 9 * s + 9 * s ≤ s * s
-  half = subst (λ (k : ℕ). k ≤ s * s) (let e : 18 * s ≡ 9 * s + 9 * s = omega arith in e) (mul-le-mul (let e : 18 ≤ s = omega arith in e) (let e : s ≤ s = omega arith in e))
+  half =
+      subst (λ (k : ℕ). k ≤ s * s) (let e : 18 * s ≡ 9 * s + 9 * s = omega arith in e)
+      (mul-le-mul (let e : 18 ≤ s = omega arith in e) (let e : s ≤ s = omega arith in e))
 
   firstPlace-same : (n m : ℕ) → n < 34 → m < 34 → firstPlace n ≡ firstPlace m → n ≡ m
   unfolding firstPlace

@@ -30,7 +30,8 @@ without (suc zero ∷ ks) (x ∷ g) (y ∷ h) zero e a b = by (eqb x y)
 without (suc (suc k) ∷ ks) (x ∷ g) (y ∷ h) zero e a b = absurd (omega arith)
 without (k ∷ ks) (x ∷ g) (y ∷ h) (suc p) e a b =
     let ih = without ks g h p e (omega arith) (omega arith) in
-    ap (λ (m : ℕ). cond (eqb k 1 && not (eqb x y)) 1 0 + m) ih ∙ swap (cond (eqb k 1 && not (eqb x y)) 1 0) (cond (eqb (getD g p 0) (getD h p 0)) 0 1) (infoFlips (set ks p 2) g h)
+    ap (λ (m : ℕ). cond (eqb k 1 && not (eqb x y)) 1 0 + m) ih ∙ swap (cond (eqb k 1 && not (eqb x y)) 1 0) (cond (eqb (getD g p 0) (getD h p 0)) 0 1)
+    (infoFlips (set ks p 2) g h)
   where
     swap : (a b d : ℕ) → a + (b + d) ≡ b + (a + d)
     swap a b d = omega arith
@@ -63,7 +64,8 @@ module _ (v : ℕ) (lo : 1 ≤ v) (g h : List ℕ) (lg : length g ≡ sideOf v *
       let big : 23 ≤ 2 * v + 21 = omega arith in
       let ks = layoutOf v in
       let place = infoPosition (sideOf v) in
-      let first = counted (place false) 34 ks g h (info-kind v lo false) (place-same (sideOf v) big false) (lg ∙ sym (layout-length v)) (lh ∙ sym (layout-length v)) in
+      let first = counted (place false) 34 ks g h (info-kind v lo false) (place-same (sideOf v) big false) (lg ∙ sym (layout-length v))
+      (lh ∙ sym (layout-length v)) in
       let l = stored-length (place false) (λ k. 2) ks 34 ∙ layout-length v in
       let second = counted (place true) 34 (removed (place false) 34 ks) g h
       (λ k q. stored-else (place false) (λ k. 2) ks 34 (place true k) (λ j r z. place-other (sideOf v) big j k r q (sym z)) ∙ info-kind v lo true k q)
@@ -76,7 +78,8 @@ module _ (v : ℕ) (lo : 1 ≤ v) (g h : List ℕ) (lg : length g ≡ sideOf v *
     copies : (second : Bool) → ones (bitXor (copyOf (sideOf v) second g) (copyOf (sideOf v) second h)) ≡ differ second
     copies second =
         rw (copy-is (sideOf v) second g, copy-is (sideOf v) second h)
-        (distance-is (moduleOf (sideOf v) second g) (moduleOf (sideOf v) second h) (λ n. p (infoPosition (sideOf v) second n)) (λ n. q (infoPosition (sideOf v) second n)) 34)
+        (distance-is (moduleOf (sideOf v) second g) (moduleOf (sideOf v) second h) (λ n. p (infoPosition (sideOf v) second n))
+        (λ n. q (infoPosition (sideOf v) second n)) 34)
 
     pub flips-distance : wordDistance v (copyOf (sideOf v) false h) (copyOf (sideOf v) true h) k ≤ infoFlips (layoutOf v) g h
     unfolding wordDistance

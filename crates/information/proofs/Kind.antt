@@ -41,10 +41,17 @@ module _ (s : ℕ) (big : 23 ≤ s) where
   second-ring n h = go (arm s n)
     where
       go : {r c : ℕ} → Arm s n r c → ring s (s - 1 - r) (s - 1 - c) ≡ 8
-      go (west a) = ring-row (s - 1 - 8) (s - 1 - n) (far (s - 1 - 8) 8 (omega arith) (omega arith)) (omega (arith, far (s - 1 - n) n (omega arith) (omega arith)))
-      go (north a b) = ring-column (s - 1 - (16 - n)) (s - 1 - 8) (omega (arith, far (s - 1 - (16 - n)) (16 - n) (omega arith) (omega arith))) (far (s - 1 - 8) 8 (omega arith) (omega arith))
-      go (east a b) = ring-column (s - 1 - (n - 17)) (s - 1 - (s - 9)) (omega (arith, far (s - 1 - (n - 17)) (n - 17) (omega arith) (omega arith))) (let e : s - 1 - (s - 9) ≡ 8 = omega arith in rw e (near 8 (omega arith)))
-      go (south a) = ring-row (s - 1 - 8) (s - 1 - (s - 9 + (n - 25))) (far (s - 1 - 8) 8 (omega arith) (omega arith)) (let e : s - 1 - (s - 9 + (n - 25)) ≡ 33 - n = omega arith in rw e (omega (arith, near (33 - n) (omega arith))))
+      go (west a) =
+          ring-row (s - 1 - 8) (s - 1 - n) (far (s - 1 - 8) 8 (omega arith) (omega arith)) (omega (arith, far (s - 1 - n) n (omega arith) (omega arith)))
+      go (north a b) =
+          ring-column (s - 1 - (16 - n)) (s - 1 - 8) (omega (arith, far (s - 1 - (16 - n)) (16 - n) (omega arith) (omega arith)))
+          (far (s - 1 - 8) 8 (omega arith) (omega arith))
+      go (east a b) =
+          ring-column (s - 1 - (n - 17)) (s - 1 - (s - 9)) (omega (arith, far (s - 1 - (n - 17)) (n - 17) (omega arith) (omega arith)))
+          (let e : s - 1 - (s - 9) ≡ 8 = omega arith in rw e (near 8 (omega arith)))
+      go (south a) =
+          ring-row (s - 1 - 8) (s - 1 - (s - 9 + (n - 25))) (far (s - 1 - 8) 8 (omega arith) (omega arith))
+          (let e : s - 1 - (s - 9 + (n - 25)) ≡ 33 - n = omega arith in rw e (omega (arith, near (33 - n) (omega arith))))
 
   -- a place turned half round
   turned : (r c : ℕ) → r < s → c < s → s * s - 1 - (r * s + c) ≡ (s - 1 - r) * s + (s - 1 - c)

@@ -77,7 +77,8 @@ module _ (s : ℕ) (b : Bool) (w : ℕ) (g : List ℕ) where
       ∙ number-bits w h
 
 -- the second copy leaves the first
-pub round-first : (s : ℕ) (big : 23 ≤ s) (w u : ℕ) (g : List ℕ) → s * s ≤ length g → w < 2 ^ 34 → copyOf s false (copyWritten s true u (copyWritten s false w g)) ≡ w
+pub round-first : (s : ℕ) (big : 23 ≤ s) (w u : ℕ) (g : List ℕ) → s * s ≤ length g → w < 2 ^ 34
+    → copyOf s false (copyWritten s true u (copyWritten s false w g)) ≡ w
 round-first s big w u g room h =
     let first = copyWritten s false w g in
     copy-is s false (copyWritten s true u first)
@@ -102,12 +103,14 @@ differ-bits (suc zero) (suc (suc y)) a b = absurd (not-suc-le-zero (le-of-suc-le
 
 one-more : (a b x y : ℕ) → x < 2 → y < 2 → ones (bitXor (a * 2 + x) (b * 2 + y)) ≡ ones (bitXor a b) + cond (eqb x y) 0 1
 one-more a b x y p q =
-    let e : bitXor (a * 2 + x) (b * 2 + y) ≡ bitXor ((a * 2 + x) / 2) ((b * 2 + y) / 2) * 2 + differ ((a * 2 + x) % 2) ((b * 2 + y) % 2) = xor-step (a * 2 + x) (b * 2 + y) in
+    let e : bitXor (a * 2 + x) (b * 2 + y) ≡ bitXor ((a * 2 + x) / 2) ((b * 2 + y) / 2) * 2 + differ ((a * 2 + x) % 2) ((b * 2 + y) % 2) =
+    xor-step (a * 2 + x) (b * 2 + y) in
     let a1 : (a * 2 + x) / 2 ≡ a = omega arith in
     let a2 : (a * 2 + x) % 2 ≡ x = omega arith in
     let b1 : (b * 2 + y) / 2 ≡ b = omega arith in
     let b2 : (b * 2 + y) % 2 ≡ y = omega arith in
-    let f : bitXor (a * 2 + x) (b * 2 + y) ≡ bitXor a b * 2 + cond (eqb x y) 0 1 = (rw (a1, a2, b1, b2) at e) ∙ ap (λ (n : ℕ). bitXor a b * 2 + n) (differ-bits x y p q) in
+    let f : bitXor (a * 2 + x) (b * 2 + y) ≡ bitXor a b * 2 + cond (eqb x y) 0 1 =
+    (rw (a1, a2, b1, b2) at e) ∙ ap (λ (n : ℕ). bitXor a b * 2 + n) (differ-bits x y p q) in
     rw f (last (bitXor a b) (eqb x y))
   where
     last : (n : ℕ) (t : Bool) → ones (n * 2 + cond t 0 1) ≡ ones n + cond t 0 1
@@ -118,4 +121,5 @@ one-more a b x y p q =
 pub distance-is : (f h : ℕ → ℕ) → ((k : ℕ) → f k < 2) → ((k : ℕ) → h k < 2) → (n : ℕ) → ones (bitXor (numberFrom f n) (numberFrom h n)) ≡ differing f h n
 unfolding numberFrom differing ones
 distance-is f h p q zero = refl
-distance-is f h p q (suc n) = one-more (numberFrom f n) (numberFrom h n) (f n) (h n) (p n) (q n) ∙ ap (λ (m : ℕ). m + cond (eqb (f n) (h n)) 0 1) (distance-is f h p q n)
+distance-is f h p q (suc n) =
+    one-more (numberFrom f n) (numberFrom h n) (f n) (h n) (p n) (q n) ∙ ap (λ (m : ℕ). m + cond (eqb (f n) (h n)) 0 1) (distance-is f h p q n)

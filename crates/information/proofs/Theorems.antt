@@ -18,7 +18,8 @@ pub few-bits : (v k a b : ℕ) → v ≤ 84 → k < 16 → wordDistance v a b k 
 few-bits v k a b = apart.few-flips v k a b
 
 -- The 68 information places of a version are distinct ..
-pub places-distinct : (v : ℕ) → 23 ≤ sideOf v → (second : Bool) (j k : ℕ) → j < 34 → k < 34 → infoPosition (sideOf v) second j ≡ infoPosition (sideOf v) second k → j ≡ k
+pub places-distinct : (v : ℕ) → 23 ≤ sideOf v → (second : Bool) (j k : ℕ) → j < 34 → k < 34
+    → infoPosition (sideOf v) second j ≡ infoPosition (sideOf v) second k → j ≡ k
 places-distinct v = distinct.place-same (sideOf v)
 
 pub copies-distinct : (v : ℕ) → 23 ≤ sideOf v → (j k : ℕ) → j < 34 → k < 34 → infoPosition (sideOf v) false j ≡ infoPosition (sideOf v) true k → ⊥

@@ -119,6 +119,7 @@ positionColumn s n = cond (ltb n 9) n (cond (ltb n 17) 8 (cond (ltb n 26) (s - 9
 unfoldable pub infoPosition : ℕ → Bool → ℕ → ℕ
 infoPosition s second n = cond second (s * s - 1 - (positionRow n * s + positionColumn s n)) (positionRow n * s + positionColumn s n)
 
+-- the places of a copy, in order
 unfoldable pub positions : ℕ → Bool → List ℕ
 positions s second = each 34 (λ n. infoPosition s second n ∷ [])
 

@@ -10,7 +10,8 @@ use Rattle.information.specs.declared.Best.{Best}
 -- by which bits word k of a version differs from its word 0: the same for every version, since the code is linear
 unfoldable pub differences : List ℕ
 differences =
-    0x0 ∷ 0x7721C0 ∷ 0xA6CF80 ∷ 0xD1EE40 ∷ 0x1055BC0 ∷ 0x1727A00 ∷ 0x1A39440 ∷ 0x1D4B580 ∷ 0x20AB340 ∷ 0x27D9280 ∷ 0x2AC7CC0 ∷ 0x2DB5D00 ∷ 0x30FE880 ∷ 0x378C940 ∷ 0x3A92700 ∷ 0x3DE06C0 ∷ []
+    0x0 ∷ 0x7721C0 ∷ 0xA6CF80 ∷ 0xD1EE40 ∷ 0x1055BC0 ∷ 0x1727A00 ∷ 0x1A39440 ∷ 0x1D4B580 ∷ 0x20AB340 ∷ 0x27D9280 ∷ 0x2AC7CC0 ∷ 0x2DB5D00 ∷ 0x30FE880
+    ∷ 0x378C940 ∷ 0x3A92700 ∷ 0x3DE06C0 ∷ []
 
 -- the word found so far is k, at distance d k
 pub record Found (d : ℕ → ℕ) (k : ℕ) (b : Best) : Type 0 where

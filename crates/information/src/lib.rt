@@ -162,7 +162,8 @@ fn distance(word: u64, first: u64, second: u64) -> u32
 
 // The nearer one; the earlier if equal.
 fn nearer(best: Best, k: usize, distance: u32) -> Best
-    ensures { λ r. ⌜ (r .word ≡ cond (ltb distance (best .distance)) k (best .word)) × (r .distance ≡ cond (ltb distance (best .distance)) distance (best .distance)) ⌝ }
+    ensures { λ r. ⌜ (r .word ≡ cond (ltb distance (best .distance)) k (best .word))
+        × (r .distance ≡ cond (ltb distance (best .distance)) distance (best .distance)) ⌝ }
 {
     if distance < best.distance {
         return Best { word: k, distance };
@@ -260,7 +261,8 @@ fn wide8(x: u8) -> u64
 // The bits from to below to of a copy, behind those before. Called for one arm at a time: the compiler then knows the row or the column of
 // each bit and unrolls the loop.
 fn read_arm(square: &[u8], side: usize, second: bool, word: u64, from: usize, to: usize) -> u64
-    requires { ⌜ (23 ≤ side) × (side ≤ 189) × (side * side ≤ length (now square)) × ((i : ℕ) → getD (now square) i 0 < 2) × (from ≤ to) × (to ≤ 34) × (word ≡ numberFrom (moduleOf side second (now square)) from) ⌝ }
+    requires { ⌜ (23 ≤ side) × (side ≤ 189) × (side * side ≤ length (now square)) × ((i : ℕ) → getD (now square) i 0 < 2) × (from ≤ to) × (to ≤ 34)
+        × (word ≡ numberFrom (moduleOf side second (now square)) from) ⌝ }
     ensures { λ r. ⌜ r ≡ numberFrom (moduleOf side second (now (square .entry))) to ⌝ }
 {
     let mut w = word;

@@ -6,12 +6,14 @@ use Rattle.information.specs.Information.{timesX, plusIfOdd, productFrom, gf16M
 use Rattle.codewords.specs.Codewords.{steps, starts, order}
 use Rattle.bits.specs.Bits.{lowBits, wordBits, value, groups, firstWords, words}
 use Rattle.segments.specs.Script.{runCommand, payloadOf, scriptOf}
-use Rattle.segments.specs.Segments.{digits, groupsOf, numericOf, charOf, textOf, firstByte, secondByte, doubleByteOf, fourBytes, fourByteOf, bytesOfMode, segmentOf, parse}
+use Rattle.segments.specs.Segments.{digits, groupsOf, numericOf, charOf, textOf, firstByte, secondByte, doubleByteOf, fourBytes, fourByteOf}
+use Rattle.segments.specs.Segments.{bytesOfMode, segmentOf, parse}
 use Rattle.script.specs.Writer.{same}
 use Rattle.marks.specs.Edges.{payloadIn, edges, hold}
 
 pub edges-hold : T (hold edges)
 unfolding hold same edges payloadIn raised timesAlpha isSide sideRefusal sideVersion timesX plusIfOdd productFrom gf16Mul generatorTimes remainder wordOf infoData infoBits
-    steps starts order lowBits wordBits flatMap value firstWords groups words runCommand payloadOf scriptOf digits groupsOf numericOf charOf textOf firstByte secondByte doubleByteOf fourBytes fourByteOf
+    steps starts order lowBits wordBits flatMap value firstWords groups words runCommand payloadOf scriptOf digits groupsOf numericOf charOf textOf
+    firstByte secondByte doubleByteOf fourBytes fourByteOf
     bytesOfMode segmentOf parse
 edges-hold = tt

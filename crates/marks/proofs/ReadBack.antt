@@ -19,7 +19,8 @@ use Rattle.segments.specs.FromData.{fromData}
 use Rattle.script.specs.Check.{commandsOf, scriptData}
 use Rattle.script.proofs.Theorems.{encoded-data, round-trip}
 use Rattle.marks.specs.Receipt.{receiptOf}
-use Rattle.marks.specs.Read.{Reading, refused, firstRefusal, unless, areModules, levelIn, maskIn, distanceIn, streamFrom, blocksIn, readRefusal, knownRefusal, told, bodyOf, withReceipt, readOf, readKnownOf}
+use Rattle.marks.specs.Read.{Reading, refused, firstRefusal, unless, areModules, levelIn, maskIn, distanceIn, streamFrom, blocksIn}
+use Rattle.marks.specs.Read.{readRefusal, knownRefusal, told, bodyOf, withReceipt, readOf, readKnownOf}
 use Rattle.marks.specs.Write.{roomOf, markOf, writeOf}
 use Rattle.marks.specs.Promise.{blockCount, parityIn, changedAt, changed}
 use Rattle.marks.proofs.Refusals.{unless-true, first-skips, both-true, leb-fact}
@@ -113,7 +114,8 @@ module _ (v l k : ℕ) (script payload before : List ℕ) (bytes : Below 256 scr
         λ j h. subst (λ (x : List ℕ). distance (blockAt (cut bs stream) j) (blockAt (cut bs x) j) ≤ parityAt bs j / 2) mark-stream (reach j h) in
         let I = in-reach bs sound ds ds-bytes ds-length stream (stream-length v k square ∙ sym sized) near in
         let c : countOf (corrected bs stream) ≡ count = I .3 ∙ ap (λ (x : List ℕ). differences (cut bs stream) (cut bs x)) (sym mark-stream) in
-        ap (λ (b : Bool). cond b (told v l k d (countOf (corrected bs stream)) (fromData (correctedData bs stream) p s)) (refused (firstRefused (corrected bs stream)) p s)) (eq-eqb (firstRefused (corrected bs stream)) 0 (I .0))
+        ap (λ (b : Bool). cond b (told v l k d (countOf (corrected bs stream)) (fromData (correctedData bs stream) p s))
+        (refused (firstRefused (corrected bs stream)) p s)) (eq-eqb (firstRefused (corrected bs stream)) 0 (I .0))
         ∙ ap₂ (told v l k d) c
         (ap (λ (x : List ℕ). fromData x p s) (I .2) ∙ round-trip script payload (roomOf v l) p s bytes (W .fits) room-small room-p room-s)
 

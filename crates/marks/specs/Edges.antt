@@ -34,7 +34,8 @@ edges =
     -- the word of (1, 0, 0)
     ∷ one (infoBits 1 0 0) 0x5423D300
     -- "007" and "5"; 10 in one digit and no group get 7
-    ∷ reads (0x10 ∷ 0x1F ∷ 0xFF ∷ []) (0 ∷ 0x30 ∷ 0x30 ∷ 0x37 ∷ []) ∷ reads (0x10 ∷ 0x17 ∷ 0xFD ∷ []) (0 ∷ 0x35 ∷ []) ∷ reads (0x10 ∷ 0x2B ∷ 0xFD ∷ []) (7 ∷ []) ∷ reads (0x1F ∷ 0xF4 ∷ []) (7 ∷ [])
+    ∷ reads (0x10 ∷ 0x1F ∷ 0xFF ∷ []) (0 ∷ 0x30 ∷ 0x30 ∷ 0x37 ∷ []) ∷ reads (0x10 ∷ 0x17 ∷ 0xFD ∷ []) (0 ∷ 0x35 ∷ []) ∷ reads
+    (0x10 ∷ 0x2B ∷ 0xFD ∷ []) (7 ∷ []) ∷ reads (0x1F ∷ 0xF4 ∷ []) (7 ∷ [])
     -- text "a"
     ∷ reads (0x29 ∷ 0x3F ∷ []) (0 ∷ 0x61 ∷ [])
     -- with 25 codewords the 2nd goes to place 13, the last to 12

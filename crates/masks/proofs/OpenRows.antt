@@ -15,5 +15,6 @@ module _ (rows : List ℕ) where
   pub open-rows : length rows ≡ 108 → T agrees → OpenRows rows
   open-rows e t = record {
     size = e;
-    is = λ mask i c hm hi hc. eqb→eq _ _ (every (same mask i) 27 (every (λ i. upTo (same mask i) 27) 27 (every (λ mask. upTo (λ i. upTo (same mask i) 27) 27) 4 t mask (omega arith)) i hi) c hc);
+    is = λ mask i c hm hi hc. eqb→eq _ _ (every (same mask i) 27
+        (every (λ i. upTo (same mask i) 27) 27 (every (λ mask. upTo (λ i. upTo (same mask i) 27) 27) 4 t mask (omega arith)) i hi) c hc);
   }

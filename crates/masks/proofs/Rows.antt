@@ -39,7 +39,8 @@ module _ {mask n : ℕ} {table : List ℕ} (x y z : ℕ) (u : Columns mask n tab
   at-first = getD-set-same t2 n z 0 (omega (arith, two))
 
   at-second : getD t3 (192 + n) 0 ≡ x
-  at-second = getD-set-other t2 n (192 + n) z 0 (λ e. omega arith) ∙ getD-set-other t1 (384 + n) (192 + n) y 0 (λ e. omega arith) ∙ getD-set-same table (192 + n) x 0 (omega (arith, u .size))
+  at-second = getD-set-other t2 n (192 + n) z 0 (λ e. omega arith) ∙ getD-set-other t1 (384 + n) (192 + n) y 0 (λ e. omega arith)
+      ∙ getD-set-same table (192 + n) x 0 (omega (arith, u .size))
 
   at-third : getD t3 (384 + n) 0 ≡ y
   at-third = getD-set-other t2 n (384 + n) z 0 (λ e. omega arith) ∙ getD-set-same t1 (384 + n) y 0 (omega (arith, one))
@@ -127,7 +128,8 @@ pub record Filling (mask i n : ℕ) (row : List ℕ) : Type 0 where
 pub filling-start : {mask i : ℕ} {row : List ℕ} → Row mask row → Filling mask i 0 row
 filling-start r = record { row-is = r; done = λ c h. absurd (omega arith) }
 
-pub filling-next : {mask i n : ℕ} {row : List ℕ} (x : ℕ) → Filling mask i n row → 0 < mask → n < 192 → x ≡ maskAt mask (i + 1) (n + 1) → x < 2 → Filling mask i (n + 1) (set row n x)
+pub filling-next : {mask i n : ℕ} {row : List ℕ} (x : ℕ) → Filling mask i n row → 0 < mask → n < 192 → x ≡ maskAt mask (i + 1) (n + 1) → x < 2
+    → Filling mask i (n + 1) (set row n x)
 filling-next {mask} {i} {n} {row} x u p h e l =
     let same : getD (set row n x) n 0 ≡ x = getD-set-same row n x 0 (omega (arith, u .row-is .size)) in
     record {
@@ -146,7 +148,8 @@ filling-next {mask} {i} {n} {row} x u p h e l =
     }
 
 -- a bit of the row k, where that is row i too
-pub bit-copied : {mask n k c : ℕ} {table : List ℕ} (i : ℕ) → Columns mask n table → 0 < mask → mask < 3 → k < 3 → ((j : ℕ) → maskAt mask (k + 1) j ≡ maskAt mask (i + 1) j) → c < n
+pub bit-copied : {mask n k c : ℕ} {table : List ℕ} (i : ℕ) → Columns mask n table → 0 < mask → mask < 3 → k < 3
+    → ((j : ℕ) → maskAt mask (k + 1) j ≡ maskAt mask (i + 1) j) → c < n
     → (getD table (192 * k + c) 0 ≡ maskAt mask (i + 1) (c + 1)) × (getD table (192 * k + c) 0 < 2)
 bit-copied {mask} {n} {k} {c} i u p m l e h =
     let f = u .rows p m k c l h ∙ e (c + 1) in (f, omega (arith, f, mask-lt mask (i + 1) (c + 1)))
@@ -155,7 +158,11 @@ pub row-new : {mask : ℕ} → Row mask (replicate 192 0)
 row-new = record { size = length-replicate {A = ℕ} 192 0; small = λ k. omega (arith, zero-at k); none = λ z k. zero-at k }
   where
     zero-at : (k : ℕ) → _≡_ {A = ℕ} (getD (replicate 192 0) k 0) 0
-    zero-at k = elim (decLt k 192) [ yes l ↦ getD-replicate 192 k 0 0 l | no l ↦ List·getD-eq-default (replicate 192 0) 0 {n = k} (omega (arith, length-replicate {A = ℕ} 192 0)) ]
+    zero-at k = elim (decLt k 192) [
+      | yes l ↦ getD-replicate 192 k 0 0 l
+      | no l ↦ List·getD-eq-default (replicate 192 0) 0 {n = k}
+          (omega (arith, length-replicate {A = ℕ} 192 0))
+    ]
 
 -- mask 0
 pub row-none : {mask : ℕ} {row : List ℕ} (i : ℕ) → Row mask row → mask ≡ 0 → (c : ℕ) → getD row c 0 ≡ maskAt mask (i + 1) (c + 1)

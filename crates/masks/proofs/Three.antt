@@ -53,7 +53,8 @@ three-is i j pi hi pj hj = elim (decLt i 49) [
 
 -- from the columns
 pub columns-three : {table : List ℕ} {i c : ℕ} → i < 192 → c < 192 → Column table i → Column table c
-    → threeOf (getD table i 0) (getD table c 0) (getD table (192 + i) 0) (getD table (192 + c) 0) (getD table (384 + i) 0) (getD table (384 + c) 0) ≡ maskAt 3 (i + 1) (c + 1)
+    → threeOf (getD table i 0) (getD table c 0) (getD table (192 + i) 0) (getD table (192 + c) 0) (getD table (384 + i) 0) (getD table (384 + c) 0)
+    ≡ maskAt 3 (i + 1) (c + 1)
 columns-three {table} {i} {c} hi hc u v =
     ap₂ (λ (a b : ℕ). threeOf a b (getD table (192 + i) 0) (getD table (192 + c) 0) (getD table (384 + i) 0) (getD table (384 + c) 0)) (u .number-is) (v .number-is)
     ∙ ap₂ (λ (a b : ℕ). threeOf (i + 1) (c + 1) a b (getD table (384 + i) 0) (getD table (384 + c) 0)) (u .factor-is) (v .factor-is)

@@ -109,15 +109,19 @@ module _ (poly : ℕ) (P : Passes poly) (first parity : ℕ) (ds : List ℕ) whe
   some-rest g M n w b (suc k) h =
       let r = some-rest g M n w b k (omega arith) in
       let e : k + 1 ≡ suc k = omega arith in
-      let o : k + suc parity ≤ n = omega arith in
-      (stepped poly (r .0 k) k (r .0) g, subst (λ (m : ℕ). Divided poly parity g n m w (stepped poly (r .0 k) k (r .0) g)) e (divided-next poly P parity g M n w k (r .0) (r .1) o))
+      let o : k + suc parity ≤ n = omega arith in (
+        stepped poly (r .0 k) k (r .0) g,
+        subst (λ (m : ℕ). Divided poly parity g n m w (stepped poly (r .0 k) k (r .0) g)) e
+            (divided-next poly P parity g M n w k (r .0) (r .1) o),
+      )
 
   pub some-follows : Bytes ds → (p : List ℕ) × Follows poly first parity ds p
   some-follows b =
       let g = some-generator parity in
       let r = some-rest (g .0) (g .1 .monic) (length ds + parity) (seq ds) b (length ds) (omega arith) in (
         each parity (λ i. r .0 (length ds + i)),
-        rest-follows (length ds) refl (g .0) (r .0) (g .1) (r .1) (each parity (λ i. r .0 (length ds + i))) (each-length parity (λ i. r .0 (length ds + i))) (each-at parity (λ i. r .0 (length ds + i))),
+        rest-follows (length ds) refl (g .0) (r .0) (g .1) (r .1) (each parity (λ i. r .0 (length ds + i)))
+            (each-length parity (λ i. r .0 (length ds + i))) (each-at parity (λ i. r .0 (length ds + i))),
       )
 
 -- ---- what is written: data that stay, and bytes that follow them
@@ -129,7 +133,8 @@ written-by poly P first k block block′ bytes small h stay F =
     sym (take-append-drop k block′) ∙ ap (λ (xs : List ℕ). xs ++ drop k block′) stay
     ∙ sym ((let e : length block - (length block - k) ≡ k = omega arith in
     ap (λ (m : ℕ). withParity (take m block) (parityOf poly first (length block - k) (take m block))) e)
-    ∙ ap (withParity (take k block)) (follows-found poly P first (length block - k) (take k block) (take-bytes k block bytes) (omega (arith, length-take-le k block h)) (drop k block′) F))
+    ∙ ap (withParity (take k block)) (follows-found poly P first (length block - k) (take k block) (take-bytes k block bytes)
+    (omega (arith, length-take-le k block h)) (drop k block′) F))
 
 -- ---- by plain division: w₁ are the data and zeros, w₂ the rest of their division
 

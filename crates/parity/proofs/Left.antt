@@ -43,7 +43,8 @@ module _ (poly : ℕ) (P : Passes poly) (m : ℕ) where
   x = power poly m
 
   -- a value in front of bytes
-  eval-from : (acc : ℕ) (ys : List ℕ) → acc < 256 → Bytes ys → evalFrom poly (power poly m) acc ys ≡ mul poly acc (power poly (length ys * m)) ⊕ eval poly (power poly m) ys
+  eval-from : (acc : ℕ) (ys : List ℕ) → acc < 256 → Bytes ys → evalFrom poly (power poly m) acc ys ≡ mul poly acc (power poly (length ys * m)) ⊕ eval
+      poly (power poly m) ys
   unfolding evalFrom
   eval-from acc [] h b =
       let o : 0 * m ≡ 0 = omega arith in
@@ -55,9 +56,11 @@ module _ (poly : ℕ) (P : Passes poly) (m : ℕ) where
       let bs : Bytes ys = λ i. b (suc i) in
       let o : m + length ys * m ≡ suc (length ys) * m = omega (arith, suc-mul (length ys) m) in
       eval-from (bitXor (mul poly acc x) y) ys (sum-lt (mul poly acc x) y (mul-lt poly P acc x) ly) bs
-      ∙ ap (λ (v : ℕ). v ⊕ eval poly x ys) (mul-sum poly P (mul poly acc x) y w ∙ ap (λ (v : ℕ). v ⊕ mul poly y w) (mul-assoc poly P acc x w ∙ ap (mul poly acc) (mul-power poly P m (length ys * m) ∙ ap (power poly) o)))
+      ∙ ap (λ (v : ℕ). v ⊕ eval poly x ys) (mul-sum poly P (mul poly acc x) y w
+      ∙ ap (λ (v : ℕ). v ⊕ mul poly y w) (mul-assoc poly P acc x w ∙ ap (mul poly acc) (mul-power poly P m (length ys * m) ∙ ap (power poly) o)))
       ∙ xor-assoc (mul poly acc (power poly (suc (length ys) * m))) (mul poly y w) (eval poly x ys)
-      ∙ ap (λ (v : ℕ). mul poly acc (power poly (suc (length ys) * m)) ⊕ v) (sym (eval-from y ys ly bs) ∙ ap (λ (v : ℕ). evalFrom poly x v ys) (sym (ap (λ (v : ℕ). bitXor v y) (mul-left-zero poly x) ∙ xor-zero-l y)))
+      ∙ ap (λ (v : ℕ). mul poly acc (power poly (suc (length ys) * m)) ⊕ v)
+      (sym (eval-from y ys ly bs) ∙ ap (λ (v : ℕ). evalFrom poly x v ys) (sym (ap (λ (v : ℕ). bitXor v y) (mul-left-zero poly x) ∙ xor-zero-l y)))
 
   -- zeros behind a value: it is zero itself
   cut-zeros : (acc : ℕ) (ys : List ℕ) → acc < 256 → ((i : ℕ) → seq ys i ≡ 0) → evalFrom poly (power poly m) acc ys ≡ 0 → acc ≡ 0
@@ -88,7 +91,8 @@ module _ (m parity : ℕ) (ds b : List ℕ) (r : Register) (bd : Bytes ds) (bb :
       let le : e < 256 = eval-lt 0x163 P x 0 ds (omega arith) bd in
       let o : 32 * m ≡ length b * m = ap (λ (n : ℕ). n * m) (sym size) in
       let whole : evalFrom 0x163 x e b ≡ 0 =
-      eval-from 0x163 P m e b le bb ∙ ap₂ (λ (k v : ℕ). mul 0x163 e (power 0x163 k) ⊕ v) (sym o) (bytes-value 0x163 x r b size are) ∙ sym (behind-from 0x163 P m e r le) ∙ z in
+      eval-from 0x163 P m e b le bb ∙ ap₂ (λ (k v : ℕ). mul 0x163 e (power 0x163 k) ⊕ v) (sym o) (bytes-value 0x163 x r b size are)
+      ∙ sym (behind-from 0x163 P m e r le) ∙ z in
       let kept = evalFrom 0x163 x e (take parity b) in
       eval-append 0x163 x 0 ds (take parity b)
       ∙ cut-zeros 0x163 P m kept (drop parity b) (eval-lt 0x163 P x e (take parity b) le (take-bytes parity b bb)) past
@@ -123,7 +127,8 @@ left-written k block block′ b r bs small h T L size are zeros E =
         getD-take k block′ i 0 l ∙ E .done i (omega arith) ∙ behind-low k b i (seq block i) l ∙ sym (getD-take k block i 0 l))
 
     kept : drop k block′ ≡ take (length block - k) b
-    kept = ext-getD 0 (drop k block′) (take (length block - k) b) (length-drop k block′ ∙ ap (λ (n : ℕ). n - k) (E .size) ∙ sym (length-take-le (length block - k) b (omega (arith, size, T .1))))
+    kept = ext-getD 0 (drop k block′) (take (length block - k) b)
+        (length-drop k block′ ∙ ap (λ (n : ℕ). n - k) (E .size) ∙ sym (length-take-le (length block - k) b (omega (arith, size, T .1))))
         (λ i l. let l : i < length block - k = omega (arith, length-drop k block′, E .size) in
         getD-drop k block′ i 0 ∙ E .done (k + i) (omega arith) ∙ behind-high k b (k + i) (seq block (k + i)) (omega arith)
         ∙ (let q : k + i - k ≡ i = omega arith in ap (seq b) q) ∙ sym (getD-take (length block - k) b i 0 l))

@@ -89,7 +89,8 @@ generator-start poly first g u z = record { monic = record { unit = u; tail = λ
 rooted-stepped : (poly a : ℕ) (f : ℕ → ℕ) (i : ℕ) → stepped poly a 1 f f i ≡ rooted poly a f i
 unfolding rooted
 rooted-stepped poly a f zero = stepped-low poly a 1 f f 0 (omega arith)
-rooted-stepped poly a f (suc i) = stepped-high poly a 1 f f (suc i) (omega arith) ∙ (let e : suc i - 1 ≡ i = omega arith in ap (λ (k : ℕ). f (suc i) ⊕ mul poly a (f k)) e)
+rooted-stepped poly a f (suc i) = stepped-high poly a 1 f f (suc i) (omega arith)
+    ∙ (let e : suc i - 1 ≡ i = omega arith in ap (λ (k : ℕ). f (suc i) ⊕ mul poly a (f k)) e)
 
 -- times x + α^(first + n)
 pub generator-next : (poly : ℕ) → Passes poly → (first n : ℕ) (g : ℕ → ℕ) → Generator poly first n g

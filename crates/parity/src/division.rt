@@ -13,7 +13,8 @@ pub fn divide(field: &[u16; 1280], g: &[u8], d: usize, w: &mut [u8], k: usize)
     requires { ⌜ Field (now field) ⌝ }
     requires { ⌜ (k + d ≤ length (now w)) × (d < length (now g)) × (length (now w) ≤ 256) ⌝ }
     requires { ⌜ Monic d (seq (now g)) ⌝ }
-    ensures { λ _. ⌜ (length (now (w .exit)) ≡ length (now (w .entry))) × Divided (polyOf (now (field .entry))) d (seq (now (g .entry))) (k + d) k (seq (now (w .entry))) (seq (now (w .exit))) ⌝ }
+    ensures { λ _. ⌜ (length (now (w .exit)) ≡ length (now (w .entry)))
+        × Divided (polyOf (now (field .entry))) d (seq (now (g .entry))) (k + d) k (seq (now (w .entry))) (seq (now (w .exit))) ⌝ }
 {
     let mut i = 0;
     while i < k {

@@ -44,7 +44,8 @@ pub fn write_parity(field: &[u16; 1280], g: &[u8], block: &mut [u8], k: usize)
     requires { ⌜ Field (now field) ⌝ }
     requires { ⌜ (k ≤ length (now block)) × (length (now block) ≤ 255) × (length (now block) - k < length (now g)) ⌝ }
     requires { ⌜ Monic (length (now block) - k) (seq (now g)) ⌝ }
-    ensures { λ _. ⌜ ((first : ℕ) → Generator (polyOf (now (field .entry))) first (length (now (block .entry)) - k) (seq (now (g .entry))) → now (block .exit) ≡ writtenOf (polyOf (now (field .entry))) first (length (now (block .entry)) - k) (now (block .entry))) ⌝ }
+    ensures { λ _. ⌜ ((first : ℕ) → Generator (polyOf (now (field .entry))) first (length (now (block .entry)) - k) (seq (now (g .entry)))
+        → now (block .exit) ≡ writtenOf (polyOf (now (field .entry))) first (length (now (block .entry)) - k) (now (block .entry))) ⌝ }
 {
     let n = block.len();
     let mut w = [0u8; 256];
@@ -82,7 +83,8 @@ fn is_parity(b: &[u8; 32], parity: usize) -> bool
 fn put_left(block: &mut [u8], k: usize, left: Register) -> bool
     requires { ⌜ (k ≤ length (now block)) × (length (now block) ≤ 255) × (0 < k) ⌝ }
     requires { ⌜ Leaves (length (now block) - k) k (now block) left ⌝ }
-    ensures { λ r. ⌜ (r ≡ true → now (block .exit) ≡ writtenOf 0x163 1 (length (now (block .entry)) - k) (now (block .entry))) × (r ≡ false → now (block .exit) ≡ now (block .entry)) ⌝ }
+    ensures { λ r. ⌜ (r ≡ true → now (block .exit) ≡ writtenOf 0x163 1 (length (now (block .entry)) - k) (now (block .entry)))
+        × (r ≡ false → now (block .exit) ≡ now (block .entry)) ⌝ }
 {
     let n = block.len();
     let b = remainder::bytes(left);

@@ -12,11 +12,13 @@ use Rattle.segments.specs.FromData.{DataOutcome, isBroken, fromData, dataOutcom
 use Rattle.segments.proofs.Steps.{not-done}
 
 same : {n n′ m m′ : ℕ} {u u′ v v′ : List ℕ} → n ≡ n′ → m ≡ m′ → u ≡ u′ → v ≡ v′
-    → _≡_ {A = DataOutcome} (record { number = 0; payloadLength = n; scriptLength = m; payload = u; script = v }) (record { number = 0; payloadLength = n′; scriptLength = m′; payload = u′; script = v′ })
+    → _≡_ {A = DataOutcome} (record { number = 0; payloadLength = n; scriptLength = m; payload = u; script = v })
+    (record { number = 0; payloadLength = n′; scriptLength = m′; payload = u′; script = v′ })
 same p q r t = λ i. record { number = 0; payloadLength = p i; scriptLength = q i; payload = r i; script = t i }
 
 -- the front of a buffer in which bytes were stored, before the rest of another
-front : (bs l x p : List ℕ) (n : ℕ) → n ≡ length bs → x ≡ sets l 0 bs → length bs ≤ length l → take n x ++ drop n p ≡ bs ++ drop (length bs) p
+front : (bs l x p : List ℕ) (n : ℕ) → n ≡ length bs → x ≡ sets l 0 bs → length bs ≤ length l
+    → take n x ++ drop n p ≡ bs ++ drop (length bs) p
 front bs l x p n e f w = rw (e, f, sets-eq bs l 0 (rw zero-add w), take-append-seam bs (drop (0 + length bs) l))
 
 module _ (s p c : List ℕ) where
@@ -99,10 +101,12 @@ module _ (s p c : List ℕ) where
                 let k = lengths .0 in
                 let j = lengths .1 in
                 let f = reached p c t u v i in
-                filled u v (f .1 ∙ sets-eq (payloadOf gs) p 0 (omega arith) ∙ rw zero-add) (f .2 ∙ sets-eq (scriptOf gs) c 0 (omega arith) ∙ rw zero-add)
+                filled u v (f .1 ∙ sets-eq (payloadOf gs) p 0 (omega arith) ∙ rw zero-add)
+                (f .2 ∙ sets-eq (scriptOf gs) c 0 (omega arith) ∙ rw zero-add)
 
             -- copies of what the first pass stored
-            pub is-copied : n ≤ length o → m ≤ length q → (u v : List ℕ) → u ≡ take n x ++ drop n p → v ≡ take m y ++ drop m c → dataOutcome (Read n m) u v ≡ fromData s p c
+            pub is-copied : n ≤ length o → m ≤ length q → (u v : List ℕ) → u ≡ take n x ++ drop n p → v ≡ take m y ++ drop m c
+                → dataOutcome (Read n m) u v ≡ fromData s p c
             is-copied a b u v eu ev =
                 let k = lengths .0 in
                 let j = lengths .1 in

@@ -24,10 +24,12 @@ module _ (b : ℕ → ℕ) where
   pub high-four : ((k : ℕ) → b k < 256) → eightOf b / 4294967296 ≡ fourOf (b 4) (b 5) (b 6) (b 7)
   high-four h = digits-div (fourOf (b 4) (b 5) (b 6) (b 7)) (four-lt (b 0) (b 1) (b 2) (b 3) (h 0) (h 1) (h 2) (h 3))
 
-  pub gather-is : ((k : ℕ) → b k < 2) → (x : ℕ) → x ≡ eightOf b → x % 4294967296 * 134480385 / 16777216 % 16 * 16 + x / 4294967296 * 134480385 / 16777216 % 16 ≡ byteOf b
+  pub gather-is : ((k : ℕ) → b k < 2) → (x : ℕ) → x ≡ eightOf b
+      → x % 4294967296 * 134480385 / 16777216 % 16 * 16 + x / 4294967296 * 134480385 / 16777216 % 16 ≡ byteOf b
   gather-is h x e =
       let g : (k : ℕ) → b k < 256 = λ k. omega (arith, h k) in
-      ap₂ (λ (l u : ℕ). l * 134480385 / 16777216 % 16 * 16 + u * 134480385 / 16777216 % 16) (ap (λ (y : ℕ). y % 4294967296) e ∙ low-four g) (ap (λ (y : ℕ). y / 4294967296) e ∙ high-four g)
+      ap₂ (λ (l u : ℕ). l * 134480385 / 16777216 % 16 * 16 + u * 134480385 / 16777216 % 16) (ap (λ (y : ℕ). y % 4294967296) e ∙ low-four g)
+      (ap (λ (y : ℕ). y / 4294967296) e ∙ high-four g)
       ∙ ap₂ (λ (l u : ℕ). l * 16 + u) (nibble-is (b 0) (b 1) (b 2) (b 3) (h 0) (h 1) (h 2) (h 3)) (nibble-is (b 4) (b 5) (b 6) (b 7) (h 4) (h 5) (h 6) (h 7))
 
   -- all are zero where their number is
@@ -46,12 +48,15 @@ pub eight-is : (s : List ℕ) (at l h : ℕ) → l ≡ fourOf (getD s at 0) (get
     → h ≡ fourOf (getD s (at + 4) 0) (getD s (at + 5) 0) (getD s (at + 6) 0) (getD s (at + 7) 0) → l + h * 4294967296 ≡ eightOf (behind s at)
 eight-is s at l h e f =
     let z : at ≡ at + 0 = omega arith in
-    let g : l ≡ fourOf (getD s (at + 0) 0) (getD s (at + 1) 0) (getD s (at + 2) 0) (getD s (at + 3) 0) = e ∙ ap (λ (i : ℕ). fourOf (getD s i 0) (getD s (at + 1) 0) (getD s (at + 2) 0) (getD s (at + 3) 0)) z in
+    let g : l ≡ fourOf (getD s (at + 0) 0) (getD s (at + 1) 0) (getD s (at + 2) 0) (getD s (at + 3) 0) =
+    e ∙ ap (λ (i : ℕ). fourOf (getD s i 0) (getD s (at + 1) 0) (getD s (at + 2) 0) (getD s (at + 3) 0)) z in
     add-comm l (h * 4294967296) ∙ ap₂ (λ (x y : ℕ). x * 4294967296 + y) f g
 
 -- the sum without carries, byte by byte
 module _ (a b : ℕ → ℕ) (ha : (k : ℕ) → a k < 256) (hb : (k : ℕ) → b k < 256) where
-  xor-four : (i j k l : ℕ) → bitXor (fourOf (a i) (a j) (a k) (a l)) (fourOf (b i) (b j) (b k) (b l)) ≡ fourOf (bitXor (a i) (b i)) (bitXor (a j) (b j)) (bitXor (a k) (b k)) (bitXor (a l) (b l))
+  xor-four : (i j k l : ℕ)
+      → bitXor (fourOf (a i) (a j) (a k) (a l)) (fourOf (b i) (b j) (b k) (b l)) ≡ fourOf (bitXor (a i) (b i)) (bitXor (a j) (b j))
+      (bitXor (a k) (b k)) (bitXor (a l) (b l))
   xor-four i j k l =
       xor-block 8 ((a l * 256 + a k) * 256 + a j) ((b l * 256 + b k) * 256 + b j) (a i) (b i) (ha i) (hb i)
       ∙ ap (λ (x : ℕ). x * 256 + bitXor (a i) (b i)) (xor-block 8 (a l * 256 + a k) (b l * 256 + b k) (a j) (b j) (ha j) (hb j)
@@ -64,13 +69,17 @@ module _ (a b : ℕ → ℕ) (ha : (k : ℕ) → a k < 256) (hb : (k : ℕ) → 
       ∙ ap₂ (λ (x y : ℕ). x * 4294967296 + y) (xor-four 4 5 6 7) (xor-four 0 1 2 3)
 
 -- the bytes of eight
-four-bytes : (a b c d : ℕ) → a < 256 → b < 256 → c < 256 → d < 256 → (fourOf a b c d % 256 ≡ a) × (fourOf a b c d / 256 % 256 ≡ b) × (fourOf a b c d / 65536 % 256 ≡ c) × (fourOf a b c d / 16777216 % 256 ≡ d)
+four-bytes : (a b c d : ℕ) → a < 256 → b < 256 → c < 256 → d < 256
+    → (fourOf a b c d % 256 ≡ a) × (fourOf a b c d / 256 % 256 ≡ b) × (fourOf a b c d / 65536 % 256 ≡ c) × (fourOf a b c d / 16777216 % 256 ≡ d)
 four-bytes a b c d p q r s = (omega arith, omega arith, omega arith, omega arith)
 
-lower : (x q : ℕ) → x % 4294967296 ≡ q → (x % 256 ≡ q % 256) × (x / 256 % 256 ≡ q / 256 % 256) × (x / 65536 % 256 ≡ q / 65536 % 256) × (x / 16777216 % 256 ≡ q / 16777216 % 256)
+lower : (x q : ℕ) → x % 4294967296 ≡ q
+    → (x % 256 ≡ q % 256) × (x / 256 % 256 ≡ q / 256 % 256) × (x / 65536 % 256 ≡ q / 65536 % 256) × (x / 16777216 % 256 ≡ q / 16777216 % 256)
 lower x q e = (omega arith, omega arith, omega arith, omega arith)
 
-upper : (x q : ℕ) → x / 4294967296 ≡ q → (x / 4294967296 % 256 ≡ q % 256) × (x / 1099511627776 % 256 ≡ q / 256 % 256) × (x / 281474976710656 % 256 ≡ q / 65536 % 256) × (x / 72057594037927936 % 256 ≡ q / 16777216 % 256)
+upper : (x q : ℕ) → x / 4294967296 ≡ q
+    → (x / 4294967296 % 256 ≡ q % 256) × (x / 1099511627776 % 256 ≡ q / 256 % 256) × (x / 281474976710656 % 256 ≡ q / 65536 % 256)
+    × (x / 72057594037927936 % 256 ≡ q / 16777216 % 256)
 upper x q e = (omega arith, omega arith, omega arith, omega arith)
 
 pub bytes-eight : (b : ℕ → ℕ) → ((k : ℕ) → b k < 256) → bytesOf (eightOf b) ≡ run 8 b
@@ -80,7 +89,9 @@ bytes-eight b h =
     let u = upper (eightOf b) (fourOf (b 4) (b 5) (b 6) (b 7)) (high-four b h) in
     let r = four-bytes (b 0) (b 1) (b 2) (b 3) (h 0) (h 1) (h 2) (h 3) in
     let s = four-bytes (b 4) (b 5) (b 6) (b 7) (h 4) (h 5) (h 6) (h 7) in
-    ap₂ _∷_ (l .0 ∙ r .0) (ap₂ _∷_ (l .1 ∙ r .1) (ap₂ _∷_ (l .2 ∙ r .2) (ap₂ _∷_ (l .3 ∙ r .3) (ap₂ _∷_ (u .0 ∙ s .0) (ap₂ _∷_ (u .1 ∙ s .1) (ap₂ _∷_ (u .2 ∙ s .2) (ap₂ _∷_ (u .3 ∙ s .3) refl)))))))
+    ap₂ _∷_ (l .0 ∙ r .0)
+    (ap₂ _∷_ (l .1 ∙ r .1)
+    (ap₂ _∷_ (l .2 ∙ r .2) (ap₂ _∷_ (l .3 ∙ r .3) (ap₂ _∷_ (u .0 ∙ s .0) (ap₂ _∷_ (u .1 ∙ s .1) (ap₂ _∷_ (u .2 ∙ s .2) (ap₂ _∷_ (u .3 ∙ s .3) refl)))))))
 
 pub eight-byte : (b : ℕ → ℕ) → ((k : ℕ) → b k < 256) → (j : ℕ) → j < 8 → eightOf b / 2 ^ (8 * j) % 256 ≡ b j
 unfolding run

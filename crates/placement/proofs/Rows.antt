@@ -44,10 +44,12 @@ pub row-mask : (mask i s c : ℕ) → c < s → maskAt mask (i + 1) (c + 1) ≡ 
 unfolding maskBit
 row-mask mask i s c h = sym (ap₂ (λ (x y : ℕ). maskAt mask (x + 1) (y + 1)) (digits-div i h) (digits-mod i h))
 
-pub masked : {row : List ℕ} (sq : List ℕ) (at side : ℕ) → ((k : ℕ) → getD sq k 0 < 2) → ((k : ℕ) → getD row k 0 < 2) → side ≤ 189 → at + side ≤ length sq → Masked (part at (at + side) sq) row
+pub masked : {row : List ℕ} (sq : List ℕ) (at side : ℕ) → ((k : ℕ) → getD sq k 0 < 2) → ((k : ℕ) → getD row k 0 < 2) → side ≤ 189 → at + side ≤ length sq
+    → Masked (part at (at + side) sq) row
 masked sq at side g r s h = record { side = omega (arith, part-length at side sq h); modules = part-small at (at + side) sq g; masks = r }
 
-pub aligned : {mask : ℕ} {ks sq row : List ℕ} (at side : ℕ) → Legible ks sq → Row mask row → side ≤ 189 → at + side ≤ length sq → Aligned (part at (at + side) ks) (part at (at + side) sq) row
+pub aligned : {mask : ℕ} {ks sq row : List ℕ} (at side : ℕ) → Legible ks sq → Row mask row → side ≤ 189 → at + side ≤ length sq
+    → Aligned (part at (at + side) ks) (part at (at + side) sq) row
 aligned {mask} {ks} {sq} {row} at side g r s h =
     let k : length (part at (at + side) ks) ≡ side = part-length at side ks (omega arith) in
     let l : length (part at (at + side) sq) ≡ side = part-length at side sq h in
@@ -55,7 +57,8 @@ aligned {mask} {ks} {sq} {row} at side g r s h =
 
 -- The data bits of a square are those of its rows.
 
-data-append : (m : ℕ → ℕ) (i : ℕ) (us vs xs ys : List ℕ) → length us ≡ length xs → dataBits m i (us ++ vs) (xs ++ ys) ≡ dataBits m i us xs ++ dataBits m (i + length us) vs ys
+data-append : (m : ℕ → ℕ) (i : ℕ) (us vs xs ys : List ℕ) → length us ≡ length xs
+    → dataBits m i (us ++ vs) (xs ++ ys) ≡ dataBits m i us xs ++ dataBits m (i + length us) vs ys
 unfolding dataBits
 data-append m i [] vs [] ys e = let f : i ≡ i + 0 = omega arith in ap (λ (j : ℕ). dataBits m j vs ys) f
 data-append m i [] vs (x ∷ xs) ys e = absurd (omega arith)
@@ -85,10 +88,12 @@ data-masks : (m n : ℕ → ℕ) (i j : ℕ) (us xs : List ℕ) → Agree us m n
 unfolding dataBits
 data-masks m n i j [] xs h = refl
 data-masks m n i j (u ∷ us) [] h = refl
-data-masks m n i j (zero ∷ us) (x ∷ xs) h = ap₂ (λ (y : ℕ) (l : List ℕ). bitXor x y ∷ l) (agree-first m n i j us h) (data-masks m n (suc i) (suc j) us xs (agree-later m n i j 0 us h))
+data-masks m n i j (zero ∷ us) (x ∷ xs) h =
+    ap₂ (λ (y : ℕ) (l : List ℕ). bitXor x y ∷ l) (agree-first m n i j us h) (data-masks m n (suc i) (suc j) us xs (agree-later m n i j 0 us h))
 data-masks m n i j (suc u ∷ us) (x ∷ xs) h = data-masks m n (suc i) (suc j) us xs (agree-later m n i j (suc u) us h)
 
-row-split : (m : ℕ → ℕ) (ks sq row : List ℕ) (at side : ℕ) → length sq ≤ length ks → at + side ≤ length sq → ((c : ℕ) → c < side → getD (part at (at + side) ks) c 0 ≡ 0 → getD row c 0 ≡ m (at + c))
+row-split : (m : ℕ → ℕ) (ks sq row : List ℕ) (at side : ℕ) → length sq ≤ length ks → at + side ≤ length sq
+    → ((c : ℕ) → c < side → getD (part at (at + side) ks) c 0 ≡ 0 → getD row c 0 ≡ m (at + c))
     → bitsFrom m ks sq at ≡ rowBits (part at (at + side) ks) (part at (at + side) sq) row 0 ++ bitsFrom m ks sq (at + side)
 row-split m ks sq row at side g h e =
     let us = part at (at + side) ks in
@@ -114,7 +119,8 @@ pub rows-pending : {r : Run} → r .value ≡ 0 → r .bits ≡ 0 → Pending r
 rows-pending {r} v b = record { few = omega arith; small = omega (arith, pow-pos (8 + r .bits)) }
 
 -- the column does not matter
-pub walk-again : {total : ℕ} {all out rest : List ℕ} {r s : Run} → s .n ≡ r .n → s .value ≡ r .value → s .bits ≡ r .bits → Walk total all out rest r → Walk total all out rest s
+pub walk-again : {total : ℕ} {all out rest : List ℕ} {r s : Run} → s .n ≡ r .n → s .value ≡ r .value → s .bits ≡ r .bits → Walk total all out rest r
+    → Walk total all out rest s
 walk-again {total} {all} {out} {rest} {r} {s} n v b k = record {
   words = subst (λ (i : ℕ). Words total all out (lowBits (s .bits) (s .value) ++ rest) i) (sym n)
       (subst (λ (l : List ℕ). Words total all out l (r .n)) (sym (ap₂ (λ (i j : ℕ). lowBits i j ++ rest) b v)) (k .words));
@@ -131,10 +137,14 @@ rows-begun all out {r} n v b h =
 abbrev rowIn : ℕ → ℕ → List ℕ → List ℕ
 rowIn i side l = part (i * side) (i * side + side) l
 
-module _ {total : ℕ} {all out out′ row : List ℕ} {r s : Run} (m : ℕ → ℕ) (ks sq : List ℕ) (i side : ℕ) (g : length sq ≤ length ks) (h : i * side + side ≤ length sq) where
+module _ {total : ℕ} {all out out′ row : List ℕ} {r s : Run} (m : ℕ → ℕ) (ks sq : List ℕ) (i side : ℕ) (g : length sq ≤ length ks)
+    (h : i * side + side ≤ length sq) where
   -- before the first column that is read there are no data, nor from the last one on
-  pub row-turn : ((c : ℕ) → c < side → getD (rowIn i side ks) c 0 ≡ 0 → getD row c 0 ≡ m (i * side + c)) → rowBits (rowIn i side ks) (rowIn i side sq) row (r .column) ≡ rowBits (rowIn i side ks) (rowIn i side sq) row 0 → rowBits (rowIn i side ks) (rowIn i side sq) row (s .column) ≡ []
-      → Goes (rowIn i side ks) (rowIn i side sq) row out out′ r s → Walk total all out (bitsFrom m ks sq (i * side)) r → Walk total all out′ (bitsFrom m ks sq ((i + 1) * side)) s
+  pub row-turn : ((c : ℕ) → c < side → getD (rowIn i side ks) c 0 ≡ 0 → getD row c 0 ≡ m (i * side + c))
+      → rowBits (rowIn i side ks) (rowIn i side sq) row (r .column) ≡ rowBits (rowIn i side ks) (rowIn i side sq) row 0
+      → rowBits (rowIn i side ks) (rowIn i side sq) row (s .column) ≡ []
+      → Goes (rowIn i side ks) (rowIn i side sq) row out out′ r s → Walk total all out (bitsFrom m ks sq (i * side)) r
+      → Walk total all out′ (bitsFrom m ks sq ((i + 1) * side)) s
   row-turn e a b go w =
       let rest = bitsFrom m ks sq (i * side + side) in
       let front = row-split m ks sq row (i * side) side g h e ∙ ap (λ (u : List ℕ). u ++ rest) (sym a) in
@@ -143,20 +153,27 @@ module _ {total : ℕ} {all out out′ row : List ℕ} {r s : Run} (m : ℕ → 
 
   -- all columns are read
   pub rows-turn : ((c : ℕ) → c < side → getD row c 0 ≡ m (i * side + c)) → r .column ≡ 0 → s .column ≡ length (rowIn i side ks)
-      → Goes (rowIn i side ks) (rowIn i side sq) row out out′ r s → Walk total all out (bitsFrom m ks sq (i * side)) r → Walk total all out′ (bitsFrom m ks sq ((i + 1) * side)) s
+      → Goes (rowIn i side ks) (rowIn i side sq) row out out′ r s → Walk total all out (bitsFrom m ks sq (i * side)) r
+      → Walk total all out′ (bitsFrom m ks sq ((i + 1) * side)) s
   rows-turn e a b =
-      row-turn (λ c q d. e c q) (ap (rowBits (rowIn i side ks) (rowIn i side sq) row) a) (bits-none (λ k. getD row k 0) (rowIn i side ks) (rowIn i side sq) (s .column) (omega (arith, part-length (i * side) side sq h, part-length (i * side) side ks (omega arith))))
+      row-turn (λ c q d. e c q) (ap (rowBits (rowIn i side ks) (rowIn i side sq) row) a)
+      (bits-none (λ k. getD row k 0) (rowIn i side ks) (rowIn i side sq) (s .column)
+      (omega (arith, part-length (i * side) side sq h, part-length (i * side) side ks (omega arith))))
 
-pub rows-done : {total : ℕ} {all out : List ℕ} {r : Run} (m : ℕ → ℕ) (ks sq : List ℕ) (i : ℕ) → length sq ≤ i → Pending r → Walk total all out (bitsFrom m ks sq i) r → out ≡ codewordsOf total all
+pub rows-done : {total : ℕ} {all out : List ℕ} {r : Run} (m : ℕ → ℕ) (ks sq : List ℕ) (i : ℕ) → length sq ≤ i → Pending r
+    → Walk total all out (bitsFrom m ks sq i) r → out ≡ codewordsOf total all
 unfolding firstWords groups
 rows-done {total} {all} {out} {r} m ks sq i h p k =
     let w = k .words in
     let z : length (lowBits (r .bits) (r .value) ++ bitsFrom m ks sq i) ≡ r .bits =
-    length-append (lowBits (r .bits) (r .value)) (bitsFrom m ks sq i) ∙ ap₂ _+_ (length-low (r .bits) (r .value)) (ap length (bits-none m ks sq i h)) ∙ omega arith in
+    length-append (lowBits (r .bits) (r .value)) (bitsFrom m ks sq i) ∙ ap₂ _+_ (length-low (r .bits) (r .value)) (ap length (bits-none m ks sq i h))
+    ∙ omega arith in
     let n : r .n ≡ total = omega arith in
     let e : total - r .n ≡ 0 = omega arith in
-    sym (take-all (r .n) out (omega arith)) ∙ sym (append-nil (take (r .n) out)) ∙ sym (ap (λ (j : ℕ). take (r .n) out ++ codewordsOf j (lowBits (r .bits) (r .value) ++ bitsFrom m ks sq i)) e) ∙ w .is
+    sym (take-all (r .n) out (omega arith)) ∙ sym (append-nil (take (r .n) out))
+    ∙ sym (ap (λ (j : ℕ). take (r .n) out ++ codewordsOf j (lowBits (r .bits) (r .value) ++ bitsFrom m ks sq i)) e) ∙ w .is
 
 -- The first total codewords in front of what stood behind them.
-pub first-codewords : {out′ : List ℕ} (out all : List ℕ) (total : ℕ) → total ≤ length out → out′ ≡ codewordsOf (length (take total out)) all → out′ ++ drop total out ≡ codewordsOf total all ++ drop total out
+pub first-codewords : {out′ : List ℕ} (out all : List ℕ) (total : ℕ) → total ≤ length out → out′ ≡ codewordsOf (length (take total out)) all
+    → out′ ++ drop total out ≡ codewordsOf total all ++ drop total out
 first-codewords out all total h e = ap (λ (o : List ℕ). o ++ drop total out) (e ∙ ap (λ (n : ℕ). codewordsOf n all) (length-take-le total out h))

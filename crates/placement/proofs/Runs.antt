@@ -42,7 +42,8 @@ leads x =
     let e : trailingZeros 64 x ≡ trailingZeros 64 x % 8 + 8 * (trailingZeros 64 x / 8) = omega arith in
     record {
       most = omega arith;
-      zeros = sym (mod-mod-pow x (t % 8) (8 * (t / 8))) ∙ ap (λ (y : ℕ). y % 2 ^ (8 * (t / 8))) (sym (ap (λ (n : ℕ). x % 2 ^ n) e) ∙ trailing-zeros 64 x) ∙ zero-mod (2 ^ (8 * (t / 8)));
+      zeros = sym (mod-mod-pow x (t % 8) (8 * (t / 8))) ∙ ap (λ (y : ℕ). y % 2 ^ (8 * (t / 8))) (sym (ap (λ (n : ℕ). x % 2 ^ n) e) ∙ trailing-zeros 64 x)
+          ∙ zero-mod (2 ^ (8 * (t / 8)));
       first = λ z. omega (arith, trailing-most 64 x 8 (omega arith) z);
     }
 
@@ -50,7 +51,8 @@ lead-byte : {x w : ℕ} → Leads x w → (j : ℕ) → j < w → x / 2 ^ (8 * j
 lead-byte {x} {w} l j h =
     let n = 8 + 8 * j in
     let e : 8 * w ≡ 8 * (w - 1 - j) + (8 + 8 * j) = omega arith in
-    let z : x % 2 ^ (8 + 8 * j) ≡ 0 = sym (mod-mod-pow x (8 * (w - 1 - j)) n) ∙ ap (λ (y : ℕ). y % 2 ^ n) (sym (ap (λ (i : ℕ). x % 2 ^ i) e) ∙ l .zeros) ∙ zero-mod (2 ^ n) in
+    let z : x % 2 ^ (8 + 8 * j) ≡ 0 =
+    sym (mod-mod-pow x (8 * (w - 1 - j)) n) ∙ ap (λ (y : ℕ). y % 2 ^ n) (sym (ap (λ (i : ℕ). x % 2 ^ i) e) ∙ l .zeros) ∙ zero-mod (2 ^ n) in
     sym (field x 8 (8 * j)) ∙ ap (λ (y : ℕ). y / 2 ^ (8 * j)) z ∙ zero-div (2 ^ (8 * j))
 
 -- Kinds that are not 0. A bit for each of seven bytes: tests that antt computes.
@@ -71,7 +73,9 @@ holes k = bitXor (bitAnd (bitOr k (k / 2)) bits) bits
 
 -- the first byte is 0, and another is odd where the kind is 0
 holes-first : (k : ℕ) → holes k % 256 ≡ 0
-holes-first k = xor-mod (bitAnd (bitOr k (k / 2)) bits) bits 8 ∙ xor-zero-r (bitAnd (bitOr k (k / 2)) bits % 256) ∙ and-mod (bitOr k (k / 2)) bits 8 ∙ and-zero-r (bitOr k (k / 2) % 256)
+holes-first k =
+    xor-mod (bitAnd (bitOr k (k / 2)) bits) bits 8 ∙ xor-zero-r (bitAnd (bitOr k (k / 2)) bits % 256) ∙ and-mod (bitOr k (k / 2)) bits 8
+    ∙ and-zero-r (bitOr k (k / 2) % 256)
 
 two-low : (y : ℕ) → y % 256 ≡ 0 → (y % 2 ≡ 0) × (y / 2 % 2 ≡ 0)
 two-low y e = (omega arith, omega arith)
@@ -118,35 +122,42 @@ module _ (ks : List ℕ) (c : ℕ) {k : ℕ} (bytes : (i : ℕ) → getD ks i 0 
       kind zero q z = let y : k / 1 ≡ k = omega arith in first (ap (λ (i : ℕ). i % 256) (sym y) ∙ byte-is 0 (omega arith) ∙ z)
       kind (suc j) q z = u .none (suc j) (omega arith) q (byte-is (suc j) (omega arith) ∙ z)
 
-first-are : {ks sq row : List ℕ} {b : ℕ → ℕ} {c k x left g : ℕ} → Next ks sq row b c k x left → Gathered x g → (w : ℕ) → w ≤ left → left ≤ 8 → g / 2 ^ (8 - w) ≡ value 0 (run w (unmaskedAt sq row c))
+first-are : {ks sq row : List ℕ} {b : ℕ → ℕ} {c k x left g : ℕ} → Next ks sq row b c k x left → Gathered x g → (w : ℕ) → w ≤ left → left ≤ 8
+    → g / 2 ^ (8 - w) ≡ value 0 (run w (unmaskedAt sq row c))
 first-are {sq = sq} {row = row} {b = b} {c = c} n g w h l =
     let e : 8 ≡ w + (8 - w) = omega arith in
     ap (λ (y : ℕ). y / 2 ^ (8 - w)) (gathered-is b (n .small) (n .modules) g ∙ ap (λ (i : ℕ). value 0 (run i b)) e) ∙ first-value b (n .small) w (8 - w)
     ∙ ap (value 0) (run-front w b (unmaskedAt sq row c) (λ i q. n .bits i (omega arith)))
 
 module _ {k x left : ℕ} {out : List ℕ} {r s : Run} (some : 0 < left) (few : left ≤ 8) where
-  pub moves-push : {out′ : List ℕ} {l g : ℕ} (w : ℕ) → Leads k l → w ≤ l → w ≤ left → 0 < w → Gathered x g → s .column ≡ r .column + w → Pushed w (g / 2 ^ (8 - w)) out out′ r s → Moves k x left out out′ r s
+  pub moves-push : {out′ : List ℕ} {l g : ℕ} (w : ℕ) → Leads k l → w ≤ l → w ≤ left → 0 < w → Gathered x g → s .column ≡ r .column + w
+      → Pushed w (g / 2 ^ (8 - w)) out out′ r s → Moves k x left out out′ r s
   moves-push {g = g} w l a b p e f q = record {
     go = λ ks sq row u n. (
       omega arith,
       omega arith,
-      goes-push (n .aligned .masked) (n .aligned .size) w (g / 2 ^ (8 - w)) (omega arith) (λ j h. sym (byte-is ks (r .column) (n .bytes) (n .kinds) j (omega arith)) ∙ lead-byte l j (omega arith)) (first-are n e w b few) f q,
+      goes-push (n .aligned .masked) (n .aligned .size) w (g / 2 ^ (8 - w)) (omega arith)
+          (λ j h. sym (byte-is ks (r .column) (n .bytes) (n .kinds) j (omega arith)) ∙ lead-byte l j (omega arith)) (first-are n e w b few) f q,
     );
   }
 
-  pub moves-skip : {w : ℕ} → Leads k 0 → NoData k w → s .column ≡ r .column + w → s .n ≡ r .n → s .value ≡ r .value → s .bits ≡ r .bits → Moves k x left out out r s
+  pub moves-skip : {w : ℕ} → Leads k 0 → NoData k w → s .column ≡ r .column + w → s .n ≡ r .n → s .value ≡ r .value → s .bits ≡ r .bits
+      → Moves k x left out out r s
   moves-skip {w} l u e f g h = record {
     go = λ ks sq row b n.
-        let q = subst (Skipped ks (r .column)) (sym e) (passed ks (r .column) (n .bytes) (n .kinds) (omega arith) (λ z. omega (arith, l .first z)) u) in (omega arith, q .most, goes-skip (n .aligned .masked) (n .aligned .size) q f g h);
+        let q = subst (Skipped ks (r .column)) (sym e) (passed ks (r .column) (n .bytes) (n .kinds) (omega arith) (λ z. omega (arith, l .first z)) u) in
+        (omega arith, q .most, goes-skip (n .aligned .masked) (n .aligned .size) q f g h);
   }
 
 -- Eight bytes of a list that end with it, shifted down.
-down : (s : List ℕ) (c left : ℕ) {x : ℕ} → left ≤ 8 → 8 ≤ length s → c + left ≡ length s → ((i : ℕ) → getD s i 0 < 256) → x ≡ eightOf (behind s (length s - 8)) → x / 2 ^ (64 - 8 * left) ≡ eightOf (behind s c)
+down : (s : List ℕ) (c left : ℕ) {x : ℕ} → left ≤ 8 → 8 ≤ length s → c + left ≡ length s → ((i : ℕ) → getD s i 0 < 256) → x ≡ eightOf (behind s (length s - 8))
+    → x / 2 ^ (64 - 8 * left) ≡ eightOf (behind s c)
 down s c left {x} few big e bytes f =
     let i : 64 - 8 * left ≡ 8 * (8 - left) = omega arith in
     let j : (y : ℕ) → length s - 8 + (8 - left + y) ≡ c + y = λ y. omega arith in
     ap₂ (λ (y z : ℕ). y / 2 ^ z) f i
-    ∙ eight-down (8 - left) (behind s c) (behind s (length s - 8)) (λ y. bytes (length s - 8 + y)) (λ y h. List·getD-eq-default s 0 {n = length s - 8 + y} (omega arith)) (λ y. ap (λ (z : ℕ). getD s z 0) (j y))
+    ∙ eight-down (8 - left) (behind s c) (behind s (length s - 8)) (λ y. bytes (length s - 8 + y))
+    (λ y h. List·getD-eq-default s 0 {n = length s - 8 + y} (omega arith)) (λ y. ap (λ (z : ℕ). getD s z 0) (j y))
 
 module _ {ks sq row : List ℕ} (a : Aligned ks sq row) (bytes : (i : ℕ) → getD ks i 0 < 256) (big : 8 ≤ length ks) where
   -- the bits of the eight columns that end a row

@@ -8,7 +8,8 @@ use Rattle.bits.specs.Bits.{lowBits, value, firstWords, groups}
 use Rattle.bits.proofs.Words.{length-low, low-back}
 use Rattle.bits.proofs.Bytes.{value-add, value-small, low-value}
 use Rattle.codewords.specs.Codewords.{codewordsOf, dataBits}
-use Rattle.placement.specs.Walk.{bitsFrom, byteOf, eightOf, run, behind, Gathered, Pending, Words, Walk, Stored, Pushed, Masked, unmaskedAt, Skipped, rowBits, Goes}
+use Rattle.placement.specs.Walk.{bitsFrom, byteOf, eightOf, run, behind, Gathered, Pending, Words, Walk, Stored, Pushed, Masked, unmaskedAt, Skipped}
+use Rattle.placement.specs.Walk.{rowBits, Goes}
 use Rattle.placement.specs.declared.Run.{Run}
 use Rattle.placement.proofs.Eights.{xor-eight}
 
@@ -32,7 +33,8 @@ low-join zero b p q h =
 low-join (suc a) b p q h =
     let e : suc (a + b) ≡ suc a + b = omega arith in
     let f : b + a ≡ a + b = omega arith in
-    let top : p / 2 ^ a ≡ (p * 2 ^ b + q) / 2 ^ (a + b) = ap (λ (y : ℕ). y / 2 ^ a) (sym (high p b h)) ∙ shr-shr (p * 2 ^ b + q) b a ∙ ap (λ (n : ℕ). (p * 2 ^ b + q) / 2 ^ n) f in
+    let top : p / 2 ^ a ≡ (p * 2 ^ b + q) / 2 ^ (a + b) =
+    ap (λ (y : ℕ). y / 2 ^ a) (sym (high p b h)) ∙ shr-shr (p * 2 ^ b + q) b a ∙ ap (λ (n : ℕ). (p * 2 ^ b + q) / 2 ^ n) f in
     ap₂ (λ (y : ℕ) (l : List ℕ). (y % 2) ∷ l) top (low-join a b p q h) ∙ ap (λ (n : ℕ). lowBits n (p * 2 ^ b + q)) e
 
 -- eight in front of the others
@@ -83,7 +85,9 @@ run-split zero b f =
 run-split (suc a) b f =
     let e : suc a + b ≡ suc (a + b) = omega arith in
     let g : (k : ℕ) → suc (a + k) ≡ suc a + k = λ k. omega arith in
-    ap (λ (n : ℕ). run n f) e ∙ ap (λ (l : List ℕ). f 0 ∷ l) (run-split a b (λ k. f (suc k)) ∙ ap (λ (l : List ℕ). run a (λ k. f (suc k)) ++ l) (run-ext b (λ k. f (suc (a + k))) (λ k. f (suc a + k)) (λ k. ap f (g k))))
+    ap (λ (n : ℕ). run n f) e ∙ ap (λ (l : List ℕ). f 0 ∷ l)
+    (run-split a b (λ k. f (suc k)) ∙ ap (λ (l : List ℕ). run a (λ k. f (suc k)) ++ l)
+    (run-ext b (λ k. f (suc (a + k))) (λ k. f (suc a + k)) (λ k. ap f (g k))))
 
 value-behind : (v : ℕ) (us vs : List ℕ) → value v (us ++ vs) ≡ value (value v us) vs
 unfolding value
@@ -97,7 +101,8 @@ module _ (f : ℕ → ℕ) (small : (k : ℕ) → f k < 2) where
   value-split : (a b : ℕ) → value 0 (run (a + b) f) ≡ value 0 (run a f) * 2 ^ b + value 0 (run b (λ k. f (a + k)))
   value-split a b =
       let l = run b (λ k. f (a + k)) in
-      ap (value 0) (run-split a b f) ∙ value-behind 0 (run a f) l ∙ value-add (value 0 (run a f)) l ∙ ap (λ (n : ℕ). value 0 (run a f) * 2 ^ n + value 0 l) (length-run b (λ k. f (a + k)))
+      ap (value 0) (run-split a b f) ∙ value-behind 0 (run a f) l ∙ value-add (value 0 (run a f)) l
+      ∙ ap (λ (n : ℕ). value 0 (run a f) * 2 ^ n + value 0 l) (length-run b (λ k. f (a + k)))
 
   -- the first n, and the others
   pub first-value : (n p : ℕ) → value 0 (run (n + p) f) / 2 ^ p ≡ value 0 (run n f)
@@ -116,7 +121,8 @@ module _ {total : ℕ} {all out : List ℕ} {n : ℕ} where
   same-words e w = subst (λ (l : List ℕ). Words total all out l n) e w
 
   -- a codeword is stored where there is room, and nothing changes where there is none
-  words-next : {out′ : List ℕ} {n′ : ℕ} (y : ℕ) (tail : List ℕ) → y < 256 → Stored n y out out′ n′ → Words total all out (lowBits 8 y ++ tail) n → Words total all out′ tail n′
+  words-next : {out′ : List ℕ} {n′ : ℕ} (y : ℕ) (tail : List ℕ) → y < 256 → Stored n y out out′ n′ → Words total all out (lowBits 8 y ++ tail) n
+      → Words total all out′ tail n′
   unfolding firstWords groups
   words-next {out′} {n′} y tail small s w = elim (decLt n total) [
     | yes h ↦ (let l : n < length out = omega arith in
@@ -124,8 +130,10 @@ module _ {total : ℕ} {all out : List ℕ} {n : ℕ} where
         subst (λ (o : List ℕ). Words total all o tail n′) (sym (k .1)) (subst (λ (i : ℕ). Words total all (set out n y) tail i) (sym (k .0)) (more h l)))
     | no h ↦ (let k = s .full (omega arith) in
         let z : total - n ≡ 0 = omega arith in
-        let is : take n out ++ codewordsOf (total - n) tail ≡ codewordsOf total all = ap (λ (i : ℕ). take n out ++ codewordsOf i tail) z ∙ sym (ap (λ (i : ℕ). take n out ++ codewordsOf i (lowBits 8 y ++ tail)) z) ∙ w .is in
-        subst (λ (o : List ℕ). Words total all o tail n′) (sym (k .1)) (subst (λ (i : ℕ). Words total all out tail i) (sym (k .0)) (record { size = w .size; few = w .few; enough = omega arith; is = is })))
+        let is : take n out ++ codewordsOf (total - n) tail ≡ codewordsOf total all =
+        ap (λ (i : ℕ). take n out ++ codewordsOf i tail) z ∙ sym (ap (λ (i : ℕ). take n out ++ codewordsOf i (lowBits 8 y ++ tail)) z) ∙ w .is in
+        subst (λ (o : List ℕ). Words total all o tail n′) (sym (k .1))
+        (subst (λ (i : ℕ). Words total all out tail i) (sym (k .0)) (record { size = w .size; few = w .few; enough = omega arith; is = is })))
   ]
     where
       back : drop 8 (lowBits 8 y ++ tail) ≡ tail
@@ -141,7 +149,8 @@ module _ {total : ℕ} {all out : List ℕ} {n : ℕ} where
             few = omega arith;
             enough = omega (arith, length-append (lowBits 8 y) tail, length-low 8 y);
             is = ap (λ (u : List ℕ). u ++ codewordsOf (total - (n + 1)) tail) front ∙ append-assoc (take n out) (y ∷ []) (codewordsOf (total - (n + 1)) tail)
-                ∙ sym (ap (λ (i : ℕ). take n out ++ codewordsOf i (lowBits 8 y ++ tail)) k ∙ ap₂ (λ (x : ℕ) (u : List ℕ). take n out ++ (x ∷ codewordsOf (total - (n + 1)) u)) first back) ∙ w .is;
+                ∙ sym (ap (λ (i : ℕ). take n out ++ codewordsOf i (lowBits 8 y ++ tail)) k
+                ∙ ap₂ (λ (x : ℕ) (u : List ℕ). take n out ++ (x ∷ codewordsOf (total - (n + 1)) u)) first back) ∙ w .is;
           }
 
 -- Bits pushed behind pending ones.
@@ -156,7 +165,8 @@ module _ {r : Run} (p : Pending r) (w x : ℕ) (short : w ≤ 8) (hx : x < 2 ^ w
   pub sum-lt : r .value * 2 ^ w + x < 2 ^ (8 + (r .bits + w))
   sum-lt =
       let e : 8 + r .bits + w ≡ 8 + (r .bits + w) = omega arith in
-      subst (λ (n : ℕ). r .value * 2 ^ w + x < 2 ^ n) e (subst (λ (n : ℕ). r .value * 2 ^ w + x < n) (sym (pow-add 2 (8 + r .bits) w)) (digits-lt (p .small) hx))
+      subst (λ (n : ℕ). r .value * 2 ^ w + x < 2 ^ n) e
+      (subst (λ (n : ℕ). r .value * 2 ^ w + x < n) (sym (pow-add 2 (8 + r .bits) w)) (digits-lt (p .small) hx))
 
   pub sum-small : r .value * 2 ^ w + x < 8388608
   sum-small = omega (arith, sum-lt, pow-le-pow-right {n = 2} (lit< tt) {i = 8 + (r .bits + w)} {j = 23} (omega (arith, p .few)))
@@ -165,12 +175,14 @@ module _ {r : Run} (p : Pending r) (w x : ℕ) (short : w ≤ 8) (hx : x < 2 ^ w
   together rest = sym (append-assoc (lowBits (r .bits) (r .value)) (lowBits w x) rest) ∙ ap (λ (l : List ℕ). l ++ rest) (low-join (r .bits) w (r .value) x hx)
 
   -- still fewer than eight
-  pub few-pushed : {s : Run} {out : List ℕ} → s .value ≡ r .value * 2 ^ w + x → s .bits ≡ r .bits + w → s .n ≡ r .n → r .bits + w < 8 → Pending s × Pushed w x out out r s
+  pub few-pushed : {s : Run} {out : List ℕ} → s .value ≡ r .value * 2 ^ w + x → s .bits ≡ r .bits + w → s .n ≡ r .n → r .bits + w < 8
+      → Pending s × Pushed w x out out r s
   few-pushed {s} {out} v b n h = (
     record { few = omega arith; small = subst (λ (k : ℕ). s .value < 2 ^ (8 + k)) (sym b) (subst (λ (y : ℕ). y < 2 ^ (8 + (r .bits + w))) (sym v) sum-lt) },
     record {
       go = λ total all rest k. record {
-        words = subst (λ (i : ℕ). Words total all out (lowBits (s .bits) (s .value) ++ rest) i) (sym n) (same-words (together rest ∙ sym (ap₂ (λ (i j : ℕ). lowBits i j ++ rest) b v)) (k .words));
+        words = subst (λ (i : ℕ). Words total all out (lowBits (s .bits) (s .value) ++ rest) i) (sym n)
+            (same-words (together rest ∙ sym (ap₂ (λ (i j : ℕ). lowBits i j ++ rest) b v)) (k .words));
       };
     },
   )
@@ -183,7 +195,8 @@ module _ {r : Run} (p : Pending r) (w x : ℕ) (short : w ≤ 8) (hx : x < 2 ^ w
     record {
       go = λ total all rest k.
           let e : lowBits (r .bits) (r .value) ++ (lowBits w x ++ rest) ≡ lowBits 8 y ++ (lowBits left z ++ rest) =
-          together rest ∙ ap (λ (n : ℕ). lowBits n u ++ rest) l ∙ ap (λ (q : List ℕ). q ++ rest) (low-apart left u (omega arith)) ∙ append-assoc (lowBits 8 y) (lowBits left z) rest in
+          together rest ∙ ap (λ (n : ℕ). lowBits n u ++ rest) l ∙ ap (λ (q : List ℕ). q ++ rest) (low-apart left u (omega arith))
+          ∙ append-assoc (lowBits 8 y) (lowBits left z) rest in
           let f : lowBits left z ++ rest ≡ lowBits (s .bits) (s .value) ++ rest = sym (ap₂ (λ (i j : ℕ). lowBits i j ++ rest) b v) in
           record { words = same-words f (words-next y (lowBits left z ++ rest) (mod-lt (u / 2 ^ left) (lit< tt)) st (same-words e (k .words))) };
     },
@@ -218,7 +231,8 @@ module _ (m : ℕ → ℕ) (ks sq : List ℕ) (same : length sq ≤ length ks) w
   miss i (suc k) us vs e = refl
 
   -- n data modules in front
-  pub from-hits : (n i : ℕ) → i + n ≤ length sq → ((k : ℕ) → k < n → getD ks (i + k) 0 ≡ 0) → bitsFrom m ks sq i ≡ run n (λ k. bitXor (getD sq (i + k) 0) (m (i + k))) ++ bitsFrom m ks sq (i + n)
+  pub from-hits : (n i : ℕ) → i + n ≤ length sq → ((k : ℕ) → k < n → getD ks (i + k) 0 ≡ 0)
+      → bitsFrom m ks sq i ≡ run n (λ k. bitXor (getD sq (i + k) 0) (m (i + k))) ++ bitsFrom m ks sq (i + n)
   unfolding run
   from-hits zero i h z = let e : i ≡ i + 0 = omega arith in ap (bitsFrom m ks sq) e
   from-hits (suc n) i h z =
@@ -228,7 +242,9 @@ module _ (m : ℕ → ℕ) (ks sq : List ℕ) (same : length sq ≤ length ks) w
       opened i (omega arith) ∙ hit i (getD ks i 0) (drop (suc i) ks) (drop (suc i) sq) (ap (λ (j : ℕ). getD ks j 0) e ∙ z 0 (omega arith))
       ∙ ap₂ (λ (b : ℕ) (l : List ℕ). b ∷ l) (ap (λ (j : ℕ). bitXor (getD sq j 0) (m j)) e)
       (from-hits n (suc i) (omega arith) (λ k l. ap (λ (j : ℕ). getD ks j 0) (g k) ∙ z (suc k) (omega arith))
-      ∙ ap₂ _++_ (run-ext n (λ k. bitXor (getD sq (suc i + k) 0) (m (suc i + k))) (λ k. bitXor (getD sq (i + suc k) 0) (m (i + suc k))) (λ k. ap (λ (j : ℕ). bitXor (getD sq j 0) (m j)) (g k))) (ap (bitsFrom m ks sq) f))
+      ∙ ap₂ _++_
+      (run-ext n (λ k. bitXor (getD sq (suc i + k) 0) (m (suc i + k))) (λ k. bitXor (getD sq (i + suc k) 0) (m (i + suc k)))
+      (λ k. ap (λ (j : ℕ). bitXor (getD sq j 0) (m j)) (g k))) (ap (bitsFrom m ks sq) f))
 
   -- n modules that are not
   pub from-misses : (n i : ℕ) → i + n ≤ length sq → ((k : ℕ) → i ≤ k → k < i + n → getD ks k 0 ≢ 0) → bitsFrom m ks sq i ≡ bitsFrom m ks sq (i + n)
@@ -245,7 +261,8 @@ module _ {sq row : List ℕ} (a : Masked sq row) where
   bits-small c k = xor-lt 1 (getD sq (c + k) 0) (getD row (c + k) 0) (a .modules (c + k)) (a .masks (c + k))
 
   pub modules-are : (at : ℕ) {u v : ℕ} → u ≡ eightOf (behind sq at) → v ≡ eightOf (behind row at) → bitXor u v ≡ eightOf (unmaskedAt sq row at)
-  modules-are at eu ev = ap₂ bitXor eu ev ∙ xor-eight (behind sq at) (behind row at) (λ k. omega (arith, a .modules (at + k))) (λ k. omega (arith, a .masks (at + k)))
+  modules-are at eu ev =
+      ap₂ bitXor eu ev ∙ xor-eight (behind sq at) (behind row at) (λ k. omega (arith, a .modules (at + k))) (λ k. omega (arith, a .masks (at + k)))
 
   pub unmasked-is : (at : ℕ) {x g : ℕ} → x ≡ eightOf (unmaskedAt sq row at) → Gathered x g → g ≡ value 0 (run 8 (unmaskedAt sq row at))
   unmasked-is at e g = gathered-is (unmaskedAt sq row at) (bits-small at) e g
@@ -276,7 +293,8 @@ module _ {ks sq row : List ℕ} (a : Masked sq row) (size : length sq ≡ length
       passed : rowBits ks sq row (r .column) ≡ rowBits ks sq row (s .column)
       passed =
           let e : r .column + (s .column - r .column) ≡ s .column = omega arith in
-          from-misses (λ k. getD row k 0) ks sq (omega arith) (s .column - r .column) (r .column) (omega arith) (λ k l h. q .none k l (omega arith)) ∙ ap (rowBits ks sq row) e
+          from-misses (λ k. getD row k 0) ks sq (omega arith) (s .column - r .column) (r .column) (omega arith) (λ k l h. q .none k l (omega arith))
+          ∙ ap (rowBits ks sq row) e
 
 pub goes-none : {ks sq row out : List ℕ} {r : Run} → Goes ks sq row out out r r
 goes-none = record { go = λ total all rest k. k }

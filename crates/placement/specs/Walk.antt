@@ -34,7 +34,8 @@ behind s at k = getD s (at + k) 0
 -- the bytes of a number, lowest first
 abbrev pub bytesOf : ℕ → List ℕ
 bytesOf x =
-    (x % 256) ∷ (x / 256 % 256) ∷ (x / 65536 % 256) ∷ (x / 16777216 % 256) ∷ (x / 4294967296 % 256) ∷ (x / 1099511627776 % 256) ∷ (x / 281474976710656 % 256) ∷ (x / 72057594037927936 % 256) ∷ []
+    (x % 256) ∷ (x / 256 % 256) ∷ (x / 65536 % 256) ∷ (x / 16777216 % 256) ∷ (x / 4294967296 % 256) ∷ (x / 1099511627776 % 256)
+    ∷ (x / 281474976710656 % 256) ∷ (x / 72057594037927936 % 256) ∷ []
 
 -- bytes that are bits, gathered
 pub record Gathered (x r : ℕ) : Type 0 where
@@ -105,7 +106,8 @@ rowBits ks sq row c = bitsFrom (λ k. getD row k 0) ks sq c
 
 -- from one column of a row to another, whatever is behind the row
 pub record Goes (ks sq row out out′ : List ℕ) (r s : Run) : Type 0 where
-  pub go : (total : ℕ) (all rest : List ℕ) → Walk total all out (rowBits ks sq row (r .column) ++ rest) r → Walk total all out′ (rowBits ks sq row (s .column) ++ rest) s
+  pub go : (total : ℕ) (all rest : List ℕ) → Walk total all out (rowBits ks sq row (r .column) ++ rest) r
+      → Walk total all out′ (rowBits ks sq row (s .column) ++ rest) s
 
 -- Runs of modules of one sort.
 
@@ -133,4 +135,5 @@ pub record Next (ks sq row : List ℕ) (b : ℕ → ℕ) (c k x left : ℕ) : Ty
 
 -- some of them are passed, in every such row
 pub record Moves (k x left : ℕ) (out out′ : List ℕ) (r s : Run) : Type 0 where
-  pub go : (ks sq row : List ℕ) (b : ℕ → ℕ) → Next ks sq row b (r .column) k x left → (r .column < s .column) × (s .column ≤ length ks) × Goes ks sq row out out′ r s
+  pub go : (ks sq row : List ℕ) (b : ℕ → ℕ) → Next ks sq row b (r .column) k x left
+      → (r .column < s .column) × (s .column ≤ length ks) × Goes ks sq row out out′ r s

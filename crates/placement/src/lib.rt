@@ -127,7 +127,8 @@ fn advance(out: &mut [u8], k: usize, x: usize, left: usize, r: Run) -> Run
 // Eight data modules, or as above.
 fn step(out: &mut [u8], kinds: &[u8], square: &[u8], row: &[u8], r: Run) -> Run
     requires { ⌜ Aligned (now kinds) (now square) (now row) × Pending r × (r .column + 8 ≤ length (now kinds)) ⌝ }
-    ensures { λ s. ⌜ Pending s × (r .column < s .column) × (s .column ≤ length (now (kinds .entry))) × Goes (now (kinds .entry)) (now (square .entry)) (now (row .entry)) (now (out .entry)) (now (out .exit)) r s ⌝ }
+    ensures { λ s. ⌜ Pending s × (r .column < s .column) × (s .column ≤ length (now (kinds .entry)))
+        × Goes (now (kinds .entry)) (now (square .entry)) (now (row .entry)) (now (out .entry)) (now (out .exit)) r s ⌝ }
 {
     let c = r.column;
     let k = eight(kinds, c);
@@ -140,8 +141,10 @@ fn step(out: &mut [u8], kinds: &[u8], square: &[u8], row: &[u8], r: Run) -> Run
 
 // The last modules of a row, fewer than eight: the eight that end the row are shifted down.
 fn read_last(out: &mut [u8], kinds: &[u8], square: &[u8], row: &[u8], first: Run) -> Run
-    requires { ⌜ Aligned (now kinds) (now square) (now row) × Pending first × (first .column ≤ length (now kinds)) × (8 ≤ length (now kinds)) × (length (now kinds) ≤ first .column + 8) ⌝ }
-    ensures { λ s. ⌜ Pending s × (s .column ≡ length (now (kinds .entry))) × Goes (now (kinds .entry)) (now (square .entry)) (now (row .entry)) (now (out .entry)) (now (out .exit)) first s ⌝ }
+    requires { ⌜ Aligned (now kinds) (now square) (now row) × Pending first × (first .column ≤ length (now kinds)) × (8 ≤ length (now kinds))
+        × (length (now kinds) ≤ first .column + 8) ⌝ }
+    ensures { λ s. ⌜ Pending s × (s .column ≡ length (now (kinds .entry)))
+        × Goes (now (kinds .entry)) (now (square .entry)) (now (row .entry)) (now (out .entry)) (now (out .exit)) first s ⌝ }
 {
     let end = kinds.len();
     let k = eight(kinds, end - 8);
@@ -168,7 +171,8 @@ pub fn groups_end(side: usize) -> usize
 // One row.
 fn read_row(out: &mut [u8], kinds: &[u8], square: &[u8], row: &[u8], first: Run) -> Run
     requires { ⌜ Aligned (now kinds) (now square) (now row) × Pending first × (first .column ≡ 0) × (8 ≤ length (now kinds)) ⌝ }
-    ensures { λ s. ⌜ Pending s × (s .column ≡ length (now (kinds .entry))) × Goes (now (kinds .entry)) (now (square .entry)) (now (row .entry)) (now (out .entry)) (now (out .exit)) first s ⌝ }
+    ensures { λ s. ⌜ Pending s × (s .column ≡ length (now (kinds .entry)))
+        × Goes (now (kinds .entry)) (now (square .entry)) (now (row .entry)) (now (out .entry)) (now (out .exit)) first s ⌝ }
 {
     let end = groups_end(kinds.len());
     let mut r = first;
@@ -180,7 +184,8 @@ fn read_row(out: &mut [u8], kinds: &[u8], square: &[u8], row: &[u8], first: Run)
 
 // As many codewords of a square as `out` has room for.
 fn read_rows(out: &mut [u8], kinds: &[u8], square: &[u8], side: usize, mask: usize)
-    requires { ⌜ Legible (now kinds) (now square) × (8 ≤ side) × (side ≤ 189) × (length (now square) ≡ side * side) × (8 * length (now out) ≤ length (dataBits (maskBit side mask) 0 (now kinds) (now square))) ⌝ }
+    requires { ⌜ Legible (now kinds) (now square) × (8 ≤ side) × (side ≤ 189) × (length (now square) ≡ side * side)
+        × (8 * length (now out) ≤ length (dataBits (maskBit side mask) 0 (now kinds) (now square))) ⌝ }
     ensures { λ _. ⌜ now (out .exit) ≡ codewordsOf (length (now (out .entry))) (dataBits (maskBit side mask) 0 (now (kinds .entry)) (now (square .entry))) ⌝ }
 {
     let mut table = [0u16; 576];
@@ -220,7 +225,8 @@ pub fn read_codewords(
 )
     requires { ⌜ Legible (now kinds) (now square) × (8 ≤ side) × (side ≤ 189) × (length (now square) ≡ side * side) ⌝ }
     requires { ⌜ (total ≤ length (now out)) × (8 * total ≤ length (dataBits (maskBit side mask) 0 (now kinds) (now square))) ⌝ }
-    ensures { λ _. ⌜ now (out .exit) ≡ codewordsOf total (dataBits (maskBit side mask) 0 (now (kinds .entry)) (now (square .entry))) ++ drop total (now (out .entry)) ⌝ }
+    ensures { λ _. ⌜ now (out .exit) ≡ codewordsOf total (dataBits (maskBit side mask) 0 (now (kinds .entry)) (now (square .entry))) ++ drop total
+        (now (out .entry)) ⌝ }
 {
     read_rows(&mut out[..total], kinds, square, side, mask);
 }

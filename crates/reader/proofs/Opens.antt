@@ -11,7 +11,8 @@ use Rattle.information.specs.declared.NearestInfo.the-variants.{Nearest, NoVers
 use Rattle.information.specs.Information.{isInfo, copyOf, NearestAnswer, nearestOf, nearestAnswer}
 use Rattle.block_table.specs.Blocks.{hasBlocks}
 use Rattle.marks.specs.Receipt.{refusalReceipt}
-use Rattle.marks.specs.Read.{Reading, readingOf, refused, firstRefusal, unless, areModules, distanceIn, readRefusal, knownRefusal, bodyOf, withReceipt, readOf, readKnownOf, nearestIn}
+use Rattle.marks.specs.Read.{Reading, readingOf, refused, firstRefusal, unless, areModules, distanceIn, readRefusal, knownRefusal, bodyOf}
+use Rattle.marks.specs.Read.{withReceipt, readOf, readKnownOf, nearestIn}
 use Rattle.marks.proofs.Refusals.{true-unless, unless-true, unless-false, first-skips, first-takes, first-left, first-none, eqb-fact}
 use Rattle.marks.proofs.Modules.{modules-below, nearest-bits}
 use Rattle.marks.proofs.Marks.{ranges, version-is}
@@ -48,7 +49,11 @@ small-first x y h k = elim (ℕ-discrete x 0) [
 
 pub early-small : (sq : List ℕ) (side n : ℕ) → n ≡ firstRefusal (unless (eqb (length sq) (side * side)) 2 ∷ unless (areModules sq) 3 ∷ []) → n < 256
 early-small sq side n e =
-    omega (arith, small-first (unless (eqb (length sq) (side * side)) 2) (unless (areModules sq) 3) (small-unless (eqb (length sq) (side * side)) 2 (omega arith)) (small-unless (areModules sq) 3 (omega arith)))
+    omega (
+      arith,
+      small-first (unless (eqb (length sq) (side * side)) 2) (unless (areModules sq) 3)
+          (small-unless (eqb (length sq) (side * side)) 2 (omega arith)) (small-unless (areModules sq) 3 (omega arith)),
+    )
 
 -- what is left when only the blocks can refuse
 module _ (m : Mark) (sq p s r : List ℕ) (n : ℕ) (h : length r ≡ 12) (e : n ≡ firstRefusal (unless (hasBlocks (m .version) (m .level)) 1 ∷ [])) where
@@ -57,7 +62,8 @@ module _ (m : Mark) (sq p s r : List ℕ) (n : ℕ) (h : length r ≡ 12) (e : n
 
   by-blocks : (b : Bool) → hasBlocks (m .version) (m .level) ≡ b → cond b body (refused 1 p s) ≡ withReceipt r p s n body
   unfolding firstRefusal
-  by-blocks true f = sym (in-body r p s n body h (e ∙ first-skips (unless (hasBlocks (m .version) (m .level)) 1) [] (unless-true (hasBlocks (m .version) (m .level)) 1 f)))
+  by-blocks true f = sym (in-body r p s n body h (e ∙ first-skips (unless (hasBlocks (m .version) (m .level)) 1) []
+      (unless-true (hasBlocks (m .version) (m .level)) 1 f)))
   by-blocks false f =
       let u : unless (hasBlocks (m .version) (m .level)) 1 ≡ 1 = unless-false (hasBlocks (m .version) (m .level)) 1 f in
       in-refusal r p s n 1 body h (e ∙ first-takes (unless (hasBlocks (m .version) (m .level)) 1) [] (λ z. omega (arith, u)) ∙ u) (λ z. omega arith)
@@ -231,7 +237,8 @@ module _ (sq : List ℕ) (side : ℕ) (p s r : List ℕ) where
             pub read-far : 10 < m .distance → (n′ : ℕ) (r′ : List ℕ) → (n′ ≡ 4) × (r′ ≡ refusalReceipt 4) → readingOf n′ r′ p s ≡ reading
             unfolding readOf readRefusal refused
             read-far d n′ r′ e =
-                let u : unless (leb (distanceIn v sq) 10) 4 ≡ 4 = unless-false (leb (distanceIn v sq) 10) 4 (lt-leb (distanceIn v sq) 10 (omega (arith, nearest .distance))) in
+                let u : unless (leb (distanceIn v sq) 10) 4 ≡ 4 = unless-false (leb (distanceIn v sq) 10) 4
+                (lt-leb (distanceIn v sq) 10 (omega (arith, nearest .distance))) in
                 (λ i. readingOf (e .0 i) (e .1 i) p s)
                 ∙ in-refusal r p s _ 4 _ h
                 (first-skips (unless (isSide side) 1) _ no-first ∙ two-skipped sized moduled n _ en z .2

@@ -56,7 +56,8 @@ fn finish_in(
     receipt: &mut [u8],
 ) -> usize
     requires { ⌜ Fitting m (now square) × (length (now receipt) ≡ 12) × (sideOf (m .version) * sideOf (m .version) ≤ length (now kinds)) ⌝ }
-    ensures { λ r. ⌜ readingOf r (now (receipt .exit)) (now (payload .exit)) (now (script .exit)) ≡ bodyOr1 m (now (square .entry)) (now (payload .entry)) (now (script .entry)) ⌝ }
+    ensures { λ r. ⌜ readingOf r (now (receipt .exit)) (now (payload .exit)) (now (script .exit))
+        ≡ bodyOr1 m (now (square .entry)) (now (payload .entry)) (now (script .entry)) ⌝ }
 {
     let t = telling::tell(kinds, square, m, payload, script);
     let number = t.number;
@@ -102,7 +103,8 @@ fn read_square_in(
     receipt: &mut [u8],
 ) -> usize
     requires { ⌜ Roomy (now square) (now kinds) ⌝ }
-    ensures { λ r. ⌜ readingOf r (now (receipt .exit)) (now (payload .exit)) (now (script .exit)) ≡ readOf (now (square .entry)) side (now (payload .entry)) (now (script .entry)) (now (receipt .entry)) ⌝ }
+    ensures { λ r. ⌜ readingOf r (now (receipt .exit)) (now (payload .exit)) (now (script .exit))
+        ≡ readOf (now (square .entry)) side (now (payload .entry)) (now (script .entry)) (now (receipt .entry)) ⌝ }
 {
     if receipt.len() != 12 {
         return 2;
@@ -131,7 +133,8 @@ fn read_known_in(
     receipt: &mut [u8],
 ) -> usize
     requires { ⌜ Roomy (now square) (now kinds) × (m .distance ≡ 0) ⌝ }
-    ensures { λ r. ⌜ readingOf r (now (receipt .exit)) (now (payload .exit)) (now (script .exit)) ≡ readKnownOf (now (square .entry)) (m .version) (m .level) (m .mask) (now (payload .entry)) (now (script .entry)) (now (receipt .entry)) ⌝ }
+    ensures { λ r. ⌜ readingOf r (now (receipt .exit)) (now (payload .exit)) (now (script .exit))
+        ≡ readKnownOf (now (square .entry)) (m .version) (m .level) (m .mask) (now (payload .entry)) (now (script .entry)) (now (receipt .entry)) ⌝ }
 {
     if receipt.len() != 12 {
         return 2;
@@ -155,7 +158,8 @@ pub fn read_square(
     script: &mut [u8],
     receipt: &mut [u8],
 ) -> usize
-    ensures { λ r. ⌜ readingOf r (now (receipt .exit)) (now (payload .exit)) (now (script .exit)) ≡ readOf (now (square .entry)) side (now (payload .entry)) (now (script .entry)) (now (receipt .entry)) ⌝ }
+    ensures { λ r. ⌜ readingOf r (now (receipt .exit)) (now (payload .exit)) (now (script .exit))
+        ≡ readOf (now (square .entry)) side (now (payload .entry)) (now (script .entry)) (now (receipt .entry)) ⌝ }
 {
     if square.len() <= 1681 {
         let mut kinds = [0u8; 1681];
@@ -179,7 +183,8 @@ pub fn read_known(
     script: &mut [u8],
     receipt: &mut [u8],
 ) -> usize
-    ensures { λ r. ⌜ readingOf r (now (receipt .exit)) (now (payload .exit)) (now (script .exit)) ≡ readKnownOf (now (square .entry)) version level mask (now (payload .entry)) (now (script .entry)) (now (receipt .entry)) ⌝ }
+    ensures { λ r. ⌜ readingOf r (now (receipt .exit)) (now (payload .exit)) (now (script .exit))
+        ≡ readKnownOf (now (square .entry)) version level mask (now (payload .entry)) (now (script .entry)) (now (receipt .entry)) ⌝ }
 {
     let m = Mark {
         version: version,

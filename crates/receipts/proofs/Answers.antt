@@ -19,7 +19,8 @@ answers-read a p s n t e f g h k =
       zero = λ z. g;
     })
 
-pub answers-refused : (k : ℕ) (b a : Answer) (n : ℕ) (t : Told) → a ≡ b → ((p s : List ℕ) → dataOutcome b p s ≡ refusedData k p s) → (k ≡ 0 → ⊥) → Refuses k t → Answers a n t
+pub answers-refused : (k : ℕ) (b a : Answer) (n : ℕ) (t : Told) → a ≡ b → ((p s : List ℕ) → dataOutcome b p s ≡ refusedData k p s) → (k ≡ 0 → ⊥)
+    → Refuses k t → Answers a n t
 answers-refused k b a n t e f d R =
     subst (λ (b : Answer). Answers b n t) (sym e)
     (record {

@@ -138,8 +138,10 @@ fn tell_data(
     payload: &mut [u8],
     script: &mut [u8],
 ) -> Told
-    requires { ⌜ (length (now row) ≡ 9) × (totalSize (shapes (now row)) ≤ length (now stream)) × (totalData (shapes (now row)) ≤ length (now «data»)) × (totalData (shapes (now row)) ≤ 3886) × (count < 65536) ⌝ }
-    ensures { λ r. ⌜ Tells count (fromData (dataParts (shapes (now (row .entry))) (cut (shapes (now (row .entry))) (now (stream .entry)))) (now (payload .entry)) (now (script .entry))) r (now (payload .exit)) (now (script .exit)) ⌝ }
+    requires { ⌜ (length (now row) ≡ 9) × (totalSize (shapes (now row)) ≤ length (now stream)) × (totalData (shapes (now row)) ≤ length (now «data»))
+        × (totalData (shapes (now row)) ≤ 3886) × (count < 65536) ⌝ }
+    ensures { λ r. ⌜ Tells count (fromData (dataParts (shapes (now (row .entry))) (cut (shapes (now (row .entry))) (now (stream .entry))))
+        (now (payload .entry)) (now (script .entry))) r (now (payload .exit)) (now (script .exit)) ⌝ }
 {
     let n = blocks::gather_data(data, stream, row);
     told_of(
@@ -158,7 +160,8 @@ pub fn tell_segments(
     script: &mut [u8],
 ) -> Told
     requires { ⌜ (length (now row) ≡ 9) × (totalSize (shapes (now row)) ≤ length (now stream)) × (totalData (shapes (now row)) ≤ 3886) × (count < 65536) ⌝ }
-    ensures { λ r. ⌜ Tells count (fromData (dataParts (shapes (now (row .entry))) (cut (shapes (now (row .entry))) (now (stream .entry)))) (now (payload .entry)) (now (script .entry))) r (now (payload .exit)) (now (script .exit)) ⌝ }
+    ensures { λ r. ⌜ Tells count (fromData (dataParts (shapes (now (row .entry))) (cut (shapes (now (row .entry))) (now (stream .entry))))
+        (now (payload .entry)) (now (script .entry))) r (now (payload .exit)) (now (script .exit)) ⌝ }
 {
     if blocks::data_length(row) <= 155 {
         let mut data = [0u8; 155];

@@ -114,7 +114,8 @@ module _ (poly : ℕ) (P : Passes poly) (first n : ℕ) (small : n ≤ 255) (f :
   also-roots true i l h o z r = r
   also-roots false i l h o z r = (h, o, z (λ t. t), r)
 
-  places-roots : (i : ℕ) (xs ys : List ℕ) → i + length xs ≤ n → ((k : ℕ) → k < length xs → getD xs k 0 ≢ getD ys k 0 → Zero (i + k)) → Roots poly P first n small f m (places i xs ys)
+  places-roots : (i : ℕ) (xs ys : List ℕ) → i + length xs ≤ n → ((k : ℕ) → k < length xs → getD xs k 0 ≢ getD ys k 0 → Zero (i + k))
+      → Roots poly P first n small f m (places i xs ys)
   unfolding places Roots
   places-roots i [] ys h z = tt
   places-roots i (x ∷ xs) [] h z = tt

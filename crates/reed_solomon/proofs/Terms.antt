@@ -54,7 +54,8 @@ module _ (poly : ℕ) (P : Passes poly) (f : List ℕ) (l : ℕ) (bytes : Bytes 
   further d k terms T i u =
       ap (λ (x : ℕ). mul poly x (power poly (k * (l - i)))) (T .are i u)
       ∙ mul-assoc poly P (seq f i) (power poly (d * (l - i))) (power poly (k * (l - i)))
-      ∙ ap (mul poly (seq f i)) (mul-power poly P (d * (l - i)) (k * (l - i)) ∙ (let e : d * (l - i) + k * (l - i) ≡ (d + k) * (l - i) = omega arith in ap (power poly) e))
+      ∙ ap (mul poly (seq f i)) (mul-power poly P (d * (l - i)) (k * (l - i))
+      ∙ (let e : d * (l - i) + k * (l - i) ≡ (d + k) * (l - i) = omega arith in ap (power poly) e))
 
   pub terms-next : (d k : ℕ) (terms terms′ : List ℕ) → Terms poly f l d terms → Each (carried poly l k) (suc l) terms terms′ → Terms poly f l (d + k) terms′
   terms-next d k terms terms′ T E = record { size = E .size ∙ T .size; are = λ i u. E .done i (omega arith) ∙ further d k terms T i u }

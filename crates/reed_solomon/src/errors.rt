@@ -28,7 +28,8 @@ fn folded(n: usize, l: usize) -> usize
 fn add_term(field: &[u16; 1280], v: Four, t: u8, n: usize, l: usize) -> Four
     requires { ⌜ Field (now field) ⌝ }
     requires { ⌜ (n ≤ l) × (l ≤ 127) ⌝ }
-    ensures { λ r. ⌜ (r .a ≡ v .a ⊕ t) × (r .b ≡ v .b ⊕ shifted (polyOf (now (field .entry))) n 1 t) × (r .c ≡ v .c ⊕ shifted (polyOf (now (field .entry))) n 2 t) × (r .d ≡ v .d ⊕ shifted (polyOf (now (field .entry))) n 3 t) ⌝ }
+    ensures { λ r. ⌜ (r .a ≡ v .a ⊕ t) × (r .b ≡ v .b ⊕ shifted (polyOf (now (field .entry))) n 1 t)
+        × (r .c ≡ v .c ⊕ shifted (polyOf (now (field .entry))) n 2 t) × (r .d ≡ v .d ⊕ shifted (polyOf (now (field .entry))) n 3 t) ⌝ }
 {
     let b = field::raised(field, t, n);
     let c = field::raised(field, t, 2 * n);
@@ -45,7 +46,8 @@ fn add_term(field: &[u16; 1280], v: Four, t: u8, n: usize, l: usize) -> Four
 fn step(field: &[u16; 1280], terms: &mut [u8], l: usize) -> Four
     requires { ⌜ Field (now field) ⌝ }
     requires { ⌜ (l ≤ 127) × (l < length (now terms)) ⌝ }
-    ensures { λ v. ⌜ Sums (polyOf (now (field .entry))) l (now (terms .entry)) (suc l) (v .a) (v .b) (v .c) (v .d) × Each (carried (polyOf (now (field .entry))) l 4) (suc l) (now (terms .entry)) (now (terms .exit)) ⌝ }
+    ensures { λ v. ⌜ Sums (polyOf (now (field .entry))) l (now (terms .entry)) (suc l) (v .a) (v .b) (v .c) (v .d)
+        × Each (carried (polyOf (now (field .entry))) l 4) (suc l) (now (terms .entry)) (now (terms .exit)) ⌝ }
 {
     let mut v = Four {
         a: 0,
@@ -120,7 +122,8 @@ pub struct Quotient {
 fn last(field: &[u16; 1280], q: Quotient, a: u8, s: u8, d: usize) -> Fraction
     requires { ⌜ Field (now field) ⌝ }
     requires { ⌜ d ≤ 255 ⌝ }
-    ensures { λ r. ⌜ (r .num ≡ q .num ⊕ mul (polyOf (now (field .entry))) (stepped (polyOf (now (field .entry))) d a (q .m)) s) × (r .den ≡ stepped (polyOf (now (field .entry))) d (stepped (polyOf (now (field .entry))) d a (q .m)) (q .den)) ⌝ }
+    ensures { λ r. ⌜ (r .num ≡ q .num ⊕ mul (polyOf (now (field .entry))) (stepped (polyOf (now (field .entry))) d a (q .m)) s)
+        × (r .den ≡ stepped (polyOf (now (field .entry))) d (stepped (polyOf (now (field .entry))) d a (q .m)) (q .den)) ⌝ }
 {
     let m = field::raised(field, q.m, d) ^ a;
     let den = field::raised(field, q.den, d) ^ m;
@@ -146,7 +149,8 @@ fn next_two(field: &[u16; 1280], q: Quotient, a: u8, b: u8, s: u8, t: u8, d: usi
 fn divided(field: &[u16; 1280], s: &[u8], f: &[u8], l: usize, d: usize) -> Fraction
     requires { ⌜ Field (now field) ⌝ }
     requires { ⌜ (l ≤ length (now s)) × (l ≤ length (now f)) × (d ≤ 255) ⌝ }
-    ensures { λ r. ⌜ (r .num ≡ numerator (polyOf (now (field .entry))) (now (s .entry)) (now (f .entry)) l d) × (r .den ≡ denominator (polyOf (now (field .entry))) (now (f .entry)) l d) ⌝ }
+    ensures { λ r. ⌜ (r .num ≡ numerator (polyOf (now (field .entry))) (now (s .entry)) (now (f .entry)) l d)
+        × (r .den ≡ denominator (polyOf (now (field .entry))) (now (f .entry)) l d) ⌝ }
 {
     let mut q = Quotient {
         m: 0,

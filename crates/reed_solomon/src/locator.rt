@@ -53,7 +53,8 @@ fn copy(dst: &mut [u8], src: &[u8], n: usize)
 fn grow(field: &[u16; 1280], f: &mut [u8], g: &mut [u8], q: u8, m: usize, top: usize)
     requires { ⌜ Field (now field) ⌝ }
     requires { ⌜ (length (now f) ≡ 256) × (length (now g) ≡ 256) × (top ≤ 256) × (m ≤ top) ⌝ }
-    ensures { λ _. ⌜ Each (added (polyOf (now (field .entry))) q m (now (g .entry))) top (now (f .entry)) (now (f .exit)) × Each (copied (now (f .entry))) top (now (g .entry)) (now (g .exit)) ⌝ }
+    ensures { λ _. ⌜ Each (added (polyOf (now (field .entry))) q m (now (g .entry))) top (now (f .entry)) (now (f .exit))
+        × Each (copied (now (f .entry))) top (now (g .entry)) (now (g .exit)) ⌝ }
 {
     let mut i = top;
     while m < i {

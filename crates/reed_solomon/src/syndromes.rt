@@ -56,7 +56,8 @@ pub struct Four {
 fn advance_four(field: &[u16; 1280], first: usize, s: &mut [u8], parity: usize, next: Four)
     requires { ⌜ Field (now field) ⌝ }
     requires { ⌜ (first + parity ≤ 64) × (parity ≤ length (now s)) ⌝ }
-    ensures { λ _. ⌜ Each (advanced (polyOf (now (field .entry))) first (next .a ∷ next .b ∷ next .c ∷ next .d ∷ [])) parity (now (s .entry)) (now (s .exit)) ⌝ }
+    ensures { λ _. ⌜ Each (advanced (polyOf (now (field .entry))) first (next .a ∷ next .b ∷ next .c ∷ next .d ∷ [])) parity (now (s .entry))
+        (now (s .exit)) ⌝ }
 {
     let mut j = 0;
     while j < parity {

@@ -120,5 +120,6 @@ module _ (poly : ℕ) (P : Passes poly) where
 
   pub zero-double : (x v : ℕ) (r : Register) → Zero poly x v r → Zero poly x (doubleOf poly 4 v) (doubledOf poly r)
   zero-double x v r z =
-      ap (λ (y : ℕ). behind poly x y (doubledOf poly r)) (ap (λ (y : ℕ). digits poly x y 4 (doubleOf poly 4 v)) (sym (mul-left-zero poly (power poly 1))) ∙ digits-double x 4 0 v)
+      ap (λ (y : ℕ). behind poly x y (doubledOf poly r)) (ap (λ (y : ℕ). digits poly x y 4 (doubleOf poly 4 v))
+      (sym (mul-left-zero poly (power poly 1))) ∙ digits-double x 4 0 v)
       ∙ behind-double x (digits poly x 0 4 v) r ∙ ap (λ (y : ℕ). mul poly y (power poly 1)) z ∙ mul-left-zero poly (power poly 1)

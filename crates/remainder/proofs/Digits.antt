@@ -25,17 +25,22 @@ module _ (poly : ℕ) (P : Passes poly) (x : ℕ) where
   digits-sum zero p q u w = refl
   digits-sum (suc n) p q u w =
       ap₂ bitXor
-      (ap (λ (y : ℕ). mul poly y x) (ap (digits poly x (bitXor p q) n) (xor-shr u w 8) ∙ digits-sum n p q (u / 256) (w / 256)) ∙ mul-sum poly P (digits poly x p n (u / 256)) (digits poly x q n (w / 256)) x)
+      (ap (λ (y : ℕ). mul poly y x) (ap (digits poly x (bitXor p q) n) (xor-shr u w 8) ∙ digits-sum n p q (u / 256) (w / 256))
+      ∙ mul-sum poly P (digits poly x p n (u / 256)) (digits poly x q n (w / 256)) x)
       (xor-mod u w 8)
       ∙ xor-swap (mul poly (digits poly x p n (u / 256)) x) (mul poly (digits poly x q n (w / 256)) x) (u % 256) (w % 256)
 
   pub behind-sum : (p q : ℕ) (r s : Register) → behind poly x (bitXor p q) (sumOf r s) ≡ bitXor (behind poly x p r) (behind poly x q s)
   unfolding behind
   behind-sum p q r s =
-      ap (λ (y : ℕ). digits poly x (digits poly x (digits poly x y 8 (bitXor (r .b) (s .b))) 8 (bitXor (r .c) (s .c))) 8 (bitXor (r .d) (s .d))) (digits-sum 8 p q (r .a) (s .a))
-      ∙ ap (λ (y : ℕ). digits poly x (digits poly x y 8 (bitXor (r .c) (s .c))) 8 (bitXor (r .d) (s .d))) (digits-sum 8 (digits poly x p 8 (r .a)) (digits poly x q 8 (s .a)) (r .b) (s .b))
-      ∙ ap (λ (y : ℕ). digits poly x y 8 (bitXor (r .d) (s .d))) (digits-sum 8 (digits poly x (digits poly x p 8 (r .a)) 8 (r .b)) (digits poly x (digits poly x q 8 (s .a)) 8 (s .b)) (r .c) (s .c))
-      ∙ digits-sum 8 (digits poly x (digits poly x (digits poly x p 8 (r .a)) 8 (r .b)) 8 (r .c)) (digits poly x (digits poly x (digits poly x q 8 (s .a)) 8 (s .b)) 8 (s .c)) (r .d) (s .d)
+      ap (λ (y : ℕ). digits poly x (digits poly x (digits poly x y 8 (bitXor (r .b) (s .b))) 8 (bitXor (r .c) (s .c))) 8 (bitXor (r .d) (s .d)))
+      (digits-sum 8 p q (r .a) (s .a))
+      ∙ ap (λ (y : ℕ). digits poly x (digits poly x y 8 (bitXor (r .c) (s .c))) 8 (bitXor (r .d) (s .d)))
+      (digits-sum 8 (digits poly x p 8 (r .a)) (digits poly x q 8 (s .a)) (r .b) (s .b))
+      ∙ ap (λ (y : ℕ). digits poly x y 8 (bitXor (r .d) (s .d))) (digits-sum 8 (digits poly x (digits poly x p 8 (r .a)) 8 (r .b))
+      (digits poly x (digits poly x q 8 (s .a)) 8 (s .b)) (r .c) (s .c))
+      ∙ digits-sum 8 (digits poly x (digits poly x (digits poly x p 8 (r .a)) 8 (r .b)) 8 (r .c))
+      (digits poly x (digits poly x (digits poly x q 8 (s .a)) 8 (s .b)) 8 (s .c)) (r .d) (s .d)
 
   -- the n bytes behind m others
   pub digits-split : (n m acc h l : ℕ) → l < 256 ^ m → digits poly x acc (n + m) (h * 256 ^ m + l) ≡ digits poly x (digits poly x acc n h) m l
@@ -66,7 +71,8 @@ module _ (poly : ℕ) (P : Passes poly) (x : ℕ) where
 
   -- zeros in front of m bytes
   pub digits-low : (n m v : ℕ) → v < 256 ^ m → digits poly x 0 (n + m) v ≡ digits poly x 0 m v
-  digits-low n m v h = let e : v ≡ 0 * 256 ^ m + v = omega arith in ap (digits poly x 0 (n + m)) e ∙ digits-split n m 0 0 v h ∙ ap (λ (y : ℕ). digits poly x y m v) (digits-none n)
+  digits-low n m v h = let e : v ≡ 0 * 256 ^ m + v = omega arith in ap (digits poly x 0 (n + m)) e ∙ digits-split n m 0 0 v h
+      ∙ ap (λ (y : ℕ). digits poly x y m v) (digits-none n)
 
   -- one byte more behind fewer than four
   pub digits-next : (v h : ℕ) → v < 16777216 → h < 256 → digits poly x 0 4 (v * 256 + h) ≡ bitXor (mul poly (digits poly x 0 4 v) x) h

@@ -35,7 +35,8 @@ module _ (at n : ℕ) (r : Register) (t₀ : List ℕ) where
   pub extended-start : Extended at n 0 r t₀ t₀
   extended-start = record { size = refl; new = λ f h. absurd (omega arith); below = λ m h. refl; above = λ m h. refl }
 
-  pub extended-next : (k : ℕ) (row new : Register) (t t′ : List ℕ) → Extended at n k r t₀ t → k < n → row ≡ rowAt t (at + k) → new ≡ sumOf row r → Put (at + n + k) new t t′
+  pub extended-next : (k : ℕ) (row new : Register) (t t′ : List ℕ) → Extended at n k r t₀ t → k < n → row ≡ rowAt t (at + k) → new ≡ sumOf row r
+      → Put (at + n + k) new t t′
       → Extended at n (k + 1) r t₀ t′
   extended-next k row new t t′ E h e s p = record {
     size = p .size ∙ E .size;
@@ -150,7 +151,8 @@ filled-next k g r n t t′ F h B S =
           let e : 4 * (2 * (k + 1)) ≡ 4 * (2 * k) + 8 = omega arith in
           let v = 2 ^ (4 * (2 * k)) in
           rw (e, pow-add 2 (4 * (2 * k)) 8)
-          (ap (λ (a : ℕ). behind 0x163 x a n) (ap (digits 0x163 x 0 4) (sym (add-zero (v * 256))) ∙ digits-next 0x163 (passes 0x163 passes-163) x v 0 (small k (omega arith)) (omega arith))
+          (ap (λ (a : ℕ). behind 0x163 x a n) (ap (digits 0x163 x 0 4) (sym (add-zero (v * 256)))
+          ∙ digits-next 0x163 (passes 0x163 passes-163) x v 0 (small k (omega arith)) (omega arith))
           ∙ S .shifts 0x163 x (digits 0x163 x 0 4 v) passes-163 (λ i f a b. row x z i f (omega arith) b) (F .next x z h));
     }
   where

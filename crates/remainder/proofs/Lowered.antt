@@ -26,7 +26,8 @@ unfolding digits horner
 digits-horner poly x f m zero w h = ap (horner poly f x) (sym (add-zero m))
 digits-horner poly x f m (suc n) w h =
     let o : m + suc n ≡ suc (m + n) = omega arith in
-    let last : f (m + n) ≡ w % 256 = h n (omega arith) ∙ (let e : 8 * (suc n - suc n) ≡ 0 = omega arith in let q : w / 1 ≡ w = omega arith in ap (λ (k : ℕ). w / 2 ^ k % 256) e ∙ ap (λ (y : ℕ). y % 256) q) in
+    let last : f (m + n) ≡ w % 256 = h n (omega arith) ∙ (let e : 8 * (suc n - suc n) ≡ 0 = omega arith in let q : w / 1 ≡ w = omega arith in
+    ap (λ (k : ℕ). w / 2 ^ k % 256) e ∙ ap (λ (y : ℕ). y % 256) q) in
     ap₂ (λ (y z : ℕ). mul poly y x ⊕ z)
     (digits-horner poly x f m n (w / 256) (λ k l. h k (omega arith) ∙ (let e : 8 * (suc n - suc k) ≡ 8 + 8 * (n - suc k) = omega arith in
     ap (λ (i : ℕ). w / 2 ^ i % 256) e ∙ ap (λ (y : ℕ). y % 256) (sym (shr-shr w 8 (8 * (n - suc k))))))) (sym last)
@@ -75,12 +76,14 @@ module _ (poly : ℕ) (P : Passes poly) (m : ℕ) where
       let d = digits poly (power poly m) in
       let p = power poly (8 * m) in
       let lt : (a : ℕ) → mul poly a p < 256 = λ a. mul-lt poly P a p in
-      let two : (a b : ℕ) → mul poly (mul poly e (power poly a)) (power poly b) ≡ mul poly e (power poly (a + b)) = λ a b. mul-assoc poly P e (power poly a) (power poly b) ∙ ap (mul poly e) (mul-power poly P a b) in
+      let two : (a b : ℕ) → mul poly (mul poly e (power poly a)) (power poly b) ≡ mul poly e (power poly (a + b)) =
+      λ a b. mul-assoc poly P e (power poly a) (power poly b) ∙ ap (mul poly e) (mul-power poly P a b) in
       let o : 8 * m + 8 * m + 8 * m + 8 * m ≡ 32 * m = omega arith in
       ap (λ (y : ℕ). d (d (d y 8 0) 8 0) 8 0) (digits-zeros e 8 h)
       ∙ ap (λ (y : ℕ). d (d y 8 0) 8 0) (digits-zeros (mul poly e p) 8 (lt e) ∙ two (8 * m) (8 * m))
       ∙ ap (λ (y : ℕ). d y 8 0) (digits-zeros (mul poly e (power poly (8 * m + 8 * m))) 8 (mul-lt poly P e (power poly (8 * m + 8 * m))) ∙ two (8 * m + 8 * m) (8 * m))
-      ∙ digits-zeros (mul poly e (power poly (8 * m + 8 * m + 8 * m))) 8 (mul-lt poly P e (power poly (8 * m + 8 * m + 8 * m))) ∙ two (8 * m + 8 * m + 8 * m) (8 * m) ∙ ap (λ (k : ℕ). mul poly e (power poly k)) o
+      ∙ digits-zeros (mul poly e (power poly (8 * m + 8 * m + 8 * m))) 8 (mul-lt poly P e (power poly (8 * m + 8 * m + 8 * m)))
+      ∙ two (8 * m + 8 * m + 8 * m) (8 * m) ∙ ap (λ (k : ℕ). mul poly e (power poly k)) o
 
   -- a value in front of a register
   pub behind-from : (e : ℕ) (r : Register) → e < 256 → behind poly (power poly m) e r ≡ bitXor (mul poly e (power poly (32 * m))) (behind poly (power poly m) 0 r)
@@ -121,7 +124,8 @@ horner-zeros poly P m f k (suc n) bs z =
     let q : n * m + m ≡ suc n * m = omega (arith, suc-mul n m) in
     ap (horner poly f x) o
     ∙ ap₂ (λ (y w : ℕ). mul poly y x ⊕ w) (horner-zeros poly P m f k n bs (λ i a b. z i a (omega arith))) (z (k + n) (omega arith) (omega arith))
-    ∙ xor-zero-r (mul poly (mul poly h (power poly (n * m))) x) ∙ mul-assoc poly P h (power poly (n * m)) x ∙ ap (mul poly h) (mul-power poly P (n * m) m ∙ ap (power poly) q)
+    ∙ xor-zero-r (mul poly (mul poly h (power poly (n * m))) x) ∙ mul-assoc poly P h (power poly (n * m)) x
+    ∙ ap (mul poly h) (mul-power poly P (n * m) m ∙ ap (power poly) q)
 
 -- the value of a block out of the first k bytes of its remainder
 lowered-kept : (poly : ℕ) → Passes poly → (m e k : ℕ) (r : Register) → e < 256 → Kept r k → behind poly (power poly m) e r ≡ 0
@@ -133,7 +137,8 @@ lowered-kept poly P m e k r l K z =
     let q : (32 - k) * m + 223 * m ≡ (255 - k) * m = sym (add-mul (32 - k) 223 m) ∙ ap (λ (n : ℕ). n * m) (let w : 32 - k + 223 ≡ 255 - k = omega (arith, K .few) in w) in
     lowered poly P m e r l z
     ∙ ap (λ (y : ℕ). mul poly y (power poly (223 * m)))
-    (behind-horner poly x r ∙ ap (horner poly (byteAt r) x) (sym o) ∙ horner-zeros poly P m (byteAt r) k (32 - k) (λ i. omega arith) (λ i a b. K .zeros i a (omega (arith, K .few))))
+    (behind-horner poly x r ∙ ap (horner poly (byteAt r) x) (sym o)
+    ∙ horner-zeros poly P m (byteAt r) k (32 - k) (λ i. omega arith) (λ i a b. K .zeros i a (omega (arith, K .few))))
     ∙ mul-assoc poly P h (power poly ((32 - k) * m)) (power poly (223 * m)) ∙ ap (mul poly h) (mul-power poly P ((32 - k) * m) (223 * m) ∙ ap (power poly) q)
 
 pub reduced-power : (poly : ℕ) → Passes poly → (n : ℕ) → power poly (n % 255) ≡ power poly n
@@ -163,7 +168,12 @@ pub leaves : (Root : ℕ → Type 0) (parity k : ℕ) (block : List ℕ) (r : Re
     → ((i : ℕ) → seq block i < 256) → Left Root k block r → Leaves parity k block r
 leaves Root parity k block r roots h bs L = record {
   remains = λ T. record {
-    byte = λ j l. omega (arith, eval-horner 0x163 (power 0x163 (1 + j)) (take k block), horner-lt 0x163 (passes 0x163 passes-163) (seq (take k block)) (power 0x163 (1 + j)) (length (take k block)) bytes);
+    byte = λ j l. omega (
+      arith,
+      eval-horner 0x163 (power 0x163 (1 + j)) (take k block),
+      horner-lt 0x163 (passes 0x163 passes-163) (seq (take k block))
+          (power 0x163 (1 + j)) (length (take k block)) bytes,
+    );
     zero-at = λ j l. L .zero-at (power 0x163 (1 + j)) (roots T j l);
   };
 }

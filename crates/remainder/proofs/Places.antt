@@ -34,8 +34,10 @@ module _ (t : List ℕ) (n : ℕ) (r : Register) (fits : 4 * n + 4 ≤ length t)
       record {
         size = simp length-set;
         here = register-eq
-            (getD-set-other t₃ (p₀ + 3) p₀ (r .d) 0 (λ e. omega arith) ∙ getD-set-other t₂ (p₀ + 2) p₀ (r .c) 0 (λ e. omega arith) ∙ getD-set-other t₁ (p₀ + 1) p₀ (r .b) 0 (λ e. omega arith) ∙ getD-set-same t p₀ (r .a) 0 (omega arith))
-            (getD-set-other t₃ (p₀ + 3) (p₀ + 1) (r .d) 0 (λ e. omega arith) ∙ getD-set-other t₂ (p₀ + 2) (p₀ + 1) (r .c) 0 (λ e. omega arith) ∙ getD-set-same t₁ (p₀ + 1) (r .b) 0 (omega arith))
+            (getD-set-other t₃ (p₀ + 3) p₀ (r .d) 0 (λ e. omega arith) ∙ getD-set-other t₂ (p₀ + 2) p₀ (r .c) 0 (λ e. omega arith)
+            ∙ getD-set-other t₁ (p₀ + 1) p₀ (r .b) 0 (λ e. omega arith) ∙ getD-set-same t p₀ (r .a) 0 (omega arith))
+            (getD-set-other t₃ (p₀ + 3) (p₀ + 1) (r .d) 0 (λ e. omega arith) ∙ getD-set-other t₂ (p₀ + 2) (p₀ + 1) (r .c) 0 (λ e. omega arith)
+            ∙ getD-set-same t₁ (p₀ + 1) (r .b) 0 (omega arith))
             (getD-set-other t₃ (p₀ + 3) (p₀ + 2) (r .d) 0 (λ e. omega arith) ∙ getD-set-same t₂ (p₀ + 2) (r .c) 0 (omega arith))
             (getD-set-same t₃ (p₀ + 3) (r .d) 0 (omega arith));
         other = λ m d.

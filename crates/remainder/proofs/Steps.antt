@@ -87,10 +87,12 @@ eval-four poly x xs i v h bs e =
     let r₂ : v / 256 % 256 ≡ getD xs (i + 2) 0 = ap (λ (y : ℕ). y % 256) q₃ ∙ omega arith in
     let r₁ : v / 256 / 256 % 256 ≡ getD xs (i + 1) 0 = ap (λ (y : ℕ). y % 256) q₂ ∙ omega arith in
     let r₀ : v / 256 / 256 / 256 % 256 ≡ getD xs i 0 = ap (λ (y : ℕ). y % 256) q₁ ∙ omega arith in
-    let one : (a b : ℕ) (j n : ℕ) → n ≡ suc j → j < length xs → a ≡ evalFrom poly x 0 (take j xs) → b ≡ getD xs j 0 → bitXor (mul poly a x) b ≡ evalFrom poly x 0 (take n xs) =
+    let one : (a b : ℕ) (j n : ℕ) → n ≡ suc j → j < length xs → a ≡ evalFrom poly x 0 (take j xs) → b ≡ getD xs j 0
+    → bitXor (mul poly a x) b ≡ evalFrom poly x 0 (take n xs) =
     λ a b j n o l p q. ap₂ (λ (y z : ℕ). bitXor (mul poly y x) z) p q ∙ sym (eval-next poly x 0 xs j n o l) in
     one _ _ (i + 3) (i + 4) (omega arith) (omega arith)
-    (one _ _ (i + 2) (i + 3) (omega arith) (omega arith) (one _ _ (i + 1) (i + 2) (omega arith) (omega arith) (one _ _ i (i + 1) (omega arith) (omega arith) refl r₀) r₁) r₂) r₃
+    (one _ _ (i + 2) (i + 3) (omega arith) (omega arith) (one _ _ (i + 1) (i + 2) (omega arith) (omega arith)
+    (one _ _ i (i + 1) (omega arith) (omega arith) refl r₀) r₁) r₂) r₃
 
 pub front-none : (xs : List ℕ) → Front xs 0 0
 unfolding evalFrom
@@ -106,7 +108,8 @@ pub front-next : (xs : List ℕ) (i v b : ℕ) → Front xs i v → i < 3 → i 
 front-next xs i v b F h l e lb = record {
   small = omega (arith, F .small, ap (λ (n : ℕ). 256 ^ n) (add-one i) ∙ pow-up i);
   value = λ poly x T.
-      digits-next poly (passes poly T) x v b (front-small xs i v F h) lb ∙ ap₂ (λ (y z : ℕ). bitXor (mul poly y x) z) (F .value poly x T) e ∙ sym (eval-next poly x 0 xs i (i + 1) (omega arith) l);
+      digits-next poly (passes poly T) x v b (front-small xs i v F h) lb ∙ ap₂ (λ (y z : ℕ). bitXor (mul poly y x) z) (F .value poly x T) e
+      ∙ sym (eval-next poly x 0 xs i (i + 1) (omega arith) l);
 }
 
 pub front-lt : (xs : List ℕ) (i v : ℕ) → Front xs i v → i < 4 → v < 2 ^ 32
@@ -120,7 +123,8 @@ front-lt xs (suc (suc (suc (suc i)))) v F h = absurd (omega arith)
 pub empty-zero : (poly : ℕ) → Passes poly → (x : ℕ) → behind poly x 0 (record { a = 0; b = 0; c = 0; d = 0 }) ≡ 0
 unfolding behind
 empty-zero poly P x =
-    ap (λ (y : ℕ). digits poly x (digits poly x (digits poly x y 8 0) 8 0) 8 0) (digits-none poly P x 8) ∙ ap (λ (y : ℕ). digits poly x (digits poly x y 8 0) 8 0) (digits-none poly P x 8)
+    ap (λ (y : ℕ). digits poly x (digits poly x (digits poly x y 8 0) 8 0) 8 0) (digits-none poly P x 8)
+    ∙ ap (λ (y : ℕ). digits poly x (digits poly x y 8 0) 8 0) (digits-none poly P x 8)
     ∙ ap (λ (y : ℕ). digits poly x y 8 0) (digits-none poly P x 8) ∙ digits-none poly P x 8
 
 -- nothing read
@@ -128,27 +132,32 @@ pub left-none : (Root : ℕ → Type 0) (block : List ℕ) → Left Root 0 block
 unfolding evalFrom
 left-none Root block = record { zero-at = λ x R. empty-zero 0x163 (passes 0x163 passes-163) x }
 
-pub left-start : (t block : List ℕ) (m v : ℕ) (r : Register) → Front block m v → Keeps t v (record { a = 0; b = 0; c = 0; d = 0 }) r → Left (λ x. Rows 0x163 x t) m block r
+pub left-start : (t block : List ℕ) (m v : ℕ) (r : Register) → Front block m v → Keeps t v (record { a = 0; b = 0; c = 0; d = 0 }) r
+    → Left (λ x. Rows 0x163 x t) m block r
 left-start t block m v r F K = record {
   zero-at = λ x R. ap (λ (e : ℕ). behind 0x163 x e r) (sym (F .value 0x163 x (R .field))) ∙ K .keeps 0x163 x 0 R (empty-zero 0x163 (passes 0x163 (R .field)) x);
 }
 
 pub left-next : (t block : List ℕ) (i v : ℕ) (r n : Register) → Left (λ x. Rows 0x163 x t) i block r → i + 4 ≤ length block → ((j : ℕ) → getD block j 0 < 256)
-    → v ≡ getD block i 0 * 16777216 + getD block (i + 1) 0 * 65536 + getD block (i + 2) 0 * 256 + getD block (i + 3) 0 → Keeps t v r n → Left (λ x. Rows 0x163 x t) (i + 4) block n
+    → v ≡ getD block i 0 * 16777216 + getD block (i + 1) 0 * 65536 + getD block (i + 2) 0 * 256 + getD block (i + 3) 0 → Keeps t v r n
+    → Left (λ x. Rows 0x163 x t) (i + 4) block n
 left-next t block i v r n L h bs e K = record {
-  zero-at = λ x R. ap (λ (e : ℕ). behind 0x163 x e n) (sym (eval-four 0x163 x block i v h bs e)) ∙ K .keeps 0x163 x (evalFrom 0x163 x 0 (take i block)) R (L .zero-at x R);
+  zero-at = λ x R. ap (λ (e : ℕ). behind 0x163 x e n) (sym (eval-four 0x163 x block i v h bs e))
+      ∙ K .keeps 0x163 x (evalFrom 0x163 x 0 (take i block)) R (L .zero-at x R);
 }
 
 -- one byte more
 pub left-byte : (t block : List ℕ) (i v : ℕ) (r n : Register) → Left (λ x. ByteRows 0x163 x t) i block r → i < length block → v ≡ getD block i 0 → Shifts t v r n
     → Left (λ x. ByteRows 0x163 x t) (i + 1) block n
 left-byte t block i v r n L h e S = record {
-  zero-at = λ x R. ap (λ (a : ℕ). behind 0x163 x a n) (eval-next 0x163 x 0 block i (i + 1) (omega arith) h ∙ ap (bitXor (mul 0x163 (evalFrom 0x163 x 0 (take i block)) x)) (sym e))
+  zero-at = λ x R. ap (λ (a : ℕ). behind 0x163 x a n) (eval-next 0x163 x 0 block i (i + 1) (omega arith) h
+      ∙ ap (bitXor (mul 0x163 (evalFrom 0x163 x 0 (take i block)) x)) (sym e))
       ∙ S .shifts 0x163 x (evalFrom 0x163 x 0 (take i block)) passes-163 R (L .zero-at x R);
 }
 
 -- four bytes leave a register, v comes in, and the rows of their sum y are added
-pub step-on : (t : List ℕ) (v y : ℕ) (r m n : Register) → r .b < 2 ^ 64 → r .c < 2 ^ 64 → r .d < 2 ^ 64 → m ≡ movedOf 4 4 r → Adds t y m n → y ≡ bitXor (r .a / 2 ^ 32) v → Keeps t v r n
+pub step-on : (t : List ℕ) (v y : ℕ) (r m n : Register) → r .b < 2 ^ 64 → r .c < 2 ^ 64 → r .d < 2 ^ 64 → m ≡ movedOf 4 4 r → Adds t y m n
+    → y ≡ bitXor (r .a / 2 ^ 32) v → Keeps t v r n
 step-on t v y r m n lb lc ld moved A is = record {
   keeps = λ poly x e R z. let h = r .a / 2 ^ 32 in
       ap (λ (a : ℕ). behind poly x (digits poly x e 4 a) n) (sym (ap (bitXor h) is ∙ back h v))

@@ -113,7 +113,8 @@ pub fn wide(x: u8) -> u64
 // The four bytes from the place i on as one number.
 pub fn four(s: &[u8], i: usize) -> u64
     requires { ⌜ i + 4 ≤ length (now s) ⌝ }
-    ensures { λ r. ⌜ (r ≡ getD (now (s .entry)) i 0 * 16777216 + getD (now (s .entry)) (i + 1) 0 * 65536 + getD (now (s .entry)) (i + 2) 0 * 256 + getD (now (s .entry)) (i + 3) 0) × (r < 2 ^ 32) ⌝ }
+    ensures { λ r. ⌜ (r ≡ getD (now (s .entry)) i 0 * 16777216 + getD (now (s .entry)) (i + 1) 0 * 65536 + getD (now (s .entry)) (i + 2) 0 * 256
+        + getD (now (s .entry)) (i + 3) 0) × (r < 2 ^ 32) ⌝ }
 {
     wide(s[i]) * 16777216 + wide(s[i + 1]) * 65536 + wide(s[i + 2]) * 256 + wide(s[i + 3])
 }

@@ -231,7 +231,8 @@ pub fn bytes(r: Register) -> [u8; 32]
 fn lower(field: &[u16; 1280], first: usize, s: &mut [u8], parity: usize, n: usize)
     requires { ⌜ Field (now field) ⌝ }
     requires { ⌜ (first ≤ 255) × (parity ≤ 256) × (n ≤ 255) × (parity ≤ length (now s)) ⌝ }
-    ensures { λ _. ⌜ Each (λ j x. mul (polyOf (now (field .entry))) x (power (polyOf (now (field .entry))) (n * (first + j)))) parity (now (s .entry)) (now (s .exit)) ⌝ }
+    ensures { λ _. ⌜ Each (λ j x. mul (polyOf (now (field .entry))) x (power (polyOf (now (field .entry))) (n * (first + j)))) parity (now (s .entry))
+        (now (s .exit)) ⌝ }
 {
     let mut j: usize = 0;
     while j < parity {
@@ -245,7 +246,8 @@ pub fn syndromes(field: &[u16; 1280], first: usize, r: Register, parity: usize, 
     requires { ⌜ Field (now field) ⌝ }
     requires { ⌜ (first ≤ 255) × (first + parity ≤ 256) ⌝ }
     requires { ⌜ (length (now s) ≡ 256) × ((i : ℕ) → getD (now s) i 0 ≡ 0) ⌝ }
-    ensures { λ _. ⌜ ((block : List ℕ) → Remains (polyOf (now (field .entry))) first parity block r → Syndromes (polyOf (now (field .entry))) first parity block (now (s .exit))) ⌝ }
+    ensures { λ _. ⌜ ((block : List ℕ) → Remains (polyOf (now (field .entry))) first parity block r
+        → Syndromes (polyOf (now (field .entry))) first parity block (now (s .exit))) ⌝ }
 {
     let b = bytes(r);
     let k = kept(r);

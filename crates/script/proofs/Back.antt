@@ -6,15 +6,18 @@ use Rattle.bits.specs.Bits.{lowBits, value, words, wordBits}
 use Rattle.bits.proofs.Words.{length-low, low-back, length-words, words-back}
 use Rattle.segments.specs.Script.{Segment, run, eci}
 use Rattle.segments.specs.FromData.{isBroken}
-use Rattle.segments.specs.Segments.{Result, got, inBits, numericOf, textOf, bytesMode, regionOf, doubleByteOf, fourBytes, fourByteOf, eciValue, eciOf, bytesOfMode, segmentOf, Parsed, following, parse}
-use Rattle.script.specs.Writer.{all, numericWords, textWords, regionWords, doubleWords, fourCode, same, inFour, eciBits, modeHas, modeBits, has, encodingOf, allHave, encodings}
+use Rattle.segments.specs.Segments.{Result, got, inBits, numericOf, textOf, bytesMode, regionOf, doubleByteOf, fourBytes, fourByteOf, eciValue}
+use Rattle.segments.specs.Segments.{eciOf, bytesOfMode, segmentOf, Parsed, following, parse}
+use Rattle.script.specs.Writer.{all, numericWords, textWords, regionWords, doubleWords, fourCode, same, inFour, eciBits, modeHas, modeBits}
+use Rattle.script.specs.Writer.{has, encodingOf, allHave, encodings}
 use Rattle.script.proofs.Tests.{both, same-is}
 use Rattle.script.proofs.Digits.{numeric-back, numeric-small}
 use Rattle.script.proofs.Characters.{text-back, text-small, region-back, region-small, double-back, double-small, bytes-back}
 
 -- ---- the modes in bits
 
-word-mode : (w : ℕ) (f : List ℕ → Result (List ℕ)) (ws bs rest : List ℕ) → 0 < w → ((i : ℕ) → getD ws i 0 < 2 ^ w) → f (ws ++ words w rest) ≡ got bs (length ws)
+word-mode : (w : ℕ) (f : List ℕ → Result (List ℕ)) (ws bs rest : List ℕ) → 0 < w → ((i : ℕ) → getD ws i 0 < 2 ^ w)
+    → f (ws ++ words w rest) ≡ got bs (length ws)
     → inBits w (f (words w (wordBits w ws ++ rest))) ≡ got bs (length (wordBits w ws))
 word-mode w f ws bs rest p h e = rw (words-back w ws rest p h, e, length-words w ws)
 
@@ -29,8 +32,20 @@ unfolding bytesMode
 bytes-mode-back bs rest l h =
     let y : List ℕ = wordBits 8 bs ++ rest in
     let k : 13 ≤ length (lowBits 13 (length bs) ++ y) = omega (arith, length-append (lowBits 13 (length bs)) y, length-low 13 (length bs)) in
-    let n : length (lowBits 13 (length bs) ++ wordBits 8 bs) ≡ 13 + 8 * length bs = rw (length-append (lowBits 13 (length bs)) (wordBits 8 bs), length-low, length-words) in
-    rw (append-assoc (lowBits 13 (length bs)) (wordBits 8 bs) rest, n, le-ltb (length (lowBits 13 (length bs) ++ y)) 13 k, take-at (lowBits 13 (length bs)) y 13 (length-low 13 (length bs)), drop-at (lowBits 13 (length bs)) y 13 (length-low 13 (length bs)), low-back 13 (length bs) (omega arith), words-back 8 bs rest (omega arith) (byte-small bs h), bytes-back bs (words 8 rest))
+    let n : length (lowBits 13 (length bs) ++ wordBits 8 bs) ≡ 13 + 8 * length bs =
+    rw (length-append (lowBits 13 (length bs)) (wordBits 8 bs), length-low, length-words) in
+    rw (
+      append-assoc (lowBits 13 (length bs)) (wordBits 8 bs) rest,
+      n,
+      le-ltb (length (lowBits 13 (length bs) ++ y)) 13 k,
+      take-at
+          (lowBits 13 (length bs)) y 13 (length-low 13 (length bs)),
+      drop-at (lowBits 13 (length bs)) y 13 (length-low 13 (length bs)),
+      low-back 13
+          (length bs) (omega arith),
+      words-back 8 bs rest (omega arith) (byte-small bs h),
+      bytes-back bs (words 8 rest),
+    )
 
 four-back : (bs rest : List ℕ) → inFour bs ≡ true → fourByteOf (lowBits 21 (fourCode bs) ++ rest) ≡ got bs (length (lowBits 21 (fourCode bs)))
 unfolding inFour fourByteOf
@@ -38,7 +53,15 @@ four-back bs rest h =
     let t = both (ltb (fourCode bs) 1587600) (same (fourBytes (fourCode bs)) bs) h in
     let v : fourCode bs < 1587600 = ltb-true (fourCode bs) 1587600 (t .0) in
     let k : 21 ≤ length (lowBits 21 (fourCode bs) ++ rest) = omega (arith, length-append (lowBits 21 (fourCode bs)) rest, length-low 21 (fourCode bs)) in
-    rw (le-ltb (length (lowBits 21 (fourCode bs) ++ rest)) 21 k, take-at (lowBits 21 (fourCode bs)) rest 21 (length-low 21 (fourCode bs)), low-back 21 (fourCode bs) (omega arith), lt-ltb (fourCode bs) 1587600 v, same-is (fourBytes (fourCode bs)) bs (t .1), length-low)
+    rw (
+      le-ltb (length (lowBits 21 (fourCode bs) ++ rest)) 21 k,
+      take-at (lowBits 21 (fourCode bs)) rest 21 (length-low 21 (fourCode bs)),
+      low-back 21
+          (fourCode bs) (omega arith),
+      lt-ltb (fourCode bs) 1587600 v,
+      same-is (fourBytes (fourCode bs)) bs (t .1),
+      length-low,
+    )
 
 -- what the check has shown of a segment
 abbrev pub Legal : Segment → Type 0
@@ -50,15 +73,20 @@ AllLegal [] = Unit {0}
 AllLegal (g ∷ gs) = Legal g × AllLegal gs
 
 module _ (bs rest : List ℕ) where
-  pub mode-back : (mode : ℕ) → Legal (run mode bs) → modeHas mode bs ≡ true → bytesOfMode mode (modeBits mode bs ++ rest) ≡ got bs (length (modeBits mode bs))
+  pub mode-back : (mode : ℕ) → Legal (run mode bs) → modeHas mode bs ≡ true
+      → bytesOfMode mode (modeBits mode bs ++ rest) ≡ got bs (length (modeBits mode bs))
   unfolding bytesOfMode modeHas modeBits
   mode-back zero l h = absurd (omega arith)
   mode-back (suc zero) l h = word-mode 10 numericOf (numericWords bs) bs rest (omega arith) (numeric-small bs h) (numeric-back bs (words 10 rest) (l .2 refl) h)
-  mode-back (suc (suc zero)) l h = word-mode 6 (textOf true) (textWords true bs) bs rest (omega arith) (text-small true bs h) (text-back true bs (words 6 rest) h)
+  mode-back (suc (suc zero)) l h =
+      word-mode 6 (textOf true) (textWords true bs) bs rest (omega arith) (text-small true bs h) (text-back true bs (words 6 rest) h)
   mode-back (suc (suc (suc zero))) l h = bytes-mode-back bs rest (l .3 refl) h
-  mode-back (suc (suc (suc (suc zero)))) l h = word-mode 12 (regionOf true) (regionWords true bs) bs rest (omega arith) (region-small true bs h) (region-back true bs (words 12 rest) h)
-  mode-back (suc (suc (suc (suc (suc zero))))) l h = word-mode 12 (regionOf false) (regionWords false bs) bs rest (omega arith) (region-small false bs h) (region-back false bs (words 12 rest) h)
-  mode-back (suc (suc (suc (suc (suc (suc zero)))))) l h = word-mode 15 doubleByteOf (doubleWords bs) bs rest (omega arith) (double-small bs h) (double-back bs (words 15 rest) h)
+  mode-back (suc (suc (suc (suc zero)))) l h =
+      word-mode 12 (regionOf true) (regionWords true bs) bs rest (omega arith) (region-small true bs h) (region-back true bs (words 12 rest) h)
+  mode-back (suc (suc (suc (suc (suc zero))))) l h =
+      word-mode 12 (regionOf false) (regionWords false bs) bs rest (omega arith) (region-small false bs h) (region-back false bs (words 12 rest) h)
+  mode-back (suc (suc (suc (suc (suc (suc zero)))))) l h =
+      word-mode 15 doubleByteOf (doubleWords bs) bs rest (omega arith) (double-small bs h) (double-back bs (words 15 rest) h)
   mode-back (suc (suc (suc (suc (suc (suc (suc zero))))))) l h = four-back bs rest h
   mode-back (suc (suc (suc (suc (suc (suc (suc (suc m)))))))) l h = absurd (omega arith)
 
@@ -108,7 +136,14 @@ opened : (k m : ℕ) (y : List ℕ) → 0 < m → m < 16 → parse (suc k) (lowB
 unfolding parse
 opened k m y p h =
     let l : 4 ≤ length (lowBits 4 m ++ y) = omega (arith, length-append (lowBits 4 m) y, length-low 4 m) in
-    simp (le-ltb (length (lowBits 4 m ++ y)) 4 l, take-at (lowBits 4 m) y 4 (length-low 4 m), drop-at (lowBits 4 m) y 4 (length-low 4 m), low-back 4 m h, ne-eqb m 0 (λ e. omega arith))
+    simp (
+      le-ltb (length (lowBits 4 m ++ y)) 4 l,
+      take-at (lowBits 4 m) y 4 (length-low 4 m),
+      drop-at (lowBits 4 m) y 4 (length-low 4 m),
+      low-back 4 m
+          h,
+      ne-eqb m 0 (λ e. omega arith),
+    )
 
 -- a whole parse: these segments, and an end that is not broken
 abbrev pub Whole : Parsed → List Segment → Type 0
@@ -125,7 +160,8 @@ zeros (suc (suc (suc (suc z)))) (suc k) h =
     let l : List ℕ = replicate z 0 in
     rw (le-ltb (suc (suc (suc (suc (length l))))) 4 (omega arith)) (refl, refl)
 
-pub round : (k : ℕ) (gs : List Segment) (z : ℕ) → length gs < k → AllLegal gs → allHave gs ≡ true → Whole (parse k (encodings gs ++ replicate z 0)) gs
+pub round : (k : ℕ) (gs : List Segment) (z : ℕ) → length gs < k → AllLegal gs → allHave gs ≡ true
+    → Whole (parse k (encodings gs ++ replicate z 0)) gs
 unfolding encodings allHave flatMap
 round zero gs z h l t = absurd (omega arith)
 round (suc k) [] z h l t = zeros z (suc k) (omega arith)

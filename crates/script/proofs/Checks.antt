@@ -26,11 +26,13 @@ module _ (s : List ℕ) (i : ℕ) where
   unfolding runAt
   run-cut h = rw (length-drop, lt-ltb (length s - i) 3 h)
 
-  pub run-read : (m a b : ℕ) → 3 ≤ length s - i → m ≡ getD s i 0 → a ≡ getD s (i + 1) 0 → b ≡ getD s (i + 2) 0 → allowed m (a * 256 + b) ≡ true → Run m (a * 256 + b) ≡ runAt (drop i s)
+  pub run-read : (m a b : ℕ) → 3 ≤ length s - i → m ≡ getD s i 0 → a ≡ getD s (i + 1) 0 → b ≡ getD s (i + 2) 0
+      → allowed m (a * 256 + b) ≡ true → Run m (a * 256 + b) ≡ runAt (drop i s)
   unfolding runAt
   run-read m a b h em ea eb t = rw (length-drop, le-ltb (length s - i) 3 h, first, getD-drop, getD-drop, ← em, ← ea, ← eb, t)
 
-  pub run-wrong : (m a b : ℕ) → 3 ≤ length s - i → m ≡ getD s i 0 → a ≡ getD s (i + 1) 0 → b ≡ getD s (i + 2) 0 → allowed m (a * 256 + b) ≡ false → Wrong ≡ runAt (drop i s)
+  pub run-wrong : (m a b : ℕ) → 3 ≤ length s - i → m ≡ getD s i 0 → a ≡ getD s (i + 1) 0 → b ≡ getD s (i + 2) 0
+      → allowed m (a * 256 + b) ≡ false → Wrong ≡ runAt (drop i s)
   unfolding runAt
   run-wrong m a b h em ea eb t = rw (length-drop, le-ltb (length s - i) 3 h, first, getD-drop, getD-drop, ← em, ← ea, ← eb, t)
 
@@ -41,11 +43,13 @@ module _ (s : List ℕ) (i : ℕ) where
   module _ (a b c : ℕ) (h : 4 ≤ length s - i) (ea : a ≡ getD s (i + 1) 0) (eb : b ≡ getD s (i + 2) 0) (ec : c ≡ getD s (i + 3) 0) where
     pub eci-large : 2097151 < a * 65536 + b * 256 + c → Wrong ≡ eciAt (drop i s)
     unfolding eciAt
-    eci-large l = rw (length-drop, le-ltb (length s - i) 4 h, getD-drop, getD-drop, getD-drop, ← ea, ← eb, ← ec, lt-ltb 2097151 (a * 65536 + b * 256 + c) l)
+    eci-large l =
+        rw (length-drop, le-ltb (length s - i) 4 h, getD-drop, getD-drop, getD-drop, ← ea, ← eb, ← ec, lt-ltb 2097151 (a * 65536 + b * 256 + c) l)
 
     pub eci-read : a * 65536 + b * 256 + c ≤ 2097151 → Eci (a * 65536 + b * 256 + c) ≡ eciAt (drop i s)
     unfolding eciAt
-    eci-read l = rw (length-drop, le-ltb (length s - i) 4 h, getD-drop, getD-drop, getD-drop, ← ea, ← eb, ← ec, le-ltb 2097151 (a * 65536 + b * 256 + c) l)
+    eci-read l =
+        rw (length-drop, le-ltb (length s - i) 4 h, getD-drop, getD-drop, getD-drop, ← ea, ← eb, ← ec, le-ltb 2097151 (a * 65536 + b * 256 + c) l)
 
   module _ (m : ℕ) (e : m ≡ getD s i 0) where
     pub command-four : m ≡ 7 → Run 7 4 ≡ commandAt (drop i s)
@@ -94,7 +98,8 @@ module _ (s : List ℕ) (b : (i : ℕ) → getD s i 0 < 256) (l : 0 < length s) 
   unfolding eciAt
   eci-bounded = go (ltb (length s) 4) refl (ltb 2097151 (getD s 1 0 * 65536 + getD s 2 0 * 256 + getD s 3 0))
     where
-      go : (x : Bool) → ltb (length s) 4 ≡ x → (y : Bool) → Bounded s (cond x Wrong (cond y Wrong (Eci (getD s 1 0 * 65536 + getD s 2 0 * 256 + getD s 3 0))))
+      go : (x : Bool) → ltb (length s) 4 ≡ x → (y : Bool)
+          → Bounded s (cond x Wrong (cond y Wrong (Eci (getD s 1 0 * 65536 + getD s 2 0 * 256 + getD s 3 0))))
       go true p y = tt
       go false p true = tt
       go false p false = ltb-false (length s) 4 p
@@ -138,7 +143,8 @@ capped-add x y = go (ltb x most) refl
         let h = ltb-false x most e in
         rw (le-ltb (most + y) most (omega arith), le-ltb (x + y) most (omega arith))
 
-with-takes : (lacks : Bool) (t t′ b : ℕ) (g : Segment) (z : Option (List Segment)) (p : List ℕ) → has g ≡ true → bitsOfSegment g ≡ b → t′ ≡ capped (t + b)
+with-takes : (lacks : Bool) (t t′ b : ℕ) (g : Segment) (z : Option (List Segment)) (p : List ℕ) → has g ≡ true → bitsOfSegment g ≡ b
+    → t′ ≡ capped (t + b)
     → settled lacks t (with g z) p ≡ settled lacks t′ z p
 unfolding allHave bitsOfSegments
 with-takes lacks t t′ b g none p h e f = refl
@@ -243,7 +249,8 @@ settles-start s p = record { fuel = length s + 1; enough = omega arith; same = g
     go (some gs) = rw zero-add
 
 -- at a command c
-module _ {s p : List ℕ} {i j : ℕ} {lacks : Bool} {t : ℕ} {c : Command} (d : Settles s p i j lacks t) (h : i < length s) (e : c ≡ commandAt (drop i s)) where
+module _ {s p : List ℕ} {i j : ℕ} {lacks : Bool} {t : ℕ} {c : Command} (d : Settles s p i j lacks t) (h : i < length s)
+    (e : c ≡ commandAt (drop i s)) where
   answered : (z : Option (List Segment)) → commands (suc (d .fuel - 1)) (drop i s) (drop j p) ≡ z → checkOf s p ≡ settled lacks t z p
   answered z q =
       let m = d .enough in
@@ -258,14 +265,15 @@ module _ {s p : List ℕ} {i j : ℕ} {lacks : Bool} {t : ℕ} {c : Command} (d 
       let rest : Option (List Segment) = commands (d .fuel - 1) (drop (i + 4) s) (drop j p) in
       record {
         fuel = d .fuel - 1;
-        enough = omega (arith, d .enough);
+        enough = omega arith;
         same = answered (with (eci v) rest) (at-eci s p i j h c e (d .fuel - 1) v q) ∙ with-takes lacks t t′ b (eci v) rest p refl (sym eb) m;
       }
 
   pub settles-short : {mode n : ℕ} → c ≡ Run mode n → length p - j < n → Malformed ≡ checkOf s p
   settles-short {mode} {n} q l = sym (answered none (at-short s p i j h c e (d .fuel - 1) mode n q l))
 
-  module _ {mode n x : ℕ} {r : Cost} (q : c ≡ Run mode n) (l : n ≤ length p - j) (er : r ≡ costOf mode (take n (drop j p))) (ex : x ≡ commandSize mode)
+  module _ {mode n x : ℕ} {r : Cost} (q : c ≡ Run mode n) (l : n ≤ length p - j) (er : r ≡ costOf mode (take n (drop j p)))
+      (ex : x ≡ commandSize mode)
       (px : 1 ≤ x) where
     abbrev bytes : List ℕ
     bytes = take n (drop j p)
@@ -274,11 +282,12 @@ module _ {s p : List ℕ} {i j : ℕ} {lacks : Bool} {t : ℕ} {c : Command} (d 
     rest = commands (d .fuel - 1) (drop (i + commandSize mode) s) (drop (j + n) p)
 
     -- one command less, with bits t′ and perhaps a lack behind
-    next : (lacks′ : Bool) (t′ : ℕ) → settled lacks t (with (run mode bytes) rest) p ≡ settled lacks′ t′ rest p → Settles s p (i + x) (j + n) lacks′ t′
+    next : (lacks′ : Bool) (t′ : ℕ) → settled lacks t (with (run mode bytes) rest) p ≡ settled lacks′ t′ rest p
+        → Settles s p (i + x) (j + n) lacks′ t′
     next lacks′ t′ f =
         record {
           fuel = d .fuel - 1;
-          enough = omega (arith, d .enough);
+          enough = omega arith;
           same = rw ex (answered (with (run mode bytes) rest) (at-run s p i j h c e (d .fuel - 1) mode n q l) ∙ f);
         }
 
@@ -301,7 +310,7 @@ ended s p i j (suc k) h l =
 
 module _ {s p : List ℕ} {i j : ℕ} {lacks : Bool} {t : ℕ} (d : Settles s p i j lacks t) (h : length s ≤ i) where
   read : commands (d .fuel) (drop i s) (drop j p) ≡ cond (eqb (length p - j) 0) (some []) none
-  read = ended s p i j (d .fuel) h (omega (arith, d .enough))
+  read = ended s p i j (d .fuel) h (omega arith)
 
   pub end-left : j < length p → Malformed ≡ checkOf s p
   end-left g = sym (d .same ∙ rw (read, ne-eqb (length p - j) 0 (λ e. omega arith)))

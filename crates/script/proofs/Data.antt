@@ -41,7 +41,8 @@ encoding-small (run mode bs) =
     append-small (lowBits 4 mode) (modeBits mode bs) (low-small 4 mode)
     (cond-small (eqb mode 1) (wordBits 10 (numericWords bs)) _ (words-small 10 (numericWords bs))
     (cond-small (eqb mode 2) (wordBits 6 (textWords true bs)) _ (words-small 6 (textWords true bs))
-    (cond-small (eqb mode 3) (lowBits 13 (length bs) ++ wordBits 8 bs) _ (append-small (lowBits 13 (length bs)) (wordBits 8 bs) (low-small 13 (length bs)) (words-small 8 bs))
+    (cond-small (eqb mode 3) (lowBits 13 (length bs) ++ wordBits 8 bs) _
+    (append-small (lowBits 13 (length bs)) (wordBits 8 bs) (low-small 13 (length bs)) (words-small 8 bs))
     (cond-small (eqb mode 4) (wordBits 12 (regionWords true bs)) _ (words-small 12 (regionWords true bs))
     (cond-small (eqb mode 5) (wordBits 12 (regionWords false bs)) _ (words-small 12 (regionWords false bs))
     (cond-small (eqb mode 6) (wordBits 15 (doubleWords bs)) (lowBits 21 (fourCode bs)) (words-small 15 (doubleWords bs)) (low-small 21 (fourCode bs))))))))
@@ -50,7 +51,8 @@ encoding-small (eci v) =
     (cond-small (ltb v 128) (0 ∷ lowBits 7 v) _ (small-cons 0 2 (lowBits 7 v) (omega arith) (low-small 7 v))
     (cond-small (ltb v 16384) (1 ∷ 0 ∷ lowBits 14 v) (1 ∷ 1 ∷ 0 ∷ lowBits 21 v)
     (small-cons 1 2 (0 ∷ lowBits 14 v) (omega arith) (small-cons 0 2 (lowBits 14 v) (omega arith) (low-small 14 v)))
-    (small-cons 1 2 (1 ∷ 0 ∷ lowBits 21 v) (omega arith) (small-cons 1 2 (0 ∷ lowBits 21 v) (omega arith) (small-cons 0 2 (lowBits 21 v) (omega arith) (low-small 21 v))))))
+    (small-cons 1 2 (1 ∷ 0 ∷ lowBits 21 v) (omega arith) (small-cons 1 2 (0 ∷ lowBits 21 v) (omega arith)
+    (small-cons 0 2 (lowBits 21 v) (omega arith) (low-small 21 v))))))
 
 encodings-small : (gs : List Segment) → Small (encodings gs)
 unfolding encodings flatMap

@@ -45,7 +45,8 @@ last p k ws h g l =
 heads : (a : ℕ) (ds : List ℕ) → all isDigit (a ∷ ds) ≡ true → ((48 ≤ a) × (a < 58)) × (all isDigit ds ≡ true)
 heads a ds t = let h = both (isDigit a) (all isDigit ds) t in (digit a (h .0), h .1)
 
-groups-back : (p : ℕ) (ds ws : List ℕ) → p < 1000 → all isDigit ds ≡ true → groupsOf p (numericWords ds ++ ws) ≡ got (digits 3 p ++ ds) (length (numericWords ds))
+groups-back : (p : ℕ) (ds ws : List ℕ) → p < 1000 → all isDigit ds ≡ true
+    → groupsOf p (numericWords ds ++ ws) ≡ got (digits 3 p ++ ds) (length (numericWords ds))
 unfolding numericWords
 groups-back p [] ws h t = last p 3 ws (omega arith) (omega arith) h ∙ rw append-nil
 groups-back p (a ∷ []) ws h t =

@@ -29,7 +29,8 @@ eci-length : (v : ℕ) → 4 + length (eciBits v) ≡ eciLength v
 unfolding eciBits eciLength
 eci-length v = go (ltb v 128) (ltb v 16384)
   where
-    go : (a b : Bool) → 4 + length (cond a (0 ∷ lowBits 7 v) (cond b (1 ∷ 0 ∷ lowBits 14 v) (1 ∷ 1 ∷ 0 ∷ lowBits 21 v))) ≡ cond a 12 (cond b 20 28)
+    go : (a b : Bool)
+        → 4 + length (cond a (0 ∷ lowBits 7 v) (cond b (1 ∷ 0 ∷ lowBits 14 v) (1 ∷ 1 ∷ 0 ∷ lowBits 21 v))) ≡ cond a 12 (cond b 20 28)
     go true b = rw length-low
     go false true = rw length-low
     go false false = rw length-low

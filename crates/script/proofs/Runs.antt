@@ -6,9 +6,11 @@ use Rattle.segments.specs.Segments.{fourBytes}
 use Rattle.script.specs.declared.Character.{Character}
 use Rattle.script.specs.declared.Character.the-variants.{Same, Other, Lacking}
 use Rattle.script.specs.declared.Cost.the-variants.{Takes, Lacks}
-use Rattle.script.specs.Writer.{all, allPairs, isDigit, codeOf, inSubset, inText, pairCode, inRegion, inRegions, doubleCode, inDouble, textWords, regionWords, doubleWords, fourCode, same, inFour, modeHas}
+use Rattle.script.specs.Writer.{all, allPairs, isDigit, codeOf, inSubset, inText, pairCode, inRegion, inRegions, doubleCode, inDouble}
+use Rattle.script.specs.Writer.{textWords, regionWords, doubleWords, fourCode, same, inFour, modeHas}
 use Rattle.script.specs.Lengths.{textSwitches, regionSwitches, modeLength}
-use Rattle.script.specs.Characters.{wordsOf, hasAll, stepOf, widthOf, switchOf, endOf, textCharacter, regionCharacter, doubleCharacter, CharacterIs, beginsIn, charCost, costOf}
+use Rattle.script.specs.Characters.{wordsOf, hasAll, stepOf, widthOf, switchOf, endOf, textCharacter, regionCharacter, doubleCharacter}
+use Rattle.script.specs.Characters.{CharacterIs, beginsIn, charCost, costOf}
 use Rattle.script.proofs.Tests.{both, same-is}
 use Rattle.script.proofs.Characters.{text-length, region-length, double-length}
 
@@ -28,7 +30,8 @@ text-front f b bs = go f (inSubset f b) refl (inSubset (not f) b) refl
     go false false p true q = (rw p, rw q, omega arith)
     go false false p false q = rw (q, p)
 
-region-front : (mode : ℕ) (f : Bool) (a b : ℕ) (bs : List ℕ) → (mode ≡ 2 → ⊥) → (mode ≡ 6 → ⊥) → CharacterIs mode f (a ∷ b ∷ bs) (regionCharacter f a b)
+region-front : (mode : ℕ) (f : Bool) (a b : ℕ) (bs : List ℕ) → (mode ≡ 2 → ⊥) → (mode ≡ 6 → ⊥)
+    → CharacterIs mode f (a ∷ b ∷ bs) (regionCharacter f a b)
 unfolding wordsOf hasAll stepOf switchOf regionCharacter regionWords inRegions
 region-front mode f a b bs n2 n6 = go f (inRegion f a b) refl (inRegion (not f) a b) refl
   where
@@ -81,33 +84,11 @@ module _ (run : List ℕ) (mode : ℕ) (f : Bool) (j : ℕ) (h : j < length run)
     pub double-character : mode ≡ 6 → r ≡ doubleCharacter (getD run j 0) (getD run (j + 1) 0) → CharacterIs mode f (drop j run) r
     double-character e q = rw (e, q, pair) (double-front f (getD run j 0) (getD run (j + 1) 0) (drop (suc (suc j)) run))
 
-    pub region-character : (mode ≡ 2 → ⊥) → (mode ≡ 6 → ⊥) → r ≡ regionCharacter f (getD run j 0) (getD run (j + 1) 0) → CharacterIs mode f (drop j run) r
+    pub region-character : (mode ≡ 2 → ⊥) → (mode ≡ 6 → ⊥) → r ≡ regionCharacter f (getD run j 0) (getD run (j + 1) 0)
+        → CharacterIs mode f (drop j run) r
     region-character n m q = rw (q, pair) (region-front mode f (getD run j 0) (getD run (j + 1) 0) (drop (suc (suc j)) run) n m)
 
 -- ---- along a run
-
-module _ (run : List ℕ) (mode : ℕ) (f : Bool) (j w by : ℕ) (r : Character) (h : CharacterIs mode f (drop j run) r) (b : by ≡ stepOf mode) (p : 0 < by) where
-  -- k words behind, in a subset or region g
-  abbrev Past : ℕ → Bool → Type 0
-  Past k g =
-      (j + by ≤ length run) × (hasAll mode (drop j run) ≡ hasAll mode (drop (j + by) run))
-      × (length (wordsOf mode f (drop j run)) ≡ k + length (wordsOf mode g (drop (j + by) run)))
-
-  room : stepOf mode ≤ length (drop j run) → j + by ≤ length run
-  room q = let k = rw length-drop at q in omega arith
-
-  pub run-same : r ≡ Same w → Past 1 f
-  run-same e =
-      let g : CharacterIs mode f (drop j run) (Same w) = subst (λ (z : Character). CharacterIs mode f (drop j run) z) e h in
-      (room (g .2), rw b (rw drop-drop at (g .1)), rw b (ap length (g .0) ∙ rw drop-drop (omega arith)))
-
-  pub run-other : r ≡ Other w → Past 2 (not f)
-  run-other e =
-      let g : CharacterIs mode f (drop j run) (Other w) = subst (λ (z : Character). CharacterIs mode f (drop j run) z) e h in
-      (room (g .2), rw b (rw drop-drop at (g .1)), rw b (ap length (g .0) ∙ rw drop-drop (omega arith)))
-
-  pub run-lacks : r ≡ Lacking → hasAll mode (drop j run) ≡ false
-  run-lacks e = subst (λ (z : Character). CharacterIs mode f (drop j run) z) e h
 
 nothing : (mode : ℕ) → hasAll mode [] ≡ true
 unfolding hasAll
@@ -127,17 +108,43 @@ just-end mode f = go (eqb mode 2) (eqb mode 6)
     go false true = refl
     go false false = refl
 
--- the end of a run, and what its characters come to
-pub run-done : (run : List ℕ) (mode : ℕ) (f b : Bool) (j n : ℕ) → length run ≤ j → hasAll mode run ≡ hasAll mode (drop j run)
-    → n + length (wordsOf mode f (drop j run)) ≡ length (wordsOf mode b run) → b ≡ beginsIn mode → Takes (4 + widthOf mode * (n + 1)) ≡ charCost mode run
-run-done run mode f b j n l h e g =
-    let d : drop j run ≡ [] = drop-of-length-le run l in
-    let t : hasAll mode run ≡ true = h ∙ rw d (nothing mode) in
-    let k : n + 1 ≡ length (wordsOf mode (beginsIn mode) run) = rw (d, just-end mode f, g) at e in
-    rw (t, k)
+-- n words up to the place j of a run that began in f₀ and is now in f, and those before it are in the mode
+pub record Counted (mode : ℕ) (run : List ℕ) (f₀ : Bool) (j : ℕ) (f : Bool) (n : ℕ) : Type 0 where
+  pub room : j ≤ length run
+  pub few : n ≤ 2 * j
+  pub have : hasAll mode run ≡ hasAll mode (drop j run)
+  pub words : n + length (wordsOf mode f (drop j run)) ≡ length (wordsOf mode f₀ run)
 
-pub cost-lacks : (run : List ℕ) (mode : ℕ) → hasAll mode run ≡ false → Lacks ≡ charCost mode run
-cost-lacks run mode e = rw e
+module _ {mode : ℕ} {run : List ℕ} {f₀ : Bool} {j : ℕ} {f : Bool} {n : ℕ} (d : Counted mode run f₀ j f n) where
+  -- at the end
+  pub counted-end : length run ≤ j → f₀ ≡ beginsIn mode → Takes (4 + widthOf mode * (n + 1)) ≡ charCost mode run
+  counted-end l g =
+      let e : drop j run ≡ [] = drop-of-length-le run l in
+      let t : hasAll mode run ≡ true = d .have ∙ rw e (nothing mode) in
+      let k : n + 1 ≡ length (wordsOf mode (beginsIn mode) run) = rw (e, just-end mode f, g) at (d .words) in
+      rw (t, k)
+
+  -- at a character r
+  module _ (r : Character) (h : CharacterIs mode f (drop j run) r) where
+    is : (z : Character) → r ≡ z → CharacterIs mode f (drop j run) z
+    is z e = subst (λ (z : Character). CharacterIs mode f (drop j run) z) e h
+
+    pub counted-lacks : r ≡ Lacking → Lacks ≡ charCost mode run
+    counted-lacks e = rw (d .have ∙ is Lacking e)
+
+    module _ {by : ℕ} (b : by ≡ stepOf mode) (p : 1 ≤ by) where
+      next : (g : Bool) (k : ℕ) → k ≤ 2 → length (wordsOf mode f (drop j run)) ≡ k + length (wordsOf mode g (drop (stepOf mode) (drop j run)))
+          → hasAll mode (drop j run) ≡ hasAll mode (drop (stepOf mode) (drop j run)) → stepOf mode ≤ length (drop j run) → Counted mode run f₀ (j + by) g (n + k)
+      next g k few q a s =
+          let m = rw length-drop at s in
+          let q′ : length (wordsOf mode f (drop j run)) ≡ k + length (wordsOf mode g (drop (j + by) run)) = rw b (rw drop-drop at q) in
+          record { room = omega arith; few = omega arith; have = d .have ∙ rw b (rw drop-drop at a); words = omega arith }
+
+      pub counted-same : {w : ℕ} → r ≡ Same w → Counted mode run f₀ (j + by) f (n + 1)
+      counted-same {w} e = let g = is (Same w) e in next f 1 (omega arith) (ap length (g .0) ∙ omega arith) (g .1) (g .2)
+
+      pub counted-other : {w : ℕ} → r ≡ Other w → Counted mode run f₀ (j + by) (not f) (n + 2)
+      counted-other {w} e = let g = is (Other w) e in next (not f) 2 (omega arith) (ap length (g .0) ∙ omega arith) (g .1) (g .2)
 
 -- ---- the bits of a run
 
@@ -178,7 +185,8 @@ module _ (run : List ℕ) (mode : ℕ) where
   unfolding modeHas modeLength hasAll wordsOf widthOf beginsIn
   region-cost f e = rw e (which f)
     where
-      go : (f x : Bool) → allPairs inRegions run ≡ x → cond x (Takes (4 + 12 * length (regionWords f run))) Lacks ≡ cond x (Takes (16 + 12 * (length run / 2 + regionSwitches f run))) Lacks
+      go : (f x : Bool) → allPairs inRegions run ≡ x
+          → cond x (Takes (4 + 12 * length (regionWords f run))) Lacks ≡ cond x (Takes (16 + 12 * (length run / 2 + regionSwitches f run))) Lacks
       go f true t = let h : 4 + 12 * length (regionWords f run) ≡ 16 + 12 * (length run / 2 + regionSwitches f run) = rw (region-length f run t) (omega arith) in rw h
       go f false t = refl
 
@@ -190,14 +198,17 @@ module _ (run : List ℕ) (mode : ℕ) where
   unfolding modeHas modeLength hasAll wordsOf widthOf beginsIn
   double-cost e = rw e (go (allPairs inDouble run) refl)
     where
-      go : (x : Bool) → allPairs inDouble run ≡ x → cond x (Takes (4 + 15 * length (doubleWords run))) Lacks ≡ cond x (Takes (19 + 15 * (length run / 2))) Lacks
+      go : (x : Bool) → allPairs inDouble run ≡ x
+          → cond x (Takes (4 + 15 * length (doubleWords run))) Lacks ≡ cond x (Takes (19 + 15 * (length run / 2))) Lacks
       go true t = let h : 4 + 15 * length (doubleWords run) ≡ 19 + 15 * (length run / 2) = rw (double-length run t) (omega arith) in rw h
       go false t = refl
 
 -- ---- four bytes, and digits
 
-pub four-same : (w : ℕ) (s : List ℕ) → length s ≡ 4
-    → same (fourBytes w) s ≡ (eqb (0x81 + w / 12600) (getD s 0 0) && (eqb (0x30 + w % 12600 / 1260) (getD s 1 0) && (eqb (0x81 + w % 1260 / 10) (getD s 2 0) && (eqb (0x30 + w % 10) (getD s 3 0) && true))))
+four-same : (w : ℕ) (s : List ℕ) → length s ≡ 4
+    → same (fourBytes w) s
+    ≡ (eqb (0x81 + w / 12600) (getD s 0 0) && (eqb (0x30 + w % 12600 / 1260) (getD s 1 0)
+    && (eqb (0x81 + w % 1260 / 10) (getD s 2 0) && (eqb (0x30 + w % 10) (getD s 3 0) && true))))
 unfolding same fourBytes
 four-same w [] e = absurd (omega arith)
 four-same w (a ∷ []) e = absurd (omega arith)
@@ -206,42 +217,35 @@ four-same w (a ∷ b ∷ c ∷ []) e = absurd (omega arith)
 four-same w (a ∷ b ∷ c ∷ d ∷ []) e = refl
 four-same w (a ∷ b ∷ c ∷ d ∷ x ∷ s) e = absurd (omega arith)
 
--- four bytes are four
-pub four-long : (s : List ℕ) → inFour s ≡ true → length s ≡ 4
-unfolding inFour fourBytes
-four-long s h = sym (ap length (same-is (fourBytes (fourCode s)) s (both (ltb (fourCode s) 1587600) (same (fourBytes (fourCode s)) s) h .1)))
+-- the bytes of a value that is in the mode
+four-bytes : (s : List ℕ) → inFour s ≡ true → s ≡ fourBytes (fourCode s)
+unfolding inFour
+four-bytes s h = sym (same-is (fourBytes (fourCode s)) s (both (ltb (fourCode s) 1587600) (same (fourBytes (fourCode s)) s) h .1))
 
-pub four-other : (s : List ℕ) → (length s ≡ 4 → ⊥) → false ≡ inFour s
-four-other s n = go (inFour s) refl
+pub four-long : (s : List ℕ) → inFour s ≡ true → length s ≡ 4
+unfolding fourBytes
+four-long s h = ap length (four-bytes s h)
+
+pub four-none : (s : List ℕ) → (s ≡ fourBytes (fourCode s) → ⊥) → false ≡ inFour s
+four-none s n = go (inFour s) refl
   where
     go : (x : Bool) → inFour s ≡ x → false ≡ x
-    go true e = absurd (n (four-long s e))
+    go true e = absurd (n (four-bytes s e))
     go false e = refl
 
-pub last-and : (b : Bool) → b ≡ (b && true)
-last-and true = refl
-last-and false = refl
-
-module _ (s : List ℕ) (w a b c d : ℕ) (e : w ≡ fourCode s) (v : w < 1587600) (l : length s ≡ 4) (ea : a ≡ getD s 0 0) where
-  pub four-first : (0x81 + w / 12600 ≡ a → ⊥) → false ≡ inFour s
-  unfolding inFour
-  four-first f = rw (← e, lt-ltb w 1587600 v, four-same w s l, ← ea, ne-eqb (0x81 + w / 12600) a f)
-
-  module _ (fa : 0x81 + w / 12600 ≡ a) (eb : b ≡ getD s 1 0) where
-    pub four-second : (0x30 + w % 12600 / 1260 ≡ b → ⊥) → false ≡ inFour s
-    unfolding inFour
-    four-second f = rw (← e, lt-ltb w 1587600 v, four-same w s l, ← ea, eq-eqb (0x81 + w / 12600) a fa, ← eb, ne-eqb (0x30 + w % 12600 / 1260) b f)
-
-    module _ (fb : 0x30 + w % 12600 / 1260 ≡ b) (ec : c ≡ getD s 2 0) where
-      pub four-third : (0x81 + w % 1260 / 10 ≡ c → ⊥) → false ≡ inFour s
-      unfolding inFour
-      four-third f = rw (← e, lt-ltb w 1587600 v, four-same w s l, ← ea, eq-eqb (0x81 + w / 12600) a fa, ← eb, eq-eqb (0x30 + w % 12600 / 1260) b fb, ← ec, ne-eqb (0x81 + w % 1260 / 10) c f)
-
-      pub four-last : 0x81 + w % 1260 / 10 ≡ c → d ≡ getD s 3 0 → eqb (0x30 + w % 10) d ≡ inFour s
-      unfolding inFour
-      four-last fc ed =
-          rw (← e, lt-ltb w 1587600 v, four-same w s l, ← ea, eq-eqb (0x81 + w / 12600) a fa, ← eb, eq-eqb (0x30 + w % 12600 / 1260) b fb, ← ec, eq-eqb (0x81 + w % 1260 / 10) c fc, ← ed)
-          (last-and (eqb (0x30 + w % 10) d))
+-- the last byte tells, where the first three are right
+pub four-last : (s : List ℕ) (w a b c d : ℕ) → w ≡ fourCode s → w < 1587600 → length s ≡ 4 → a ≡ getD s 0 0 → b ≡ getD s 1 0 → c ≡ getD s 2 0 → d ≡ getD s 3 0
+    → 0x81 + w / 12600 ≡ a → 0x30 + w % 12600 / 1260 ≡ b → 0x81 + w % 1260 / 10 ≡ c → eqb (0x30 + w % 10) d ≡ inFour s
+unfolding inFour
+four-last s w a b c d e v l ea eb ec ed fa fb fc =
+    let three = four-same w s l in
+    let q : same (fourBytes w) s ≡ (eqb (0x30 + w % 10) d && true) =
+    rw (three, ← ea, ← eb, ← ec, ← ed, eq-eqb (0x81 + w / 12600) a fa, eq-eqb (0x30 + w % 12600 / 1260) b fb, eq-eqb (0x81 + w % 1260 / 10) c fc) in
+    rw (← e, lt-ltb w 1587600 v, q) (last-and (eqb (0x30 + w % 10) d))
+  where
+    last-and : (b : Bool) → b ≡ (b && true)
+    last-and true = refl
+    last-and false = refl
 
 -- a digit more, and the first byte that is none
 pub digits-next : (run : List ℕ) (j x y z : ℕ) → j < length run → ltb y 10 ≡ isDigit (getD run j 0) → ltb z 10 ≡ (ltb x 10 && ltb y 10)
@@ -291,7 +295,8 @@ pub small : (w n : ℕ) → w ≤ 15 → n < 1000000 → w * n ≤ 15000000
 small w n h l = mul-le-mul h (le-of-lt l)
 
 -- the four modes of characters
-pub char-cost : (run : List ℕ) (mode : ℕ) → 1 ≤ mode → mode ≤ 7 → (mode ≡ 1 → ⊥) → (mode ≡ 3 → ⊥) → (mode ≡ 7 → ⊥) → charCost mode run ≡ costOf mode run
+pub char-cost : (run : List ℕ) (mode : ℕ) → 1 ≤ mode → mode ≤ 7 → (mode ≡ 1 → ⊥) → (mode ≡ 3 → ⊥) → (mode ≡ 7 → ⊥)
+    → charCost mode run ≡ costOf mode run
 char-cost run zero a b n1 n3 n7 = absurd (omega arith)
 char-cost run (suc zero) a b n1 n3 n7 = absurd (n1 refl)
 char-cost run (suc (suc zero)) a b n1 n3 n7 = text-cost run 2 refl

@@ -16,7 +16,8 @@ abbrev Front : List ℕ → List ℕ → Option Segment → Type 0
 Front s p none = Unit {0}
 Front s p (some g) = (commandOf g ++ drop (length (commandOf g)) s ≡ s) × (bytesOf g ++ drop (length (bytesOf g)) p ≡ p) × Legal g
 
-front-3 : (s : List ℕ) (m : ℕ) → 3 ≤ length s → ((i : ℕ) → getD s i 0 < 256) → getD s 0 0 ≡ m → m ∷ lengthOperand s / 256 ∷ lengthOperand s % 256 ∷ drop 3 s ≡ s
+front-3 : (s : List ℕ) (m : ℕ) → 3 ≤ length s → ((i : ℕ) → getD s i 0 < 256) → getD s 0 0 ≡ m
+    → m ∷ lengthOperand s / 256 ∷ lengthOperand s % 256 ∷ drop 3 s ≡ s
 front-3 [] m h b e = absurd (omega arith)
 front-3 (x ∷ []) m h b e = absurd (omega arith)
 front-3 (x ∷ y ∷ []) m h b e = absurd (omega arith)
@@ -59,7 +60,8 @@ module _ (s p : List ℕ) (b : (i : ℕ) → getD s i 0 < 256) (l : 0 < length s
   mode = getD s 0 0
 
   -- bytes taken for a command at the front
-  front-taking : (m n : ℕ) → runCommand m n ++ drop (length (runCommand m n)) s ≡ s → 1 ≤ m → m ≤ 7 → (m ≡ 1 → 0 < n) → (m ≡ 3 → n ≤ 8191)
+  front-taking : (m n : ℕ) → runCommand m n ++ drop (length (runCommand m n)) s ≡ s → 1 ≤ m → m ≤ 7 → (m ≡ 1 → 0 < n)
+      → (m ≡ 3 → n ≤ 8191)
       → Front s p (taking m n p)
   front-taking m n c m1 m7 d1 d3 = go (ltb (length p) n) refl
     where

@@ -33,7 +33,8 @@ other-subset true b t e = other-one (inSubset true b) (inSubset false b) t e
 other-subset false b t e = other-two (inSubset true b) (inSubset false b) t e
 
 -- a region that has a pair
-pub region-has : (f : Bool) (a b : ℕ) → inRegion f a b ≡ true → (pairCode f a b < regionSize f) × (highOf f (pairCode f a b) ≡ a) × (lowOf f (pairCode f a b) ≡ b)
+pub region-has : (f : Bool) (a b : ℕ) → inRegion f a b ≡ true
+    → (pairCode f a b < regionSize f) × (highOf f (pairCode f a b) ≡ a) × (lowOf f (pairCode f a b) ≡ b)
 unfolding inRegion
 region-has f a b e =
     let h = both (ltb (pairCode f a b) (regionSize f)) (eqb (highOf f (pairCode f a b)) a && eqb (lowOf f (pairCode f a b)) b) e in

@@ -9,7 +9,8 @@ use Rattle.script.specs.declared.Character.{Character}
 use Rattle.script.specs.declared.Character.the-variants.{Same, Other, Lacking}
 use Rattle.script.specs.declared.Cost.{Cost}
 use Rattle.script.specs.declared.Cost.the-variants.{Takes, Lacks}
-use Rattle.script.specs.Writer.{all, allPairs, codeOf, inSubset, inText, pairCode, inRegion, inRegions, doubleCode, inDouble, textWords, regionWords, doubleWords, modeHas}
+use Rattle.script.specs.Writer.{all, allPairs, codeOf, inSubset, inText, pairCode, inRegion, inRegions, doubleCode, inDouble, textWords}
+use Rattle.script.specs.Writer.{regionWords, doubleWords, modeHas}
 use Rattle.script.specs.Lengths.{modeLength}
 
 -- the modes 2, 4, 5 and 6: words of one width, one for each byte or pair, a switch before some, and an end
@@ -44,8 +45,10 @@ doubleCharacter a b = cond (inDouble a b) (Same (doubleCode a b)) Lacking
 
 -- what the first character of a run says of its words
 abbrev pub CharacterIs : ℕ → Bool → List ℕ → Character → Type 0
-CharacterIs mode f bs (Same w) = (wordsOf mode f bs ≡ w ∷ wordsOf mode f (drop (stepOf mode) bs)) × (hasAll mode bs ≡ hasAll mode (drop (stepOf mode) bs)) × (stepOf mode ≤ length bs)
-CharacterIs mode f bs (Other w) = (wordsOf mode f bs ≡ switchOf mode ∷ w ∷ wordsOf mode (not f) (drop (stepOf mode) bs)) × (hasAll mode bs ≡ hasAll mode (drop (stepOf mode) bs)) × (stepOf mode ≤ length bs)
+CharacterIs mode f bs (Same w) = (wordsOf mode f bs ≡ w ∷ wordsOf mode f (drop (stepOf mode) bs))
+    × (hasAll mode bs ≡ hasAll mode (drop (stepOf mode) bs)) × (stepOf mode ≤ length bs)
+CharacterIs mode f bs (Other w) = (wordsOf mode f bs ≡ switchOf mode ∷ w ∷ wordsOf mode (not f) (drop (stepOf mode) bs))
+    × (hasAll mode bs ≡ hasAll mode (drop (stepOf mode) bs)) × (stepOf mode ≤ length bs)
 CharacterIs mode f bs Lacking = hasAll mode bs ≡ false
 
 -- the subset or region in which a run begins

@@ -51,7 +51,8 @@ three (suc a) zero c bs f g e = absurd (g refl)
 three (suc a) (suc b) zero bs f g e = refl
 three (suc a) (suc b) (suc c) bs f g e = absurd (omega arith)
 
-three-lacks : (a b c : ℕ) (bs : List ℕ) → (a ≡ 0 → ⊥) → (b ≡ 0 → ⊥) → (c ≡ 0 → ⊥) → eciOf (a ∷ b ∷ c ∷ bs) ≡ failed lacking
+three-lacks : (a b c : ℕ) (bs : List ℕ) → (a ≡ 0 → ⊥) → (b ≡ 0 → ⊥) → (c ≡ 0 → ⊥)
+    → eciOf (a ∷ b ∷ c ∷ bs) ≡ failed lacking
 unfolding eciOf
 three-lacks zero b c bs f g e = absurd (f refl)
 three-lacks (suc a) zero c bs f g e = absurd (g refl)
@@ -94,7 +95,11 @@ module _ (s : List ℕ) (i : ℕ) where
             last = let e : i + 2 + 1 ≡ i + 3 = omega arith in first s (i + 2) h″ ∙ rw e
 
             pub eci-three : getD (bitsOf s) (i + 2) 0 ≡ 0 → eciOf (drop i (bitsOf s)) ≡ eciValue 3 21 (drop (i + 3) (bitsOf s))
-            eci-three e = rw (first s i h, next, last) (three (getD (bitsOf s) i 0) (getD (bitsOf s) (i + 1) 0) (getD (bitsOf s) (i + 2) 0) (drop (i + 3) (bitsOf s)) f g e)
+            eci-three e =
+                rw (first s i h, next, last)
+                (three (getD (bitsOf s) i 0) (getD (bitsOf s) (i + 1) 0) (getD (bitsOf s) (i + 2) 0) (drop (i + 3) (bitsOf s)) f g e)
 
             pub eci-lacks : (getD (bitsOf s) (i + 2) 0 ≡ 0 → ⊥) → eciOf (drop i (bitsOf s)) ≡ failed lacking
-            eci-lacks e = rw (first s i h, next, last) (three-lacks (getD (bitsOf s) i 0) (getD (bitsOf s) (i + 1) 0) (getD (bitsOf s) (i + 2) 0) (drop (i + 3) (bitsOf s)) f g e)
+            eci-lacks e =
+                rw (first s i h, next, last)
+                (three-lacks (getD (bitsOf s) i 0) (getD (bitsOf s) (i + 1) 0) (getD (bitsOf s) (i + 2) 0) (drop (i + 3) (bitsOf s)) f g e)

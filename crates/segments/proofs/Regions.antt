@@ -21,7 +21,8 @@ module _ {s : List ℕ} {from to : ℕ} {o : List ℕ} {f : Bool} {r : Region} {
   pub ran-small : length s ≤ 4096 → {i n : ℕ} → r ≡ End i n → (i ≤ 32768) × (n ≤ 32768)
   ran-small l {i} {n} e = let g = told (End i n) e in (omega arith, omega arith)
 
-  pub ran-end : length s ≤ 4096 → {i n : ℕ} → r ≡ End i n → Left (regionAt s from to o f) (countOf (i * 65536 + n + 2)) x × Inside s from to (countOf (i * 65536 + n + 2))
+  pub ran-end : length s ≤ 4096 → {i n : ℕ} → r ≡ End i n
+      → Left (regionAt s from to o f) (countOf (i * 65536 + n + 2)) x × Inside s from to (countOf (i * 65536 + n + 2))
   ran-end l {i} {n} e = let g = told (End i n) e in rw (coded i n (omega arith)) (rw (g .0) (refl, refl), g .1)
 
   pub ran-cut : r ≡ RegionCut → Left (regionAt s from to o f) Cut x × Unit {0}

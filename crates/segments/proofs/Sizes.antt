@@ -5,7 +5,10 @@ use lib.Pow.{pow-pos}
 use Rattle.bits.specs.Bits.{value, firstWords, words, groups}
 use Rattle.bits.proofs.Reading.{value-bound}
 use Rattle.segments.specs.Script.{Segment, run, eci, bytesOf, commandOf, payloadOf, scriptOf}
-use Rattle.segments.specs.Segments.{cut, lacking, Result, failed, got, andThen, before, inBits, digits, groupsOf, numericOf, charOf, textOf, bytesRun, bytesMode, highOf, lowOf, regionSize, regionOf, firstByte, secondByte, doubleByteOf, fourBytes, fourByteOf, eciValue, eciOf, bytesOfMode, segmentOf, Ending, endMark, fewBits, broken, Parsed, ended, following, parse}
+use Rattle.segments.specs.Segments.{cut, lacking, Result, failed, got, andThen, before, inBits, digits, groupsOf, numericOf, charOf, textOf}
+use Rattle.segments.specs.Segments.{bytesRun, bytesMode, highOf, lowOf, regionSize, regionOf, firstByte, secondByte, doubleByteOf, fourBytes}
+use Rattle.segments.specs.Segments.{fourByteOf, eciValue, eciOf, bytesOfMode, segmentOf, Ending, endMark, fewBits, broken, Parsed, ended}
+use Rattle.segments.specs.Segments.{following, parse}
 use Rattle.segments.proofs.Turns.{length-digits}
 use Rattle.segments.proofs.Steps.{command-length}
 
@@ -49,7 +52,8 @@ groups-sized : (p : ℕ) (ws : List ℕ) → ((i : ℕ) → getD ws i 0 < 1024) 
 unfolding groupsOf
 groups-sized p [] h = tt
 groups-sized p (w ∷ ws) h =
-    cond-sized 3 (w ∷ ws) (ltb w 1000) (before (digits 3 p) (groupsOf w ws)) _ (before-sized 3 w (digits 3 p) ws (groupsOf w ws) (rw length-digits (omega arith)) (groups-sized w ws (λ i. h (suc i))))
+    cond-sized 3 (w ∷ ws) (ltb w 1000) (before (digits 3 p) (groupsOf w ws)) _
+    (before-sized 3 w (digits 3 p) ws (groupsOf w ws) (rw length-digits (omega arith)) (groups-sized w ws (λ i. h (suc i))))
     (last (ltb 1020 w) (ltb p (10 ^ (w - 1020))))
   where
     last : (a b : Bool) → Sized 3 (w ∷ ws) (cond a (cond b (got (digits (w - 1020) p) 1) (failed lacking)) (failed lacking))
@@ -60,7 +64,9 @@ groups-sized p (w ∷ ws) h =
 numeric-sized : (ws : List ℕ) → ((i : ℕ) → getD ws i 0 < 1024) → Sized 3 ws (numericOf ws)
 unfolding numericOf
 numeric-sized [] h = tt
-numeric-sized (w ∷ ws) h = cond-sized 3 (w ∷ ws) (ltb w 1000) (before [] (groupsOf w ws)) (failed lacking) (before-sized 3 w [] ws (groupsOf w ws) (omega arith) (groups-sized w ws (λ i. h (suc i)))) tt
+numeric-sized (w ∷ ws) h =
+    cond-sized 3 (w ∷ ws) (ltb w 1000) (before [] (groupsOf w ws)) (failed lacking)
+    (before-sized 3 w [] ws (groupsOf w ws) (omega arith) (groups-sized w ws (λ i. h (suc i)))) tt
 
 text-sized : (f : Bool) (ws : List ℕ) → Sized 1 ws (textOf f ws)
 unfolding textOf
@@ -94,7 +100,8 @@ abbrev BitSized : List ℕ → Result (List ℕ) → Type 0
 BitSized bs (failed bad) = Unit {0}
 BitSized bs (got cs u) = (10 * length cs ≤ 3 * u) × (u ≤ length bs) × (5 ≤ u)
 
-in-bits : (w c : ℕ) (bs : List ℕ) (r : Result (List ℕ)) → ((u : ℕ) → 10 * (c * u) ≤ 3 * (w * u)) → ((u : ℕ) → 0 < u → 5 ≤ w * u) → ((u : ℕ) → u ≤ length bs / w → w * u ≤ length bs)
+in-bits : (w c : ℕ) (bs : List ℕ) (r : Result (List ℕ)) → ((u : ℕ) → 10 * (c * u) ≤ 3 * (w * u)) → ((u : ℕ) → 0 < u → 5 ≤ w * u)
+    → ((u : ℕ) → u ≤ length bs / w → w * u ≤ length bs)
     → Sized c (words w bs) r → BitSized bs (inBits w r)
 unfolding words
 in-bits w c bs (failed bad) f g k s = tt
@@ -121,21 +128,27 @@ mode-3 : (bs : List ℕ) → BitSized bs (bytesMode bs)
 unfolding bytesMode words
 mode-3 bs = go (ltb (length bs) 13) refl
   where
-    inner : (r : Result (List ℕ)) → 13 ≤ length bs → RunSized (firstWords 8 (length (drop 13 bs) / 8) (drop 13 bs)) r → BitSized bs (andThen r (λ cs u. got cs (13 + 8 * u)))
+    inner : (r : Result (List ℕ)) → 13 ≤ length bs → RunSized (firstWords 8 (length (drop 13 bs) / 8) (drop 13 bs)) r
+        → BitSized bs (andThen r (λ cs u. got cs (13 + 8 * u)))
     inner (failed bad) l s = tt
     inner (got cs u) l s =
         let k : u ≤ (length bs - 13) / 8 = rw (first-length, length-drop) at (s .1) in
         (omega arith, omega arith, omega arith)
 
-    go : (b : Bool) → ltb (length bs) 13 ≡ b → BitSized bs (cond b (failed cut) (andThen (bytesRun (value 0 (take 13 bs)) (firstWords 8 (length (drop 13 bs) / 8) (drop 13 bs))) (λ cs u. got cs (13 + 8 * u))))
+    go : (b : Bool) → ltb (length bs) 13 ≡ b
+        → BitSized bs (cond b (failed cut) (andThen (bytesRun (value 0 (take 13 bs)) (firstWords 8 (length (drop 13 bs) / 8) (drop 13 bs)))
+        (λ cs u. got cs (13 + 8 * u))))
     go true e = tt
-    go false e = inner (bytesRun (value 0 (take 13 bs)) (firstWords 8 (length (drop 13 bs) / 8) (drop 13 bs))) (ltb-false (length bs) 13 e) (bytes-sized (value 0 (take 13 bs)) (firstWords 8 (length (drop 13 bs) / 8) (drop 13 bs)))
+    go false e =
+        inner (bytesRun (value 0 (take 13 bs)) (firstWords 8 (length (drop 13 bs) / 8) (drop 13 bs))) (ltb-false (length bs) 13 e)
+        (bytes-sized (value 0 (take 13 bs)) (firstWords 8 (length (drop 13 bs) / 8) (drop 13 bs)))
 
 mode-7 : (bs : List ℕ) → BitSized bs (fourByteOf bs)
 unfolding fourByteOf fourBytes
 mode-7 bs = go (ltb (length bs) 21) refl (ltb (value 0 (take 21 bs)) 1587600)
   where
-    go : (a : Bool) → ltb (length bs) 21 ≡ a → (b : Bool) → BitSized bs (cond a (failed cut) (cond b (got (fourBytes (value 0 (take 21 bs))) 21) (failed lacking)))
+    go : (a : Bool) → ltb (length bs) 21 ≡ a → (b : Bool)
+        → BitSized bs (cond a (failed cut) (cond b (got (fourBytes (value 0 (take 21 bs))) 21) (failed lacking)))
     go true e b = tt
     go false e false = tt
     go false e true = let k = ltb-false (length bs) 21 e in (omega arith, k, omega arith)
@@ -147,12 +160,18 @@ pick bs false r q h g = g
 mode-sized : (mode : ℕ) (bs : List ℕ) → Small bs → BitSized bs (bytesOfMode mode bs)
 unfolding bytesOfMode words
 mode-sized mode bs h =
-    pick bs (eqb mode 1) (inBits 10 (numericOf (words 10 bs))) _ (in-bits 10 3 bs (numericOf (words 10 bs)) (λ u. omega arith) (λ u p. omega arith) (λ u p. omega arith) (numeric-sized (words 10 bs) (first-small 10 (length bs / 10) bs h)))
-    (pick bs (eqb mode 2) (inBits 6 (textOf true (words 6 bs))) _ (in-bits 6 1 bs (textOf true (words 6 bs)) (λ u. omega arith) (λ u p. omega arith) (λ u p. omega arith) (text-sized true (words 6 bs)))
+    pick bs (eqb mode 1) (inBits 10 (numericOf (words 10 bs))) _
+    (in-bits 10 3 bs (numericOf (words 10 bs)) (λ u. omega arith) (λ u p. omega arith) (λ u p. omega arith)
+    (numeric-sized (words 10 bs) (first-small 10 (length bs / 10) bs h)))
+    (pick bs (eqb mode 2) (inBits 6 (textOf true (words 6 bs))) _
+    (in-bits 6 1 bs (textOf true (words 6 bs)) (λ u. omega arith) (λ u p. omega arith) (λ u p. omega arith) (text-sized true (words 6 bs)))
     (pick bs (eqb mode 3) (bytesMode bs) _ (mode-3 bs)
-    (pick bs (eqb mode 4) (inBits 12 (regionOf true (words 12 bs))) _ (in-bits 12 2 bs (regionOf true (words 12 bs)) (λ u. omega arith) (λ u p. omega arith) (λ u p. omega arith) (region-sized true (words 12 bs)))
-    (pick bs (eqb mode 5) (inBits 12 (regionOf false (words 12 bs))) _ (in-bits 12 2 bs (regionOf false (words 12 bs)) (λ u. omega arith) (λ u p. omega arith) (λ u p. omega arith) (region-sized false (words 12 bs)))
-    (pick bs (eqb mode 6) (inBits 15 (doubleByteOf (words 15 bs))) _ (in-bits 15 2 bs (doubleByteOf (words 15 bs)) (λ u. omega arith) (λ u p. omega arith) (λ u p. omega arith) (double-sized (words 15 bs)))
+    (pick bs (eqb mode 4) (inBits 12 (regionOf true (words 12 bs))) _
+    (in-bits 12 2 bs (regionOf true (words 12 bs)) (λ u. omega arith) (λ u p. omega arith) (λ u p. omega arith) (region-sized true (words 12 bs)))
+    (pick bs (eqb mode 5) (inBits 12 (regionOf false (words 12 bs))) _
+    (in-bits 12 2 bs (regionOf false (words 12 bs)) (λ u. omega arith) (λ u p. omega arith) (λ u p. omega arith) (region-sized false (words 12 bs)))
+    (pick bs (eqb mode 6) (inBits 15 (doubleByteOf (words 15 bs))) _
+    (in-bits 15 2 bs (doubleByteOf (words 15 bs)) (λ u. omega arith) (λ u p. omega arith) (λ u p. omega arith) (double-sized (words 15 bs)))
     (pick bs (eqb mode 7) (fourByteOf bs) (failed lacking) (mode-7 bs) tt))))))
 
 -- ---- segments
@@ -200,7 +219,8 @@ unfolding payloadOf scriptOf flatMap
 none-sized bs e = (omega arith, omega arith)
 
 -- one segment more, given what holds of the rest
-more-sized : (bs : List ℕ) (r : Result Segment) (rest : ℕ → Parsed) → 4 ≤ length bs → SegmentSized (drop 4 bs) r → ((u : ℕ) → AllSized (drop u (drop 4 bs)) (rest u)) → AllSized bs (following r rest)
+more-sized : (bs : List ℕ) (r : Result Segment) (rest : ℕ → Parsed) → 4 ≤ length bs → SegmentSized (drop 4 bs) r
+    → ((u : ℕ) → AllSized (drop u (drop 4 bs)) (rest u)) → AllSized bs (following r rest)
 unfolding payloadOf scriptOf flatMap
 more-sized bs (failed bad) rest l s a = none-sized bs (broken bad)
 more-sized bs (got g u) rest l s a =
@@ -216,9 +236,13 @@ pub parse-sized : (k : ℕ) (bs : List ℕ) → Small bs → AllSized bs (parse 
 unfolding parse
 parse-sized zero bs h = none-sized bs (broken cut)
 parse-sized (suc k) bs h =
-    go (ltb (length bs) 4) refl (eqb (value 0 (take 4 bs)) 0) (λ l. more-sized bs (segmentOf (value 0 (take 4 bs)) (drop 4 bs)) (λ u. parse k (drop u (drop 4 bs))) l (segment-sized (value 0 (take 4 bs)) (drop 4 bs) (drop-small 4 bs h)) (λ u. parse-sized k (drop u (drop 4 bs)) (drop-small u (drop 4 bs) (drop-small 4 bs h))))
+    go (ltb (length bs) 4) refl (eqb (value 0 (take 4 bs)) 0)
+    (λ l. more-sized bs (segmentOf (value 0 (take 4 bs)) (drop 4 bs)) (λ u. parse k (drop u (drop 4 bs))) l
+    (segment-sized (value 0 (take 4 bs)) (drop 4 bs) (drop-small 4 bs h))
+    (λ u. parse-sized k (drop u (drop 4 bs)) (drop-small u (drop 4 bs) (drop-small 4 bs h))))
   where
-    go : (a : Bool) → ltb (length bs) 4 ≡ a → (b : Bool) → (4 ≤ length bs → AllSized bs (following (segmentOf (value 0 (take 4 bs)) (drop 4 bs)) (λ u. parse k (drop u (drop 4 bs)))))
+    go : (a : Bool) → ltb (length bs) 4 ≡ a → (b : Bool)
+        → (4 ≤ length bs → AllSized bs (following (segmentOf (value 0 (take 4 bs)) (drop 4 bs)) (λ u. parse k (drop u (drop 4 bs)))))
         → AllSized bs (cond a (ended fewBits) (cond b (ended endMark) (following (segmentOf (value 0 (take 4 bs)) (drop 4 bs)) (λ u. parse k (drop u (drop 4 bs))))))
     go true e b f = none-sized bs fewBits
     go false e true f = none-sized bs endMark

@@ -1,6 +1,6 @@
 -- One segment and all of them: what a step of the pass leaves of the definitions.
-use Rattle.general.proofs.Names.{_≡_, refl, ap, _∙_, sym, subst, Bool, true, false, cond, List, [], _∷_, _++_, flatMap, ℕ, zero, suc, _+_, _-_, _*_, _/_}
-use Rattle.general.proofs.Names.{_%_, _<_, _≤_, one-mul, add-zero, arith, eq-eqb, ne-eqb, lt-ltb, le-ltb, eqb, length, drop, length-append, sets, drop-drop}
+use Rattle.general.proofs.Names.{_≡_, refl, ap, _∙_, sym, subst, Bool, true, false, cond, List, [], _∷_, _++_, flatMap, ℕ, suc, _+_, _-_, _*_, _/_, _%_}
+use Rattle.general.proofs.Names.{_<_, _≤_, one-mul, add-zero, arith, eq-eqb, ne-eqb, lt-ltb, le-ltb, eqb, length, drop, length-append, sets, drop-drop}
 use Rattle.bits.specs.Bits.{bitsOf}
 use Rattle.bits.proofs.Tests.{never}
 use Rattle.bits.proofs.Reading.{length-left}
@@ -10,8 +10,10 @@ use Rattle.segments.specs.declared.Count.the-variants.{Done}
 use Rattle.segments.specs.declared.Step.{Step}
 use Rattle.segments.specs.declared.Step.the-variants.{On}
 use Rattle.segments.specs.Script.{Segment, run, eci, bytesOf, runCommand, commandOf, payloadOf, scriptOf}
-use Rattle.segments.specs.Segments.{Fault, cut, lacking, Result, failed, got, andThen, eciOf, bytesOfMode, segmentOf, Ending, endMark, fewBits, broken, Parsed, following, parse, segmentsOf}
-use Rattle.segments.specs.Positions.{stopped, behind, counted, stepped, Left, Inside, numericAt, textAt, bytesAt, regionAt, doubleByteAt, fourByteAt, runAt, EciLeft, Stepped, Reached, ParsesTo, Parses}
+use Rattle.segments.specs.Segments.{Fault, cut, lacking, Result, failed, got, andThen, eciOf, bytesOfMode, segmentOf, Ending, endMark, fewBits}
+use Rattle.segments.specs.Segments.{broken, Parsed, following, parse, segmentsOf}
+use Rattle.segments.specs.Positions.{stopped, behind, counted, stepped, Left, Inside, numericAt, textAt, bytesAt, regionAt, doubleByteAt}
+use Rattle.segments.specs.Positions.{fourByteAt, runAt, EciLeft, Stepped, Reached, ParsesTo, Parses}
 use Rattle.segments.proofs.Turns.{behind-bits}
 
 -- ---- faults and answers
@@ -67,7 +69,8 @@ module _ (s : List ℕ) (i n : ℕ) (o : List ℕ) (mode : ℕ) where
   unfolding bytesOfMode
   run-four e = rw e
 
-  pub run-none : (mode ≡ 1 → ⊥) → (mode ≡ 2 → ⊥) → (mode ≡ 3 → ⊥) → (mode ≡ 4 → ⊥) → (mode ≡ 5 → ⊥) → (mode ≡ 6 → ⊥) → (mode ≡ 7 → ⊥) → runAt s i n o mode ≡ stopped lacking
+  pub run-none : (mode ≡ 1 → ⊥) → (mode ≡ 2 → ⊥) → (mode ≡ 3 → ⊥) → (mode ≡ 4 → ⊥) → (mode ≡ 5 → ⊥)
+      → (mode ≡ 6 → ⊥) → (mode ≡ 7 → ⊥) → runAt s i n o mode ≡ stopped lacking
   unfolding bytesOfMode
   run-none a b c d e f g = rw (ne-eqb mode 1 a, ne-eqb mode 2 b, ne-eqb mode 3 c, ne-eqb mode 4 d, ne-eqb mode 5 e, ne-eqb mode 6 f, ne-eqb mode 7 g)
 
@@ -82,7 +85,8 @@ command-length mode n = go (eqb mode 7)
     go false = omega arith
 
 module _ (s : List ℕ) (i n m : ℕ) (o c : List ℕ) (mode : ℕ) (h : m + 4 ≤ i) (l : n ≤ i) where
-  pub eci-on : mode ≡ 8 → (a v : ℕ) (r : Count) (y : List ℕ) → EciLeft s i (eciOf (drop i (bitsOf s))) r → r ≡ Done a v → y ≡ sets c m (commandOf (eci v))
+  pub eci-on : mode ≡ 8 → (a v : ℕ) (r : Count) (y : List ℕ) → EciLeft s i (eciOf (drop i (bitsOf s))) r → r ≡ Done a v
+      → y ≡ sets c m (commandOf (eci v))
       → Stepped s i n m o c (segmentOf mode (drop i (bitsOf s))) (On a n (m + 4)) o y
   unfolding segmentOf
   eci-on e a v r y p q w = rw (eq-eqb mode 8 e) (go (eciOf (drop i (bitsOf s))) p)
@@ -115,7 +119,8 @@ module _ (s : List ℕ) (i n m : ℕ) (o c : List ℕ) (mode : ℕ) (h : m + 4 �
       go (got (eci v′) u) k = not-done bad (sym q ∙ k .0)
 
   module _ (f : mode ≡ 8 → ⊥) (r : Count) (x : List ℕ) (p : Left (runAt s i n o mode) r x) where
-    pub run-on : (a k used : ℕ) (y : List ℕ) → r ≡ Done a k → a ≤ 8 * length s → k ≤ a → used ≡ length (runCommand mode (k - n)) → y ≡ sets c m (runCommand mode (k - n))
+    pub run-on : (a k used : ℕ) (y : List ℕ) → r ≡ Done a k → a ≤ 8 * length s → k ≤ a → used ≡ length (runCommand mode (k - n))
+        → y ≡ sets c m (runCommand mode (k - n))
         → Stepped s i n m o c (segmentOf mode (drop i (bitsOf s))) (On a k (m + used)) x y
     unfolding segmentOf
     run-on a k used y q la lk eu ey = rw (ne-eqb mode 8 f) (go (bytesOfMode mode (drop i (bitsOf s))) p)
@@ -141,7 +146,8 @@ module _ (s : List ℕ) (i n m : ℕ) (o c : List ℕ) (mode : ℕ) (h : m + 4 �
         go (got bs u) g = not-done bad (sym q ∙ g .0)
 
 -- an answer of a mode that is at a place lies inside
-pub inside : (s : List ℕ) (from to : ℕ) (r : Count) (a k : ℕ) → Inside s from to r → r ≡ Done a k → (from ≤ a) × (a ≤ 8 * length s) × (to ≤ k) × (k ≤ a)
+pub inside : (s : List ℕ) (from to : ℕ) (r : Count) (a k : ℕ) → Inside s from to r → r ≡ Done a k
+    → (from ≤ a) × (a ≤ 8 * length s) × (to ≤ k) × (k ≤ a)
 inside s from to r a k h e = subst (λ (z : Count). Inside s from to z) e h
 
 -- ---- all of them
@@ -158,7 +164,8 @@ step-room s i n m o c (got g u) r a k j x y p e =
 
 -- a segment b before others, by their ends
 module _ (n m : ℕ) (o c : List ℕ) (b : Segment) (gs : List Segment) (r : Count) (x y : List ℕ) where
-  reached : Reached (n + length (bytesOf b)) (m + length (commandOf b)) (sets o n (bytesOf b)) (sets c m (commandOf b)) gs r x y → Reached n m o c (b ∷ gs) r x y
+  reached : Reached (n + length (bytesOf b)) (m + length (commandOf b)) (sets o n (bytesOf b)) (sets c m (commandOf b)) gs r x y
+      → Reached n m o c (b ∷ gs) r x y
   unfolding payloadOf scriptOf flatMap
   reached d =
       let e1 : n + length (bytesOf b ++ payloadOf gs) ≡ n + length (bytesOf b) + length (payloadOf gs) = rw length-append (omega arith) in
@@ -227,11 +234,12 @@ module _ {s o₀ c₀ : List ℕ} {i n m : ℕ} {o c : List ℕ} (d : Parsing s 
             let l = parse-room in
             record {
               fuel = d .fuel - 1;
-              enough = omega (arith, d .enough, w .room);
+              enough = omega arith;
               rest = λ r x′ y′ q. turn r x′ y′ (rw opened (here (segmentOf mode (drop (i + 4) (bitsOf s))) r x′ y′ g q));
             }
           where
-            here : (z : Result Segment) (r : Count) (x′ y′ : List ℕ) → Stepped s (i + 4) n m o c z t x y → Parses k j x y (parse (d .fuel - 1) (drop a (bitsOf s))) r x′ y′
+            here : (z : Result Segment) (r : Count) (x′ y′ : List ℕ) → Stepped s (i + 4) n m o c z t x y
+                → Parses k j x y (parse (d .fuel - 1) (drop a (bitsOf s))) r x′ y′
                 → Parses n m o c (following z behind-it) r x′ y′
             here (failed bad) r x′ y′ q f = not-on bad (sym q ∙ e)
             here (got b u) r x′ y′ q f =
@@ -239,4 +247,5 @@ module _ {s o₀ c₀ : List ℕ} {i n m : ℕ} {o c : List ℕ} (d : Parsing s 
                 let ea : a ≡ i + 4 + u = cc in
                 let ek : k ≡ n + length (bytesOf b) = cc in
                 let ej : j ≡ m + length (commandOf b) = cc in
-                join n m o c b (behind-it u .segments) r x′ y′ (behind-it u .end) (rw (drop-drop u (i + 4) (bitsOf s), ← ea, ← ek, ← ej, ← (q .1), ← (q .2)) f)
+                join n m o c b (behind-it u .segments) r x′ y′ (behind-it u .end)
+                (rw (drop-drop u (i + 4) (bitsOf s), ← ea, ← ek, ← ej, ← (q .1), ← (q .2)) f)

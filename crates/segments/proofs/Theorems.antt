@@ -7,7 +7,8 @@ use Rattle.segments.specs.Segments.{segmentsOf}
 use Rattle.segments.proofs.Sizes.{parse-sized}
 
 -- Data of at most 3,886 bytes give a payload and a script of at most 12,288 bytes each.
-pub room-enough : (s : List ℕ) → length s ≤ 3886 → (length (payloadOf (segmentsOf s .segments)) ≤ 12288) × (length (scriptOf (segmentsOf s .segments)) ≤ 12288)
+pub room-enough : (s : List ℕ) → length s ≤ 3886
+    → (length (payloadOf (segmentsOf s .segments)) ≤ 12288) × (length (scriptOf (segmentsOf s .segments)) ≤ 12288)
 room-enough s h =
     let a = parse-sized (8 * length s + 1) (bitsOf s) (bit-lt s) in
     let l = length-bits s in

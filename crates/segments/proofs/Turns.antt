@@ -6,7 +6,9 @@ use Rattle.bits.specs.declared.Word.the-variants.{Value, Cut as WordCut}
 use Rattle.bits.specs.Bits.{bitsOf, readBits, words}
 use Rattle.bits.proofs.Reading.{length-left}
 use Rattle.bits.proofs.Words.{WordAt, word-read, word-cut, sets-append}
-use Rattle.segments.specs.Segments.{cut, lacking, Result, failed, got, andThen, before, inBits, digits, groupsOf, numericOf, charOf, textOf, bytesRun, bytesMode, highOf, lowOf, regionSize, regionOf, firstByte, secondByte, doubleByteOf, fourBytes, fourByteOf}
+use Rattle.segments.specs.Segments.{cut, lacking, Result, failed, got, andThen, before, inBits, digits, groupsOf, numericOf, charOf, textOf}
+use Rattle.segments.specs.Segments.{bytesRun, bytesMode, highOf, lowOf, regionSize, regionOf, firstByte, secondByte, doubleByteOf, fourBytes}
+use Rattle.segments.specs.Segments.{fourByteOf}
 use Rattle.segments.specs.declared.Count.{Count}
 use Rattle.segments.specs.declared.Count.the-variants.{Done, Cut, Lacking}
 use Rattle.segments.specs.Positions.{State, stopped, Inside, at, behind, bytesRunAt, bytesAt, fourByteAt}
@@ -38,7 +40,8 @@ pub remains-start : {w : ℕ} {s : List ℕ} {from to : ℕ} {o : List ℕ} {f :
     → Remains w (behind w from to o (f (words w (drop from (bitsOf s))))) s from to from to o f
 remains-start h l = record { past = omega arith; room = h; more = omega arith; few = l; same = refl }
 
-module _ {w : ℕ} {whole : State} {s : List ℕ} {from to i n : ℕ} {o : List ℕ} {f : List ℕ → Result (List ℕ)} (d : Remains w whole s from to i n o f) where
+module _ {w : ℕ} {whole : State} {s : List ℕ} {from to i n : ℕ} {o : List ℕ} {f : List ℕ → Result (List ℕ)}
+    (d : Remains w whole s from to i n o f) where
   -- what `read_bits` answers: no word is left, or a word
   pub remains-cut : {r : Word} → r ≡ readBits w (drop i (bitsOf s)) → r ≡ WordCut → f [] ≡ failed cut → whole ≡ stopped cut
   remains-cut {r} e h g = d .same ∙ rw (word-cut w i s r e h, g)
@@ -60,18 +63,20 @@ module _ {w : ℕ} {whole : State} {s : List ℕ} {from to i n : ℕ} {o : List 
     pub remains-stop : ((ws : List ℕ) → f (v ∷ ws) ≡ got [] 1) → whole ≡ at (i + w) n o
     remains-stop g = remains-end [] g ∙ rw add-zero
 
-    pub remains-on : (cs : List ℕ) (g : List ℕ → Result (List ℕ)) {o′ : List ℕ} → ((ws : List ℕ) → f (v ∷ ws) ≡ before cs (g ws)) → length cs ≤ w → o′ ≡ sets o n cs
+    pub remains-on : (cs : List ℕ) (g : List ℕ → Result (List ℕ)) {o′ : List ℕ} → ((ws : List ℕ) → f (v ∷ ws) ≡ before cs (g ws))
+        → length cs ≤ w → o′ ≡ sets o n cs
         → Remains w whole s from to (i + w) (n + length cs) o′ g
     remains-on cs g e l q =
         record {
-          past = omega (arith, d .past);
+          past = omega arith;
           room = r .room;
-          more = omega (arith, d .more);
-          few = omega (arith, d .few);
+          more = omega arith;
+          few = omega arith;
           same = rw q (d .same ∙ rw (r .next, e later) (behind-before w i n o cs (g later)));
         }
 
-    pub remains-none : (g : List ℕ → Result (List ℕ)) → ((ws : List ℕ) → f (v ∷ ws) ≡ before [] (g ws)) → Remains w whole s from to (i + w) n o g
+    pub remains-none : (g : List ℕ → Result (List ℕ)) → ((ws : List ℕ) → f (v ∷ ws) ≡ before [] (g ws))
+        → Remains w whole s from to (i + w) n o g
     remains-none g e = rw add-zero at (remains-on [] g e (omega arith) refl)
 
 -- ---- what each mode makes of a word w
@@ -132,7 +137,8 @@ module _ {w : ℕ} where
     unfolding regionOf
     region-lacks h g l ws = rw (ne-eqb w 4095 h, ne-eqb w 4094 g, le-ltb w (regionSize f) l)
 
-    pub region-pair : (w ≡ 4095 → ⊥) → (w ≡ 4094 → ⊥) → w < regionSize f → (ws : List ℕ) → regionOf f (w ∷ ws) ≡ before (highOf f w ∷ lowOf f w ∷ []) (regionOf f ws)
+    pub region-pair : (w ≡ 4095 → ⊥) → (w ≡ 4094 → ⊥) → w < regionSize f → (ws : List ℕ)
+        → regionOf f (w ∷ ws) ≡ before (highOf f w ∷ lowOf f w ∷ []) (regionOf f ws)
     unfolding regionOf
     region-pair h g l ws = rw (ne-eqb w 4095 h, ne-eqb w 4094 g, lt-ltb w (regionSize f) l)
 
@@ -144,7 +150,8 @@ module _ {w : ℕ} where
   unfolding doubleByteOf
   double-lacks h l ws = rw (ne-eqb w 32767 h, le-ltb w 23940 l)
 
-  pub double-pair : (w ≡ 32767 → ⊥) → w < 23940 → (ws : List ℕ) → doubleByteOf (w ∷ ws) ≡ before (firstByte w ∷ secondByte w ∷ []) (doubleByteOf ws)
+  pub double-pair : (w ≡ 32767 → ⊥) → w < 23940 → (ws : List ℕ)
+      → doubleByteOf (w ∷ ws) ≡ before (firstByte w ∷ secondByte w ∷ []) (doubleByteOf ws)
   unfolding doubleByteOf
   double-pair h l ws = rw (ne-eqb w 32767 h, lt-ltb w 23940 l)
 
@@ -157,7 +164,8 @@ pub bytes-run-cut : (k i : ℕ) → i < k → bytesRun (k - i) [] ≡ failed cut
 unfolding bytesRun
 bytes-run-cut k i h = let e : k - i ≡ suc (k - (i + 1)) = omega arith in rw e
 
-pub bytes-run-done : {whole : State} {s : List ℕ} {from to i n : ℕ} {o : List ℕ} (k j : ℕ) → Remains 8 whole s from to i n o (bytesRun (k - j)) → k ≤ j → whole ≡ at i n o
+pub bytes-run-done : {whole : State} {s : List ℕ} {from to i n : ℕ} {o : List ℕ} (k j : ℕ) → Remains 8 whole s from to i n o (bytesRun (k - j))
+    → k ≤ j → whole ≡ at i n o
 unfolding bytesRun
 bytes-run-done k j d h = let e : k - j ≡ 0 = omega arith in d .same ∙ rw (e, add-zero, add-zero)
 
@@ -190,7 +198,8 @@ pub bytes-length : (s : List ℕ) (i n : ℕ) (o : List ℕ) (k : ℕ) → WordA
 unfolding bytesMode
 bytes-length s i n o k r =
     let m = r .room in
-    rw (le-ltb (length (drop i (bitsOf s))) 13 (omega (arith, length-left s i)), ← (r .is), drop-drop 13 i (bitsOf s)) (go (bytesRun k (words 8 (drop (i + 13) (bitsOf s)))))
+    rw (le-ltb (length (drop i (bitsOf s))) 13 (omega (arith, length-left s i)), ← (r .is), drop-drop 13 i (bitsOf s))
+    (go (bytesRun k (words 8 (drop (i + 13) (bitsOf s)))))
   where
     go : (p : Result (List ℕ)) → behind 1 i n o (andThen p (λ cs u. got cs (13 + 8 * u))) ≡ behind 8 (i + 13) n o p
     go (failed bad) = refl

@@ -14,7 +14,8 @@ use Rattle.segments.specs.declared.Region.the-variants.{End, Switch, Cut
 use Rattle.segments.specs.declared.Step.{Step}
 use Rattle.segments.specs.declared.Step.the-variants.{On, Cut as StepCut, Lacking as StepLacking}
 use Rattle.segments.specs.Script.{Segment, run, eci, bytesOf, commandOf, payloadOf, scriptOf}
-use Rattle.segments.specs.Segments.{Fault, cut, lacking, Result, failed, got, groupsOf, numericOf, textOf, bytesRun, bytesMode, regionOf, doubleByteOf, fourByteOf, bytesOfMode, Ending, endMark, fewBits, broken, Parsed}
+use Rattle.segments.specs.Segments.{Fault, cut, lacking, Result, failed, got, groupsOf, numericOf, textOf, bytesRun, bytesMode, regionOf}
+use Rattle.segments.specs.Segments.{doubleByteOf, fourByteOf, bytesOfMode, Ending, endMark, fewBits, broken, Parsed}
 
 -- where a mode's function stops: at a fault, or at a position with n bytes stored in a buffer
 pub data State : Type 0 where

@@ -283,7 +283,8 @@ pub struct Place {
 // One segment of a mode, and its command.
 pub fn segment(s: &[u8], place: Place, mode: usize, out: &mut [u8], script: &mut [u8]) -> Step
     requires { ⌜ (length (now s) ≤ 4096) × (place .at ≤ 8 * length (now s)) × (place .payload ≤ place .at) × (place .script + 4 ≤ place .at) × (mode < 16) ⌝ }
-    ensures { λ r. ⌜ Stepped (now (s .entry)) (place .at) (place .payload) (place .script) (now (out .entry)) (now (script .entry)) (segmentOf mode (drop (place .at) (bitsOf (now (s .entry))))) r (now (out .exit)) (now (script .exit)) ⌝ }
+    ensures { λ r. ⌜ Stepped (now (s .entry)) (place .at) (place .payload) (place .script) (now (out .entry)) (now (script .entry))
+        (segmentOf mode (drop (place .at) (bitsOf (now (s .entry))))) r (now (out .exit)) (now (script .exit)) ⌝ }
 {
     let from = place.at;
     let n = place.payload;

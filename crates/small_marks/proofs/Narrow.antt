@@ -32,14 +32,23 @@ window-is mask at h =
     let e : 27 ≡ at + (8 + (19 - at)) = omega arith in
     let x = mask / 2 ^ (19 - at) in
     let front : take 8 (drop at (lowBits 27 mask)) ≡ lowBits 8 x =
-    ap (λ (n : ℕ). take 8 (drop at (lowBits n mask))) e ∙ ap (take 8) (low-drop at (8 + (19 - at)) mask ∙ low-split 8 (19 - at) mask) ∙ take-at (lowBits 8 x) (lowBits (19 - at) mask) 8 (length-low 8 x) in
-    let room : 8 ≤ length (drop at (lowBits 27 mask)) = omega (arith, ap length (ap (λ (n : ℕ). drop at (lowBits n mask)) e ∙ low-drop at (8 + (19 - at)) mask), length-low (8 + (19 - at)) mask) in
-    let bits : run 8 (behind (lowBits 27 mask) at) ≡ lowBits 8 x = run-ext 8 (behind (lowBits 27 mask) at) (λ k. getD (drop at (lowBits 27 mask)) k 0) (λ k. sym (getD-drop at (lowBits 27 mask) k 0)) ∙ run-take 8 (drop at (lowBits 27 mask)) room ∙ front in
+    ap (λ (n : ℕ). take 8 (drop at (lowBits n mask))) e ∙ ap (take 8) (low-drop at (8 + (19 - at)) mask ∙ low-split 8 (19 - at) mask)
+    ∙ take-at (lowBits 8 x) (lowBits (19 - at) mask) 8 (length-low 8 x) in
+    let room : 8 ≤ length (drop at (lowBits 27 mask)) = omega (
+      arith,
+      ap length
+          (ap (λ (n : ℕ). drop at (lowBits n mask)) e ∙ low-drop at (8 + (19 - at)) mask),
+      length-low (8 + (19 - at)) mask,
+    ) in
+    let bits : run 8 (behind (lowBits 27 mask) at) ≡ lowBits 8 x =
+    run-ext 8 (behind (lowBits 27 mask) at) (λ k. getD (drop at (lowBits 27 mask)) k 0) (λ k. sym (getD-drop at (lowBits 27 mask) k 0))
+    ∙ run-take 8 (drop at (lowBits 27 mask)) room ∙ front in
     let none : 0 * 2 ^ 8 + x % 2 ^ 8 ≡ x % 256 = omega arith in
     sym (ap (value 0) bits ∙ value-low 8 0 x ∙ none)
 
 -- the sum without carries, bit by bit
-xor-value : (n u v : ℕ) (a b : ℕ → ℕ) → ((k : ℕ) → a k < 2) → ((k : ℕ) → b k < 2) → bitXor (value u (run n a)) (value v (run n b)) ≡ value (bitXor u v) (run n (λ k. bitXor (a k) (b k)))
+xor-value : (n u v : ℕ) (a b : ℕ → ℕ) → ((k : ℕ) → a k < 2) → ((k : ℕ) → b k < 2)
+    → bitXor (value u (run n a)) (value v (run n b)) ≡ value (bitXor u v) (run n (λ k. bitXor (a k) (b k)))
 unfolding run value
 xor-value zero u v a b ha hb = refl
 xor-value (suc n) u v a b ha hb =
@@ -49,7 +58,8 @@ xor-value (suc n) u v a b ha hb =
 pub narrow-is : {sq : List ℕ} (mask at : ℕ) {x g : ℕ} → Masked sq (lowBits 27 mask) → at ≤ 19 → x ≡ eightOf (behind sq at) → Gathered x g
     → (bitXor g (mask / 2 ^ (19 - at) % 256) ≡ value 0 (run 8 (unmaskedAt sq (lowBits 27 mask) at))) × (bitXor g (mask / 2 ^ (19 - at) % 256) < 256)
 narrow-is {sq} mask at {x} {g} a h e gathered = (
-  ap₂ bitXor (gathered-is (behind sq at) (λ k. a .modules (at + k)) e gathered) (window-is mask at h) ∙ xor-value 8 0 0 (behind sq at) (behind (lowBits 27 mask) at) (λ k. a .modules (at + k)) (λ k. a .masks (at + k)),
+  ap₂ bitXor (gathered-is (behind sq at) (λ k. a .modules (at + k)) e gathered) (window-is mask at h)
+      ∙ xor-value 8 0 0 (behind sq at) (behind (lowBits 27 mask) at) (λ k. a .modules (at + k)) (λ k. a .masks (at + k)),
   xor-lt 8 g (mask / 2 ^ (19 - at) % 256) (gathered .small) (mod-lt (mask / 2 ^ (19 - at)) (lit< tt)),
 )
 
@@ -70,10 +80,12 @@ spans-none = record { go = λ ks e z. goes-none }
 pub spans-on : {sq row a b c : List ℕ} {r s t : Run} → r .column ≤ s .column → s .column ≤ t .column → Spans sq row a b r s → Spans sq row b c s t → Spans sq row a c r t
 spans-on lo hi f g = record { go = λ ks e z. goes-on (f .go ks e (λ k p q. z k p (omega arith))) (g .go ks e (λ k p q. z k (omega arith) q)) }
 
-pub spans-push : {sq row out out′ : List ℕ} {r s : Run} → Masked sq row → (n x : ℕ) → r .column + n ≤ length sq → x ≡ value 0 (run n (unmaskedAt sq row (r .column))) → s .column ≡ r .column + n
+pub spans-push : {sq row out out′ : List ℕ} {r s : Run} → Masked sq row → (n x : ℕ) → r .column + n ≤ length sq
+    → x ≡ value 0 (run n (unmaskedAt sq row (r .column))) → s .column ≡ r .column + n
     → Pushed n x out out′ r s → Spans sq row out out′ r s
 spans-push {r = r} a n x h e f q = record { go = λ ks l z. goes-push a l n x (omega arith) (λ k i. z (r .column + k) (omega arith) (omega arith)) e f q }
 
 -- The divisor 2 ^ w as the code has it.
 pub two-power : (w : ℕ) → w ≤ 8 → 1 * 2 ^ w % 18446744073709551616 ≡ 2 ^ w
-two-power w h = let e : 1 * 2 ^ w ≡ 2 ^ w = omega arith in ap (λ (y : ℕ). y % 18446744073709551616) e ∙ mod-eq-of-lt (omega (arith, pow-le-pow-right {n = 2} (lit< tt) {i = w} {j = 8} h))
+two-power w h = let e : 1 * 2 ^ w ≡ 2 ^ w = omega arith in ap (λ (y : ℕ). y % 18446744073709551616) e
+    ∙ mod-eq-of-lt (omega (arith, pow-le-pow-right {n = 2} (lit< tt) {i = w} {j = 8} h))

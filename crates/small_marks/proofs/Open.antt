@@ -23,7 +23,14 @@ use Rattle.placement.proofs.Rows.{part, part-length, part-at, row-inside, row-m
 corner-kind : (s r c : ℕ) → edge s r < 9 → edge s c < 9 → cornerAt s r c ≢ 0
 unfolding finderAt
 corner-kind s r c a b z = elim (decLt (edge s r) 8) [
-  | yes p ↦ elim (decLt (edge s c) 8) [ yes q ↦ elim (decLt (edge s r) 7) [ yes x ↦ elim (decLt (edge s c) 7) [ yes y ↦ omega (arith, in-finder s r c x y, z) | no y ↦ separator (λ l. omega arith) p q ] | no x ↦ separator (λ l. absurd (omega arith)) p q ] | no q ↦ information (λ l. omega arith) ]
+  | yes p ↦ elim (decLt (edge s c) 8) [
+    | yes q ↦ elim (decLt (edge s r) 7) [
+      | yes x ↦ elim (decLt (edge s c) 7) [ yes y ↦ omega (arith, in-finder s r c x y, z) | no y ↦ separator (λ l. omega arith) p q ]
+      | no x
+          ↦ separator (λ l. absurd (omega arith)) p q
+    ]
+    | no q ↦ information (λ l. omega arith)
+  ]
   | no p ↦ information (λ l. absurd (omega arith))
 ]
   where
@@ -58,7 +65,8 @@ enough = tt
 pub open-enough : (v : ℕ) → 1 ≤ v → v ≤ 3 → 8 * totalOf v ≤ dataModules (layoutOf v)
 open-enough v lo hi =
     let e : v - 1 + 1 ≡ v = omega arith in
-    let t : 8 * totalOf (v - 1 + 1) ≤ dataModules (layoutOf (v - 1 + 1)) = leb→le _ _ (every (λ n. leb (8 * totalOf (n + 1)) (dataModules (layoutOf (n + 1)))) 3 enough (v - 1) (omega arith)) in
+    let t : 8 * totalOf (v - 1 + 1) ≤ dataModules (layoutOf (v - 1 + 1)) =
+    leb→le _ _ (every (λ n. leb (8 * totalOf (n + 1)) (dataModules (layoutOf (n + 1)))) 3 enough (v - 1) (omega arith)) in
     subst (λ (n : ℕ). 8 * totalOf n ≤ dataModules (layoutOf n)) e t
 
 -- The data of a row stand side by side.
@@ -77,11 +85,14 @@ pub margin-few : {s r m : ℕ} → Margin s r m → m ≤ 9
 margin-few (whole a b) = omega arith
 margin-few (ends e) = omega arith
 
-pub open-turn : {total m : ℕ} {all out out′ row : List ℕ} {r s : Run} (mask : ℕ) (ks sq : List ℕ) (i side : ℕ) → 23 ≤ side → Open side ks → length sq ≡ side * side → i < side → Margin side i m
-    → ((c : ℕ) → m ≤ c → c < side - m → getD row c 0 ≡ maskAt mask (i + 1) (c + 1)) → r .column ≡ m → s .column ≡ side - m → Spans (part (i * side) (i * side + side) sq) row out out′ r s
+pub open-turn : {total m : ℕ} {all out out′ row : List ℕ} {r s : Run} (mask : ℕ) (ks sq : List ℕ) (i side : ℕ) → 23 ≤ side → Open side ks
+    → length sq ≡ side * side → i < side → Margin side i m
+    → ((c : ℕ) → m ≤ c → c < side - m → getD row c 0 ≡ maskAt mask (i + 1) (c + 1)) → r .column ≡ m → s .column ≡ side - m
+    → Spans (part (i * side) (i * side + side) sq) row out out′ r s
     → Walk total all out (bitsFrom (maskBit side mask) ks sq (i * side)) r → Walk total all out′ (bitsFrom (maskBit side mask) ks sq ((i + 1) * side)) s
 open-turn {m = m} {row = row} {r = r} {s = s} mask ks sq i side big o e l g masks er es spans w =
-    row-turn (maskBit side mask) ks sq i side (omega (arith, o .size)) h agree front back (spans .go us (lx ∙ sym lu) (λ k lo hi. part-at (i * side) side k ks (omega arith) ∙ margin-data o l g k (omega arith) (omega arith))) w
+    row-turn (maskBit side mask) ks sq i side (omega (arith, o .size)) h agree front back
+    (spans .go us (lx ∙ sym lu) (λ k lo hi. part-at (i * side) side k ks (omega arith) ∙ margin-data o l g k (omega arith) (omega arith))) w
   where
     us : List ℕ
     us = part (i * side) (i * side + side) ks
@@ -111,9 +122,12 @@ open-turn {m = m} {row = row} {r = r} {s = s} mask ks sq i side big o e l g mask
     ]
 
     front : rowBits us xs row (r .column) ≡ rowBits us xs row 0
-    front = let z : 0 + r .column ≡ r .column = omega arith in sym (from-misses (λ k. getD row k 0) us xs (omega (arith, lu, lx)) (r .column) 0 (omega (arith, lx, er, few)) (λ k a b. none k (omega (arith, er, few)) (inl (omega (arith, er)))) ∙ ap (rowBits us xs row) z)
+    front = let z : 0 + r .column ≡ r .column = omega arith in sym
+        (from-misses (λ k. getD row k 0) us xs (omega (arith, lu, lx)) (r .column) 0 (omega (arith, lx, er, few))
+        (λ k a b. none k (omega (arith, er, few)) (inl (omega (arith, er)))) ∙ ap (rowBits us xs row) z)
 
     back : rowBits us xs row (s .column) ≡ []
     back =
-        from-misses (λ k. getD row k 0) us xs (omega (arith, lu, lx)) (side - s .column) (s .column) (omega (arith, lx, es)) (λ k a b. none k (omega (arith, es)) (inr (omega (arith, es))))
+        from-misses (λ k. getD row k 0) us xs (omega (arith, lu, lx)) (side - s .column) (s .column) (omega (arith, lx, es))
+        (λ k a b. none k (omega (arith, es)) (inr (omega (arith, es))))
         ∙ bits-none (λ k. getD row k 0) us xs (s .column + (side - s .column)) (omega (arith, lx, es))

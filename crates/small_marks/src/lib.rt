@@ -30,7 +30,8 @@ fn unmasked(square: &[u8], mask: usize, at: usize) -> usize
 // All modules of such a row from a column on and before another. Those left behind the groups of eight are the last of the eight that end
 // there.
 fn read_span(out: &mut [u8], square: &[u8], mask: usize, to: usize, first: Run) -> Run
-    requires { ⌜ Masked (now square) (lowBits 27 mask) × Pending first × (first .column ≤ to) × (8 ≤ to) × (to ≤ length (now square)) × (length (now square) ≤ 27) ⌝ }
+    requires { ⌜ Masked (now square) (lowBits 27 mask) × Pending first × (first .column ≤ to) × (8 ≤ to) × (to ≤ length (now square))
+        × (length (now square) ≤ 27) ⌝ }
     ensures { λ s. ⌜ Pending s × (s .column ≡ to) × Spans (now (square .entry)) (lowBits 27 mask) (now (out .entry)) (now (out .exit)) first s ⌝ }
 {
     let mut r = first;
@@ -57,8 +58,11 @@ fn margin(side: usize, row: usize) -> usize
 
 // All rows of a square with no alignment patterns: each has its data modules side by side, so that no kinds are looked at.
 fn read_open_rows(out: &mut [u8], square: &[u8], version: usize, mask: usize)
-    requires { ⌜ (1 ≤ version) × (version ≤ 3) × (mask ≤ 3) × (length (now square) ≡ sideOf version * sideOf version) × ((i : ℕ) → getD (now square) i 0 < 2) × (8 * length (now out) ≤ length (dataBits (maskBit (sideOf version) mask) 0 (layoutOf version) (now square))) ⌝ }
-    ensures { λ _. ⌜ now (out .exit) ≡ codewordsOf (length (now (out .entry))) (dataBits (maskBit (sideOf version) mask) 0 (layoutOf version) (now (square .entry))) ⌝ }
+    requires { ⌜ (1 ≤ version) × (version ≤ 3) × (mask ≤ 3) × (length (now square) ≡ sideOf version * sideOf version)
+        × ((i : ℕ) → getD (now square) i 0 < 2) × (8 * length (now out) ≤ length
+        (dataBits (maskBit (sideOf version) mask) 0 (layoutOf version) (now square))) ⌝ }
+    ensures { λ _. ⌜ now (out .exit) ≡ codewordsOf (length (now (out .entry)))
+        (dataBits (maskBit (sideOf version) mask) 0 (layoutOf version) (now (square .entry))) ⌝ }
 {
     let side = 2 * version + 21;
     let rows = masks::open_rows();
@@ -87,9 +91,11 @@ fn read_open_rows(out: &mut [u8], square: &[u8], version: usize, mask: usize)
 
 // The first total codewords of a square, as `placement::read_codewords` says, with no layout.
 pub fn read_open(out: &mut [u8], total: usize, square: &[u8], version: usize, mask: usize)
-    requires { ⌜ (1 ≤ version) × (version ≤ 3) × (mask ≤ 3) × (length (now square) ≡ sideOf version * sideOf version) × ((i : ℕ) → getD (now square) i 0 < 2) ⌝ }
+    requires { ⌜ (1 ≤ version) × (version ≤ 3) × (mask ≤ 3) × (length (now square) ≡ sideOf version * sideOf version)
+        × ((i : ℕ) → getD (now square) i 0 < 2) ⌝ }
     requires { ⌜ (total ≤ length (now out)) × (8 * total ≤ length (dataBits (maskBit (sideOf version) mask) 0 (layoutOf version) (now square))) ⌝ }
-    ensures { λ _. ⌜ now (out .exit) ≡ codewordsOf total (dataBits (maskBit (sideOf version) mask) 0 (layoutOf version) (now (square .entry))) ++ drop total (now (out .entry)) ⌝ }
+    ensures { λ _. ⌜ now (out .exit) ≡ codewordsOf total (dataBits (maskBit (sideOf version) mask) 0 (layoutOf version) (now (square .entry))) ++ drop
+        total (now (out .entry)) ⌝ }
 {
     read_open_rows(&mut out[..total], square, version, mask);
 }

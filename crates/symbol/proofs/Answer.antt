@@ -18,7 +18,8 @@ tail-same a b r i e h =
 
 pub plotAll-beyond : (s : ℕ) (ps : List Plot) (g r : List ℕ) → length g ≡ s * s → plotAll s ps (g ++ r) ≡ plotAll s ps g ++ r
 plotAll-beyond s ps g r h =
-    ext-getD 0 (plotAll s ps (g ++ r)) (plotAll s ps g ++ r) (omega (arith, long, length-append g r, all-length s ps (g ++ r), length-append (plotAll s ps g) r))
+    ext-getD 0 (plotAll s ps (g ++ r)) (plotAll s ps g ++ r)
+    (omega (arith, long, length-append g r, all-length s ps (g ++ r), length-append (plotAll s ps g) r))
     (λ i l. elim (decLt i (s * s)) [
       | yes k ↦ all-at s ps (g ++ r) i k (omega (arith, length-append g r)) ∙ ap (λ (a : ℕ). drawn a (first s ps i))
           (List·getD-append g r 0 i (omega arith))
@@ -75,5 +76,6 @@ module _ (v : ℕ) (out : List ℕ) where
               answered,
               rw (← answered)
                   (simp (le-ltb v 4 t)
-                  (q .is ∙ ap (plotAll (sideOf v) (alignment v)) filled ∙ plotAll-beyond (sideOf v) (alignment v) (corners (sideOf v)) (drop (sideOf v * sideOf v) out) (corners-length (sideOf v)))),
+                  (q .is ∙ ap (plotAll (sideOf v) (alignment v)) filled
+                  ∙ plotAll-beyond (sideOf v) (alignment v) (corners (sideOf v)) (drop (sideOf v * sideOf v) out) (corners-length (sideOf v)))),
             )

@@ -19,7 +19,8 @@ row-small corner row h g =
     let n : 7 * corner + row < 28 = omega arith in
     let p : (7 * corner + row) / 7 ≡ corner = omega arith in
     let q : (7 * corner + row) % 7 ≡ row = omega arith in
-    let t : getD (getD finders ((7 * corner + row) / 7) []) ((7 * corner + row) % 7) 0 < 128 = ltb→lt _ _ (every (λ n. ltb (getD (getD finders (n / 7) []) (n % 7) 0) 128) 28 rows-small (7 * corner + row) n) in
+    let t : getD (getD finders ((7 * corner + row) / 7) []) ((7 * corner + row) % 7) 0 < 128 =
+    ltb→lt _ _ (every (λ n. ltb (getD (getD finders (n / 7) []) (n % 7) 0) 128) 28 rows-small (7 * corner + row) n) in
     rw (p, q) at t
 
 -- by the test a < b
@@ -106,7 +107,8 @@ pub along : (s r : ℕ) (f : ℕ → ℕ) {from to : ℕ} → r * s ≤ from →
     → (i : ℕ) → from ≤ i → i < to → f i ≡ cornerKind s i
 along s r f {from} {to} a b k i h g =
     let e : r * s + (i - r * s) ≡ i = omega arith in
-    let t : f (r * s + (i - r * s)) ≡ cornerKind s (r * s + (i - r * s)) = k (i - r * s) (omega arith) (omega arith) ∙ sym (row-kind s r (i - r * s) (omega arith)) in
+    let t : f (r * s + (i - r * s)) ≡ cornerKind s (r * s + (i - r * s)) =
+    k (i - r * s) (omega arith) (omega arith) ∙ sym (row-kind s r (i - r * s) (omega arith)) in
     subst (λ (n : ℕ). f n ≡ cornerKind s n) e t
 
 pub row-end : (s r : ℕ) → r < s → r * s + s ≤ s * s
@@ -173,7 +175,8 @@ module _ (s r : ℕ) (big : 23 ≤ s) (in-row : r < s) where
           finder : edge s r < 7 → c < 7 → 2 + 2 * bits / 2 ^ (7 - c) % 2 ≡ cornerAt s r c
           finder l k =
               let e : 7 - c ≡ suc (6 - c) = omega arith in
-              ap (λ (n : ℕ). 2 + 2 * bits / n % 2) (ap (λ (n : ℕ). 2 ^ n) e ∙ pow-succ' 2 (6 - c)) ∙ ap (λ (n : ℕ). 2 + n % 2) (mul-div-mul-left bits (2 ^ (6 - c)) (lit< tt))
+              ap (λ (n : ℕ). 2 + 2 * bits / n % 2) (ap (λ (n : ℕ). 2 ^ n) e ∙ pow-succ' 2 (6 - c))
+              ∙ ap (λ (n : ℕ). 2 + n % 2) (mul-div-mul-left bits (2 ^ (6 - c)) (lit< tt))
               ∙ ap (λ (n : ℕ). 2 + n / 2 ^ (6 - c) % 2) (row l ∙ ap (λ (n : ℕ). finderRow s n r) z)
               ∙ sym (in-finder s r c l (omega (arith, d)) ∙ simp (lt-ltb c 7 k))
 
@@ -253,7 +256,8 @@ module _ (s r : ℕ) (big : 23 ≤ s) (in-row : r < s) where
           → 2 + right / 2 ^ (7 - (r * s + k - (r * s + s - 8))) % 2 ≡ cornerAt s r k
       rights k h j = right-modules s r big in-row near right 1 (q .0) (q .1 .0) (q .1 .1) refl k (r * s + k - (r * s + s - 8)) (omega arith) (omega arith)
 
-  pub information-row : edge s r ≡ 8 → {g g₁ g₂ : List ℕ} → Stored (λ i. 1) (r * s) (r * s + 9) g g₁ → Stored (λ i. 1) (r * s + s - 9) (r * s + s) g₁ g₂ → Ends (cornerKind s) (r * s) (r * s + s) g g₂
+  pub information-row : edge s r ≡ 8 → {g g₁ g₂ : List ℕ} → Stored (λ i. 1) (r * s) (r * s + 9) g g₁ → Stored (λ i. 1) (r * s + s - 9) (r * s + s) g₁ g₂
+      → Ends (cornerKind s) (r * s) (r * s + s) g g₂
   information-row arm a b =
       two-ends refl (let z : r * s + s - 9 + 9 ≡ r * s + s = omega arith in z) refl
       (stored-as (cornerKind s) (along s r (λ i. 1) (omega arith) (omega arith) (λ k h j. sym
@@ -270,7 +274,9 @@ module _ (s r : ℕ) (big : 23 ≤ s) (in-row : r < s) where
           | no l ↦ elim (decLt i (r * s + 9)) [
             | yes k ↦ e .left i (omega arith) k
             | no k ↦ elim (decLt (i + 9) (r * s + s)) [
-              | yes j ↦ e .middle i (omega arith) j ∙ u .blank i (omega arith) (omega (arith, row-end s r in-row)) ∙ along s r (λ n. 0) {from = r * s + 9} {to = r * s + s - 9} (omega arith) (omega arith) (λ c p q. sym (data-column s r big in-row c (omega arith) (omega arith))) i (omega arith) (omega arith)
+              | yes j ↦ e .middle i (omega arith) j ∙ u .blank i (omega arith) (omega (arith, row-end s r in-row))
+                  ∙ along s r (λ n. 0) {from = r * s + 9} {to = r * s + s - 9} (omega arith) (omega arith)
+                  (λ c p q. sym (data-column s r big in-row c (omega arith) (omega arith))) i (omega arith) (omega arith)
               | no j ↦ e .right i (omega arith) h
             ]
           ]
@@ -292,7 +298,8 @@ data-rows s big {g} u =
     record {
       done = λ i h. elim (decLt i (9 * s)) [
         | yes l ↦ u .done i l
-        | no l ↦ u .blank i (omega arith) (omega (arith, mul-le-mul-right s (let z : s - 9 ≤ s = omega arith in z))) ∙ sym (in-data-row s (i / s) (i % s) (edge-mid s (i / s) 9 (low i (omega arith)) (omega (arith, high i h))))
+        | no l ↦ u .blank i (omega arith) (omega (arith, mul-le-mul-right s (let z : s - 9 ≤ s = omega arith in z)))
+            ∙ sym (in-data-row s (i / s) (i % s) (edge-mid s (i / s) 9 (low i (omega arith)) (omega (arith, high i h))))
       ];
       blank = λ i h k. u .blank i (omega (arith, mul-le-mul-right s (let z : 9 ≤ s - 9 = omega arith in z))) k;
     }

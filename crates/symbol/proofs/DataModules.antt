@@ -22,9 +22,11 @@ modules-append (k ∷ us) vs = rw (modules-append us vs) (by (eqb k 0))
     by false = refl
 
 -- data modules of the first n kinds, counted one by one
-pub modules-more : (ks : List ℕ) (n i count x : ℕ) → n ≤ length ks → i < n → x ≡ dataModules (getD ks i 0 ∷ []) → count ≡ dataModules (take i ks) → count + x ≡ dataModules (take (i + 1) ks)
+pub modules-more : (ks : List ℕ) (n i count x : ℕ) → n ≤ length ks → i < n → x ≡ dataModules (getD ks i 0 ∷ []) → count ≡ dataModules (take i ks)
+    → count + x ≡ dataModules (take (i + 1) ks)
 modules-more ks n i count x l h e q =
-    ap₂ _+_ q e ∙ sym (ap (λ (k : ℕ). dataModules (take k ks)) (add-one i) ∙ ap dataModules (take-suc ks i 0 (omega arith)) ∙ modules-append (take i ks) (getD ks i 0 ∷ []))
+    ap₂ _+_ q e ∙ sym (ap (λ (k : ℕ). dataModules (take k ks)) (add-one i) ∙ ap dataModules (take-suc ks i 0 (omega arith))
+    ∙ modules-append (take i ks) (getD ks i 0 ∷ []))
 
 -- no more than there are kinds
 pub modules-few : (ks : List ℕ) → dataModules ks ≤ length ks

@@ -60,7 +60,8 @@ one-other s x y k g p n = by (ltb (placeAt s x y) (s * s) && eqb (getD g (placeA
 one-at : (s : ℕ) (x y : ℤ) (k : ℕ) (g : List ℕ) (p : ℕ) → p < s * s → s * s ≤ length g → getD (plotOne s x y k g) p 0 ≡ drawn (getD g p 0) (hit s x y k p)
 one-at s x y k g p h l = elim (ℕ-discrete p (placeAt s x y)) [
   | yes e ↦ elim (ℕ-discrete (getD g p 0) 0) [
-    | yes z ↦ ap (λ (q : List ℕ). getD q p 0) (sym (plot-set s x y k g p e h z)) ∙ getD-set-same g p k 0 (omega arith) ∙ sym (drawn-data (hit s x y k p) z ∙ hit-on s x y k p (sym e))
+    | yes z ↦ ap (λ (q : List ℕ). getD q p 0) (sym (plot-set s x y k g p e h z)) ∙ getD-set-same g p k 0 (omega arith)
+        ∙ sym (drawn-data (hit s x y k p) z ∙ hit-on s x y k p (sym e))
     | no n ↦ ap (λ (q : List ℕ). getD q p 0) (sym (plot-kept s x y k g p e h n)) ∙ sym (drawn-kept (hit s x y k p) n)
   ]
   | no n ↦ one-other s x y k g p n ∙ sym (ap (drawn (getD g p 0)) (hit-off s x y k p (λ e. n (sym e))) ∙ drawn-zero (getD g p 0))
@@ -103,12 +104,14 @@ module _ (s : ℕ) where
   each-none f p zero h = refl
   each-none f p (suc n) h = first-append (each n f) (f n) p ∙ drawn-data (first s (f n) p) (each-none f p n (λ j l. h j (omega arith))) ∙ h n (omega arith)
 
-  pub each-one : (f : ℕ → List Plot) (p k i n : ℕ) → i < n → (k ≡ 0 → ⊥) → first s (f i) p ≡ k → ((j : ℕ) → j < n → (j ≡ i → ⊥) → first s (f j) p ≡ 0) → first s (each n f) p ≡ k
+  pub each-one : (f : ℕ → List Plot) (p k i n : ℕ) → i < n → (k ≡ 0 → ⊥) → first s (f i) p ≡ k → ((j : ℕ) → j < n → (j ≡ i → ⊥) → first s (f j) p ≡ 0)
+      → first s (each n f) p ≡ k
   unfolding each
   each-one f p k i zero l z e h = absurd (omega arith)
   each-one f p k i (suc n) l z e h = first-append (each n f) (f n) p ∙ elim (ℕ-discrete n i) [
     | yes d ↦ drawn-data (first s (f n) p) (each-none f p n (λ j m. h j (omega arith) (λ q. omega arith))) ∙ ap (λ (j : ℕ). first s (f j) p) d ∙ e
-    | no d ↦ ap (drawn (first s (each n f) p)) (h n (omega arith) d) ∙ drawn-zero (first s (each n f) p) ∙ each-one f p k i n (omega arith) z e (λ j m. h j (omega arith))
+    | no d ↦ ap (drawn (first s (each n f) p)) (h n (omega arith) d) ∙ drawn-zero (first s (each n f) p)
+        ∙ each-one f p k i n (omega arith) z e (λ j m. h j (omega arith))
   ]
 
   -- the dark and the light module of a line
@@ -119,8 +122,10 @@ module _ (s : ℕ) where
 
     pub module-light : (placeAt s x y ≡ p → ⊥) → placeAt s (x -ℤ pos 1) (y +ℤ pos 1) ≡ p → first s (lineModule x y) p ≡ 2
     unfolding lineModule first
-    module-light n e = drawn-data (first s (plot (x -ℤ pos 1) (y +ℤ pos 1) 2 ∷ []) p) (hit-off s x y 3 p n) ∙ drawn-zero _ ∙ hit-on s (x -ℤ pos 1) (y +ℤ pos 1) 2 p e
+    module-light n e =
+        drawn-data (first s (plot (x -ℤ pos 1) (y +ℤ pos 1) 2 ∷ []) p) (hit-off s x y 3 p n) ∙ drawn-zero _ ∙ hit-on s (x -ℤ pos 1) (y +ℤ pos 1) 2 p e
 
     pub module-off : (placeAt s x y ≡ p → ⊥) → (placeAt s (x -ℤ pos 1) (y +ℤ pos 1) ≡ p → ⊥) → first s (lineModule x y) p ≡ 0
     unfolding lineModule first
-    module-off n m = drawn-data (first s (plot (x -ℤ pos 1) (y +ℤ pos 1) 2 ∷ []) p) (hit-off s x y 3 p n) ∙ drawn-zero _ ∙ hit-off s (x -ℤ pos 1) (y +ℤ pos 1) 2 p m
+    module-off n m =
+        drawn-data (first s (plot (x -ℤ pos 1) (y +ℤ pos 1) 2 ∷ []) p) (hit-off s x y 3 p n) ∙ drawn-zero _ ∙ hit-off s (x -ℤ pos 1) (y +ℤ pos 1) 2 p m

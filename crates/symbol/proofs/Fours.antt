@@ -36,7 +36,9 @@ stored-eight b at x y {g} {g'} {g''} h e f s t =
     subst (λ (to : ℕ). Stored (λ i. 2 + b / 2 ^ (7 - (i - at)) % 2) at to g g'') n
     (stored-next (omega arith) (omega arith)
     (stored-as _ (λ i l r. ap (λ (n : ℕ). n / 256 ^ (i - at) % 256) e ∙ high-modules b (i - at) h (omega arith)) s)
-    (stored-as _ (λ i l r. ap (λ (n : ℕ). n / 256 ^ (i - (at + 4)) % 256) f ∙ low-modules b (i - (at + 4)) h (omega arith) ∙ ap (λ (n : ℕ). 2 + b / 2 ^ n % 2) (places i l r)) t))
+    (stored-as _
+    (λ i l r. ap (λ (n : ℕ). n / 256 ^ (i - (at + 4)) % 256) f ∙ low-modules b (i - (at + 4)) h (omega arith)
+    ∙ ap (λ (n : ℕ). 2 + b / 2 ^ n % 2) (places i l r)) t))
   where
     places : (i : ℕ) → at + 4 ≤ i → i < at + 4 + 4 → 3 - (i - (at + 4)) ≡ 7 - (i - at)
     places i l r = omega arith
@@ -64,5 +66,6 @@ module _ (g : List ℕ) (at x : ℕ) (h : at + 4 ≤ length g) where
       let s1' = subst (λ (n : ℕ). Stored byteAt at (at + (0 + 1)) g (set g n a)) y s1 in
       next 3 d _ (omega arith) ed (next 2 c _ (omega arith) ec (next 1 b _ (omega arith) eb s1'))
 
-  pub room : (a b c : ℕ) → (at + 1 < length (set g at a)) × (at + 2 < length (set (set g at a) (at + 1) b)) × (at + 3 < length (set (set (set g at a) (at + 1) b) (at + 2) c))
+  pub room : (a b c : ℕ)
+      → (at + 1 < length (set g at a)) × (at + 2 < length (set (set g at a) (at + 1) b)) × (at + 3 < length (set (set (set g at a) (at + 1) b) (at + 2) c))
   room a b c = (simp length-set (omega arith), simp length-set (omega arith), simp length-set (omega arith))

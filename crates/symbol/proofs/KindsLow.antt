@@ -3,7 +3,9 @@ use Rattle.general.proofs.Names.{sym, subst, Bool, true, false, cond, not, _&&_
 use Rattle.general.proofs.Names.{decLt, ltb, eqb, getD, set, List·getD-eq-default}
 use lib.IntN.{ℤ, pos, _+ℤ_, _-ℤ_}
 use Rattle.symbol.specs.Version.{sideOf}
-use Rattle.symbol.specs.Layout.{Plot, plot, placeAt, plotOne, plotAll, each, when, light, dark, odd, ring, finderAt, cornerAt, corners, threeAt, assistant, rowEnds, columnEnds, lineModule, lineLeft, lineDown, crossing, crossings, alignment, layoutOf, mOf, rowLine, columnLine, stepOf}
+use Rattle.symbol.specs.Layout.{Plot, plot, placeAt, plotOne, plotAll, each, when, light, dark, odd, ring, finderAt, cornerAt, corners, threeAt}
+use Rattle.symbol.specs.Layout.{assistant, rowEnds, columnEnds, lineModule, lineLeft, lineDown, crossing, crossings, alignment, layoutOf, mOf, rowLine}
+use Rattle.symbol.specs.Layout.{columnLine, stepOf}
 use Rattle.symbol.specs.Inner.{cornerKind, table}
 use Rattle.symbol.proofs.Places.{length-table, getD-table}
 
@@ -31,7 +33,8 @@ low-three x y k h = more {k = light} (omega arith) (more h (more {k = light} (om
 
 low-assistant : (x y : ℤ) → Low (assistant x y)
 unfolding assistant
-low-assistant x y = low-append (low-three x (y -ℤ pos 1) light (omega arith)) (low-append (low-three x y dark (omega arith)) (low-three x (y +ℤ pos 1) light (omega arith)))
+low-assistant x y =
+    low-append (low-three x (y -ℤ pos 1) light (omega arith)) (low-append (low-three x y dark (omega arith)) (low-three x (y +ℤ pos 1) light (omega arith)))
 
 low-ends : (a b : Bool) (x y z w : ℤ) → Low (when a (assistant x y) ++ when b (assistant z w))
 low-ends a b x y z w = low-append (low-when a (low-assistant x y)) (low-when b (low-assistant z w))
@@ -44,7 +47,8 @@ low-crossing : (v n j : ℕ) → Low (crossing v n j)
 unfolding crossing lineLeft lineDown
 low-crossing v n j =
     low-when (not (odd (n + j)) && not (eqb (n + j) 0))
-    (low-append (low-each (stepOf v j + 1) (λ i. low-line (columnLine v j -ℤ pos i) (rowLine v n))) (low-each (stepOf v n - 1) (λ i. low-line (columnLine v j) (rowLine v n +ℤ pos (i + 1)))))
+    (low-append (low-each (stepOf v j + 1) (λ i. low-line (columnLine v j -ℤ pos i) (rowLine v n)))
+    (low-each (stepOf v n - 1) (λ i. low-line (columnLine v j) (rowLine v n +ℤ pos (i + 1)))))
 
 low-alignment : (v : ℕ) → Low (alignment v)
 unfolding alignment rowEnds columnEnds crossings
@@ -74,7 +78,8 @@ set-any P (y ∷ g) (suc p) x (suc i) a b = set-any P g p x i a b
 plots-low : (s : ℕ) (ps : List Plot) (g : List ℕ) → Low ps → ((i : ℕ) → getD g i 0 ≤ 3) → (i : ℕ) → getD (plotAll s ps g) i 0 ≤ 3
 unfolding plotAll plotOne
 plots-low s [] g none h i = h i
-plots-low s (plot x y k ∷ ps) g (more a l) h i = plots-low s ps (plotOne s x y k g) l (λ j. by (ltb (placeAt s x y) (s * s) && eqb (getD g (placeAt s x y) 0) 0) j) i
+plots-low s (plot x y k ∷ ps) g (more a l) h i =
+    plots-low s ps (plotOne s x y k g) l (λ j. by (ltb (placeAt s x y) (s * s) && eqb (getD g (placeAt s x y) 0) 0) j) i
   where
     by : (b : Bool) (j : ℕ) → getD (cond b (set g (placeAt s x y) k) g) j 0 ≤ 3
     by true j = set-any (λ n. n ≤ 3) g (placeAt s x y) k j a (h j)
@@ -90,6 +95,9 @@ layout-low v i = plots-low (sideOf v) (cond (ltb v 4) [] (alignment v)) (corners
 
     flat : (j : ℕ) → getD (table (sideOf v * sideOf v) (cornerKind (sideOf v))) j 0 ≤ 3
     flat j = elim (decLt j (sideOf v * sideOf v)) [
-      | yes l ↦ subst (λ (n : ℕ). n ≤ 3) (sym (getD-table (sideOf v * sideOf v) (cornerKind (sideOf v)) j l)) (corner-low (sideOf v) (j / sideOf v) (j % sideOf v))
-      | no l ↦ subst (λ (n : ℕ). n ≤ 3) (sym (List·getD-eq-default (table (sideOf v * sideOf v) (cornerKind (sideOf v))) 0 (omega (arith, length-table (sideOf v * sideOf v) (cornerKind (sideOf v)))))) (omega arith)
+      | yes l ↦ subst (λ (n : ℕ). n ≤ 3) (sym (getD-table (sideOf v * sideOf v) (cornerKind (sideOf v)) j l))
+          (corner-low (sideOf v) (j / sideOf v) (j % sideOf v))
+      | no l ↦ subst (λ (n : ℕ). n ≤ 3)
+          (sym (List·getD-eq-default (table (sideOf v * sideOf v) (cornerKind (sideOf v))) 0
+          (omega (arith, length-table (sideOf v * sideOf v) (cornerKind (sideOf v)))))) (omega arith)
     ]

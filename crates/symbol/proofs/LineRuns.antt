@@ -47,7 +47,8 @@ module _ (s c r : ℕ) (ci : c < s) (ri : r < s) where
 
   light-below : (j : ℕ) → j + 1 ≤ c → s ≤ r + 1 → placeAt s (pos c -ℤ pos j -ℤ pos 1) (pos r +ℤ pos 1) ≡ s * s
   light-below j h k =
-      ap (λ (z : ℤ). placeAt s z (pos (r + 1))) (take-off c j 1 ∙ difference c (j + 1) h) ∙ sym (place-below s (pos (c - (j + 1))) (pos (r + 1)) (let e : c - (j + 1) < s = omega arith in e) k)
+      ap (λ (z : ℤ). placeAt s z (pos (r + 1))) (take-off c j 1 ∙ difference c (j + 1) h)
+      ∙ sym (place-below s (pos (c - (j + 1))) (pos (r + 1)) (let e : c - (j + 1) < s = omega arith in e) k)
 
   module _ (p : ℕ) (h : p < s * s) where
     -- turn j meets place p with its dark module, or with its light one
@@ -73,16 +74,25 @@ module _ (s c r : ℕ) (ci : c < s) (ri : r < s) where
       -- a place of the dark run, one of the light run, and any other
       dark-first : (i : ℕ) → i ≤ w → i ≤ c → p + i ≡ r * s + c → first s (each (w + 1) line) p ≡ 3
       dark-first i a b e =
-          each-one s line p 3 i (w + 1) (omega arith) (λ z. omega arith) (module-dark s (pos c -ℤ pos i) (pos r) p (dark-in i b ∙ (let q : r * s + (c - i) ≡ p = omega arith in q)))
-          (λ j l n. module-off s (pos c -ℤ pos j) (pos r) p (λ d. let q : p + j ≡ r * s + c = dark-is j d .1 in n (omega arith)) (λ d. let q : p + (j + 1) ≡ r * s + c + s = light-is j d .2 in let t : j + 1 ≤ c = light-is j d .0 in omega arith))
+          each-one s line p 3 i (w + 1) (omega arith) (λ z. omega arith)
+          (module-dark s (pos c -ℤ pos i) (pos r) p (dark-in i b ∙ (let q : r * s + (c - i) ≡ p = omega arith in q)))
+          (λ j l n. module-off s (pos c -ℤ pos j) (pos r) p (λ d. let q : p + j ≡ r * s + c = dark-is j d .1 in n (omega arith))
+          (λ d. let q : p + (j + 1) ≡ r * s + c + s = light-is j d .2 in let t : j + 1 ≤ c = light-is j d .0 in omega arith))
 
       light-first : (i : ℕ) → i ≤ w → i + 1 ≤ c → r + 1 < s → p + (i + 1) ≡ r * s + c + s → first s (each (w + 1) line) p ≡ 2
       light-first i a b k e =
-          each-one s line p 2 i (w + 1) (omega arith) (λ z. omega arith) (module-light s (pos c -ℤ pos i) (pos r) p (λ d. let q : p + i ≡ r * s + c = dark-is i d .1 in omega arith) (light-in i b k ∙ (let q : r * s + s + (c - (i + 1)) ≡ p = omega arith in q)))
-          (λ j l n. module-off s (pos c -ℤ pos j) (pos r) p (λ d. let q : p + j ≡ r * s + c = dark-is j d .1 in omega arith) (λ d. let q : p + (j + 1) ≡ r * s + c + s = light-is j d .2 in n (omega arith)))
+          each-one s line p 2 i (w + 1) (omega arith) (λ z. omega arith)
+          (module-light s (pos c -ℤ pos i) (pos r) p (λ d. let q : p + i ≡ r * s + c = dark-is i d .1 in omega arith)
+          (light-in i b k ∙ (let q : r * s + s + (c - (i + 1)) ≡ p = omega arith in q)))
+          (λ j l n. module-off s (pos c -ℤ pos j) (pos r) p (λ d. let q : p + j ≡ r * s + c = dark-is j d .1 in omega arith)
+          (λ d. let q : p + (j + 1) ≡ r * s + c + s = light-is j d .2 in n (omega arith)))
 
-      none-first : ((j : ℕ) → j ≤ w → j ≤ c → p + j ≡ r * s + c → ⊥) → ((j : ℕ) → j ≤ w → j + 1 ≤ c → r + 1 < s → p + (j + 1) ≡ r * s + c + s → ⊥) → first s (each (w + 1) line) p ≡ 0
-      none-first d l = each-none s line p (w + 1) (λ j m. module-off s (pos c -ℤ pos j) (pos r) p (λ e. d j (omega arith) (dark-is j e .0) (dark-is j e .1)) (λ e. l j (omega arith) (light-is j e .0) (light-is j e .1) (light-is j e .2)))
+      none-first : ((j : ℕ) → j ≤ w → j ≤ c → p + j ≡ r * s + c → ⊥) → ((j : ℕ) → j ≤ w → j + 1 ≤ c → r + 1 < s → p + (j + 1) ≡ r * s + c + s → ⊥)
+          → first s (each (w + 1) line) p ≡ 0
+      none-first d l =
+          each-none s line p (w + 1)
+          (λ j m. module-off s (pos c -ℤ pos j) (pos r) p (λ e. d j (omega arith) (dark-is j e .0) (dark-is j e .1))
+          (λ e. l j (omega arith) (light-is j e .0) (light-is j e .1) (light-is j e .2)))
 
   -- the dark run, and then a light run where the square has room for one
   pub two-runs : (w a lo hi : ℕ) {g g' g'' : List ℕ} → s * s ≤ length g → a ≤ w → a ≤ c → ((j : ℕ) → j ≤ w → j ≤ c → j ≤ a)
@@ -112,13 +122,20 @@ module _ (s c r : ℕ) (ci : c < s) (ri : r < s) where
           ∙ sym (ap (drawn (getD g p 0)) (light-first p h w (r * s + c + s - (p + 1)) (omega arith) (omega arith) (o .3) (omega arith)))
 
       dark-part : (p : ℕ) → p < s * s → (lo ≤ p → p < hi → ⊥) → r * s + c ≤ p + a → p < r * s + c + 1 → getD g'' p 0 ≡ at p
-      dark-part p h n u v = beside p n ∙ d .here p (omega arith) v ∙ sym (ap (drawn (getD g p 0)) (dark-first p h w (r * s + c - p) (omega arith) (omega arith) (omega arith)))
+      dark-part p h n u v =
+          beside p n ∙ d .here p (omega arith) v ∙ sym (ap (drawn (getD g p 0)) (dark-first p h w (r * s + c - p) (omega arith) (omega arith) (omega arith)))
 
       other-part : (p : ℕ) → p < s * s → (lo ≤ p → p < hi → ⊥) → (r * s + c ≤ p + a → p < r * s + c + 1 → ⊥) → getD g'' p 0 ≡ at p
       other-part p h n m =
           beside p n
-          ∙ elim (decLt p (r * s + c - a)) [ yes k ↦ d .before p k | no k ↦ d .after p (elim (decLt p (r * s + c + 1)) [ yes q ↦ absurd (m (omega arith) q) | no q ↦ omega arith ]) ]
-          ∙ sym (ap (drawn (getD g p 0)) (none-first p h w (λ j x y e. m (omega (arith, least-is j x y)) (omega arith)) (λ j x y z e. n (off p j x y z e .0) (off p j x y z e .1))) ∙ drawn-zero (getD g p 0))
+          ∙ elim (decLt p (r * s + c - a)) [
+            | yes k ↦ d .before p k
+            | no k ↦ d .after p
+                (elim (decLt p (r * s + c + 1)) [ yes q ↦ absurd (m (omega arith) q) | no q ↦ omega arith ])
+          ]
+          ∙ sym (ap (drawn (getD g p 0))
+          (none-first p h w (λ j x y e. m (omega (arith, least-is j x y)) (omega arith)) (λ j x y z e. n (off p j x y z e .0) (off p j x y z e .1)))
+          ∙ drawn-zero (getD g p 0))
 
       inside : (p : ℕ) → p < s * s → getD g'' p 0 ≡ at p
       inside p h = elim (decLt p hi) [

@@ -5,7 +5,8 @@ use lib.IntN.{ℤ, pos, natAbs}
 use mir.Syntax.{w64}
 use mir.Val.{SFits, toZ, ofZ}
 use mir.Facts.{toZ-ofZ}
-use Rattle.symbol.specs.Layout.{when, odd, assistant, lineLeft, lineDown, placeAt, crossing, columnLine, rowLine, stepOf, Plot, plot, plotOne, plotAll, each}
+use Rattle.symbol.specs.Layout.{when, odd, assistant, lineLeft, lineDown, placeAt, crossing, columnLine, rowLine, stepOf, Plot, plot, plotOne, plotAll}
+use Rattle.symbol.specs.Layout.{each}
 use Rattle.symbol.specs.Inner.{Plotted}
 
 pub plotAll-append : (s : ℕ) (ps qs : List Plot) (g : List ℕ) → plotAll s (ps ++ qs) g ≡ plotAll s qs (plotAll s ps g)
@@ -43,12 +44,14 @@ pub ended : {s : ℕ} {f : ℕ → List Plot} {to : ℕ} {g₀ g : List ℕ} {n 
 ended {s} {f} {to} {g₀} {g} {n} h t = let e : n ≡ to = omega arith in subst (λ (k : ℕ). Plotted s (each k f) g₀ g) e (t .plotted)
 
 -- what a call says of coordinates as the machine reads them, of the coordinates
-pub heard : {s : ℕ} (F : ℤ → ℤ → List Plot) {x y x' y' : ℤ} {g g' : List ℕ} → SFits w64 x → SFits w64 y → x ≡ x' → y ≡ y' → Plotted s (F (toZ w64 (ofZ w64 x)) (toZ w64 (ofZ w64 y))) g g' → Plotted s (F x' y') g g'
+pub heard : {s : ℕ} (F : ℤ → ℤ → List Plot) {x y x' y' : ℤ} {g g' : List ℕ} → SFits w64 x → SFits w64 y → x ≡ x' → y ≡ y'
+    → Plotted s (F (toZ w64 (ofZ w64 x)) (toZ w64 (ofZ w64 y))) g g' → Plotted s (F x' y') g g'
 heard {s} F {x} {y} {x'} {y'} {g} {g'} a b p q e =
     subst (λ (z : ℤ). Plotted s (F z y') g g') (toZ-ofZ a ∙ p) (subst (λ (z : ℤ). Plotted s (F (toZ w64 (ofZ w64 x)) z) g g') (toZ-ofZ b ∙ q) e)
 
 -- what a call says of signed coordinates as numbers, of the coordinates
-pub numbered : {s : ℕ} (F : ℤ → ℤ → List Plot) {x y : ℤ} {g g' : List ℕ} → SFits w64 x → SFits w64 y → x ≡ pos (natAbs x) → y ≡ pos (natAbs y) → Plotted s (F (pos (natAbs (toZ w64 (ofZ w64 x)))) (pos (natAbs (toZ w64 (ofZ w64 y))))) g g' → Plotted s (F x y) g g'
+pub numbered : {s : ℕ} (F : ℤ → ℤ → List Plot) {x y : ℤ} {g g' : List ℕ} → SFits w64 x → SFits w64 y → x ≡ pos (natAbs x) → y ≡ pos (natAbs y)
+    → Plotted s (F (pos (natAbs (toZ w64 (ofZ w64 x)))) (pos (natAbs (toZ w64 (ofZ w64 y))))) g g' → Plotted s (F x y) g g'
 numbered {s} F {x} {y} {g} {g'} a b p q e =
     subst (λ (z : ℤ). Plotted s (F z y) g g') (ap (λ z. pos (natAbs z)) (toZ-ofZ a) ∙ sym p)
     (subst (λ (z : ℤ). Plotted s (F (pos (natAbs (toZ w64 (ofZ w64 x)))) z) g g') (ap (λ z. pos (natAbs z)) (toZ-ofZ b) ∙ sym q) e)
@@ -81,7 +84,8 @@ module _ (v n j : ℕ) where
   unfolding crossing
   crossing-first h = simp h
 
-  pub crossing-on : ((n + j) % 2 ≡ 1 → ⊥) → (n + j ≡ 0 → ⊥) → lineLeft (columnLine v j) (rowLine v n) (stepOf v j) ++ lineDown (columnLine v j) (rowLine v n) (stepOf v n) ≡ crossing v n j
+  pub crossing-on : ((n + j) % 2 ≡ 1 → ⊥) → (n + j ≡ 0 → ⊥)
+      → lineLeft (columnLine v j) (rowLine v n) (stepOf v j) ++ lineDown (columnLine v j) (rowLine v n) (stepOf v n) ≡ crossing v n j
   unfolding crossing
   crossing-on h k = simp (ne-eqb ((n + j) % 2) 1 h, ne-eqb (n + j) 0 k)
 

@@ -19,7 +19,8 @@ stored-next {f} {a} {b} {c} {g} {g'} {g''} h k s t =
     }
 
 -- one more byte
-pub stored-more : {f : ℕ → ℕ} {from to v : ℕ} {g g' : List ℕ} → from ≤ to → to < length g' → v ≡ f to → Stored f from to g g' → Stored f from (to + 1) g (set g' to v)
+pub stored-more : {f : ℕ → ℕ} {from to v : ℕ} {g g' : List ℕ} → from ≤ to → to < length g' → v ≡ f to → Stored f from to g g'
+    → Stored f from (to + 1) g (set g' to v)
 stored-more {f} {from} {to} {v} {g} {g'} h l e s =
     record {
       size = length-set g' to v ∙ s .size;
@@ -48,4 +49,5 @@ stored-all {f} {n} {g} {g'} h s =
     far i k =
         let e : i ≡ length (table n f) + (i - n) = omega (arith, length-table n f) in
         let d : n + (i - n) ≡ i = omega arith in
-        ap (λ (j : ℕ). getD (table n f ++ drop n g) j 0) e ∙ getD-append-add (table n f) (drop n g) (i - n) 0 ∙ getD-drop n g (i - n) 0 ∙ ap (λ (j : ℕ). getD g j 0) d
+        ap (λ (j : ℕ). getD (table n f ++ drop n g) j 0) e ∙ getD-append-add (table n f) (drop n g) (i - n) 0 ∙ getD-drop n g (i - n) 0
+        ∙ ap (λ (j : ℕ). getD g j 0) d

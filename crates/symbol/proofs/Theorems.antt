@@ -14,5 +14,6 @@ pub four-kinds : (v i : ℕ) → getD (layoutOf v) i 0 ≤ 3
 four-kinds v i = low.layout-low v i
 
 -- A module of a finder, a separator or the information has the kind that the corners give it, whatever alignment patterns are plotted.
-pub corners-stay : (v r c : ℕ) → r < sideOf v → c < sideOf v → (cornerAt (sideOf v) r c ≡ 0 → ⊥) → getD (layoutOf v) (r * sideOf v + c) 0 ≡ cornerAt (sideOf v) r c
+pub corners-stay : (v r c : ℕ) → r < sideOf v → c < sideOf v → (cornerAt (sideOf v) r c ≡ 0 → ⊥)
+    → getD (layoutOf v) (r * sideOf v + c) 0 ≡ cornerAt (sideOf v) r c
 corners-stay v r c = places.kind-is v r c

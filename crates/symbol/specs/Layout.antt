@@ -188,7 +188,7 @@ alignment v = each (mOf v + 2) (rowEnds v) ++ (each (mOf v + 2) (columnEnds v) +
 unfoldable pub layoutOf : ℕ → List ℕ
 layoutOf v = plotAll (sideOf v) (cond (ltb v 4) [] (alignment v)) (corners (sideOf v))
 
--- how many data modules a layout has
+-- how many data modules a layout has (7.4)
 unfoldable pub dataModules : List ℕ → ℕ
 dataModules ks = foldr (λ k n. cond (eqb k data-kind) (suc n) n) 0 ks
 

@@ -94,7 +94,8 @@ fn information_line(out: &mut [u8], side: usize, row: usize)
 
 // The ends of rows from to below to, through finders or their separators; all that comes later is still data.
 fn finder_lines(out: &mut [u8], side: usize, from: usize, to: usize)
-    requires { ⌜ (23 ≤ side) × (side ≤ 189) × (side * side ≤ length (now out)) × (from ≤ to) × (to ≤ side) × ((r : ℕ) → from ≤ r → r < to → edge side r < 8) × UpTo (cornerKind side) (side * side) (from * side) (now out) ⌝ }
+    requires { ⌜ (23 ≤ side) × (side ≤ 189) × (side * side ≤ length (now out)) × (from ≤ to) × (to ≤ side)
+        × ((r : ℕ) → from ≤ r → r < to → edge side r < 8) × UpTo (cornerKind side) (side * side) (from * side) (now out) ⌝ }
     ensures { λ _. ⌜ UpTo (cornerKind side) (side * side) (to * side) (now (out .exit)) × Beyond (side * side) (now (out .entry)) (now (out .exit)) ⌝ }
 {
     let mut row = from;

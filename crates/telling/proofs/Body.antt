@@ -48,7 +48,8 @@ refuses-reading m n t p s d R =
 receipt-told : (m : Mark) (t : Told) (n : ℕ) → (t .number ≡ 0 → t .count ≡ n)
     → receiptIn m t ≡ cond (eqb (t .number) 0) (receiptOf (m .version) (m .level) (m .mask) n (m .distance) (t .payload) (t .script)) (refusalReceipt (t .number))
 receipt-told m t n h = elim (ℕ-discrete (t .number) 0) [
-  | yes e ↦ sym (in-accepted m t e) ∙ ap (λ (x : ℕ). receiptOf (m .version) (m .level) (m .mask) x (m .distance) (t .payload) (t .script)) (h e) ∙ sym (simp (eq-eqb (t .number) 0 e))
+  | yes e ↦ sym (in-accepted m t e) ∙ ap (λ (x : ℕ). receiptOf (m .version) (m .level) (m .mask) x (m .distance) (t .payload) (t .script)) (h e)
+      ∙ sym (simp (eq-eqb (t .number) 0 e))
   | no d ↦ sym (in-refused m t d) ∙ sym (simp (ne-eqb (t .number) 0 d))
 ]
 
@@ -66,7 +67,8 @@ finished m t r p s b e f = ap (λ (x : List ℕ). readingOf (t .number) x p s) f
 
 -- ---- the layout
 
-pub drawn : (m : Mark) (sq out ks : List ℕ) → Fitting m sq → sideOf (m .version) * sideOf (m .version) ≤ length out → ks ≡ layoutWritten (m .version) out → Drawn (m .version) ks
+pub drawn : (m : Mark) (sq out ks : List ℕ) → Fitting m sq → sideOf (m .version) * sideOf (m .version) ≤ length out
+    → ks ≡ layoutWritten (m .version) out → Drawn (m .version) ks
 drawn m sq out ks F h e =
     let f = layout-front (m .version) out ks (F .low) (F .high) h e in
     record { room = f .0; front = f .1 }
@@ -89,7 +91,8 @@ module _ (m : Mark) (sq ks : List ℕ) (F : Fitting m sq) (D : Drawn (m .version
   pub enough-bits : (f : ℕ → ℕ) (total : ℕ) → total ≡ totalOf v → 8 * totalOf v ≤ dataModules (layoutOf v) → 8 * total ≤ length (dataBits f 0 ks sq)
   enough-bits f total e h = omega (arith, length-data f 0 ks sq, ap dataModules front-is)
 
-  pub stream-is : (side total : ℕ) (st rest : List ℕ) → side ≡ sideOf v → total ≡ totalOf v → st ≡ toStream (codewordsOf total (dataBits (maskBit side (m .mask)) 0 ks sq)) ++ rest → Streamed m sq st
+  pub stream-is : (side total : ℕ) (st rest : List ℕ) → side ≡ sideOf v → total ≡ totalOf v
+      → st ≡ toStream (codewordsOf total (dataBits (maskBit side (m .mask)) 0 ks sq)) ++ rest → Streamed m sq st
   stream-is side total st rest e f g = record {
     rest = rest;
     is = g
@@ -121,7 +124,8 @@ module _ (m : Mark) (sq ks : List ℕ) (F : Fitting m sq) (D : Drawn (m .version
 pub open-drawn : (v : ℕ) → Drawn v (layoutOf v)
 open-drawn v = record { room = omega (arith, layout-length v); front = take-all (sideOf v * sideOf v) (layoutOf v) (omega (arith, layout-length v)) }
 
-pub open-blocks : (m : Mark) (sq p s : List ℕ) (r : Reading) → Fitting m sq → m .version < 4 → r ≡ bodyOf (m .version) (m .level) (m .mask) (m .distance) sq p s → r ≡ bodyOr1 m sq p s
+pub open-blocks : (m : Mark) (sq p s : List ℕ) (r : Reading) → Fitting m sq → m .version < 4
+    → r ≡ bodyOf (m .version) (m .level) (m .mask) (m .distance) sq p s → r ≡ bodyOr1 m sq p s
 unfolding bodyOr1
 open-blocks m sq p s r F h e = e ∙ sym (simp (has-blocks (m .version) (m .level) (F .low) (F .high) (F .level) (open-enough (m .version) (F .low) (omega arith))))
 
@@ -174,12 +178,14 @@ module _ (m : Mark) (R : Ranged m) (row : List ℕ) (e : row ≡ rowOf (m .versi
     refused-is r t a b R6 =
         let six : firstRefused (corrected bs stream) ≡ 6 = ap (λ (x : List ℕ). firstRefused (corrected bs x)) (sym taken) ∙ sym b ∙ ap numberOf a in
         refuses-reading m 6 t p s (λ z. omega arith) R6
-        ∙ sym (ap (λ (x : ℕ). cond (eqb x 0) (told (m .version) (m .level) (m .mask) (m .distance) (countOf (corrected bs stream)) (fromData (correctedData bs stream) p s)) (refused x p s)) six)
+        ∙ sym (ap (λ (x : ℕ). cond (eqb x 0) (told (m .version) (m .level) (m .mask) (m .distance) (countOf (corrected bs stream))
+        (fromData (correctedData bs stream) p s)) (refused x p s)) six)
         ∙ reading-is
 
     told-is : (r : Blocks) (n : ℕ) (st′ rest′ : List ℕ) (t : Told) (p′ s′ : List ℕ) → r ≡ Corrected n
         → numberOf r ≡ firstRefused (corrected bs (take (totalSize bs) st))
-        → (numberOf r ≡ 0 → (correctionsOf r ≡ countOf (corrected bs (take (totalSize bs) st))) × (st′ ≡ joined (blocksOf (corrected bs (take (totalSize bs) st))) ++ rest′))
+        → (numberOf r ≡ 0 → (correctionsOf r ≡ countOf (corrected bs (take (totalSize bs) st)))
+        × (st′ ≡ joined (blocksOf (corrected bs (take (totalSize bs) st))) ++ rest′))
         → Tells n (fromData (dataParts bs (cut bs st′)) p s) t p′ s′
         → readingIn m t p′ s′ ≡ bodyOf (m .version) (m .level) (m .mask) (m .distance) sq p s
     unfolding numberOf correctionsOf
@@ -191,15 +197,18 @@ module _ (m : Mark) (R : Ranged m) (row : List ℕ) (e : row ≡ rowOf (m .versi
         let parts : dataParts bs (cut bs st′) ≡ correctedData bs stream = ap (λ (x : List ℕ). dataParts bs (cut bs x)) left ∙ data-left bs sound stream size rest′ in
         tells-reading m n _ t p′ s′ W
         ∙ (λ i. told (m .version) (m .level) (m .mask) (m .distance) (count i) (fromData (parts i) p s))
-        ∙ sym (ap (λ (x : ℕ). cond (eqb x 0) (told (m .version) (m .level) (m .mask) (m .distance) (countOf (corrected bs stream)) (fromData (correctedData bs stream) p s)) (refused x p s)) zero)
+        ∙ sym (ap (λ (x : ℕ). cond (eqb x 0) (told (m .version) (m .level) (m .mask) (m .distance) (countOf (corrected bs stream))
+        (fromData (correctedData bs stream) p s)) (refused x p s)) zero)
         ∙ reading-is
 
-  pub blocks-refused : (st p s : List ℕ) (r : Blocks) (t : Told) → r ≡ Refused → numberOf r ≡ firstRefused (corrected bs (take (totalSize bs) st)) → Refuses 6 t → Body m st p s t p s
+  pub blocks-refused : (st p s : List ℕ) (r : Blocks) (t : Told) → r ≡ Refused → numberOf r ≡ firstRefused (corrected bs (take (totalSize bs) st))
+      → Refuses 6 t → Body m st p s t p s
   blocks-refused st p s r t a b R6 = record { reading = λ sq S. refused-is st p s sq S r t a b R6; small = refuses-small 6 t (omega arith) R6 }
 
   pub blocks-told : (st p s : List ℕ) (r : Blocks) (n : ℕ) (st′ rest′ : List ℕ) (t : Told) (p′ s′ : List ℕ) → r ≡ Corrected n
       → numberOf r ≡ firstRefused (corrected bs (take (totalSize bs) st))
-      → (numberOf r ≡ 0 → (correctionsOf r ≡ countOf (corrected bs (take (totalSize bs) st))) × (st′ ≡ joined (blocksOf (corrected bs (take (totalSize bs) st))) ++ rest′))
+      → (numberOf r ≡ 0 → (correctionsOf r ≡ countOf (corrected bs (take (totalSize bs) st)))
+      × (st′ ≡ joined (blocksOf (corrected bs (take (totalSize bs) st))) ++ rest′))
       → Tells n (fromData (dataParts bs (cut bs st′)) p s) t p′ s′
       → Body m st p s t p′ s′
   blocks-told st p s r n st′ rest′ t p′ s′ a b c W = record { reading = λ sq S. told-is st p s sq S r n st′ rest′ t p′ s′ a b c W; small = W .small }

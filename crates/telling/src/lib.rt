@@ -16,7 +16,8 @@ use symbol::Version;
 
 // The stream of a square whose layout is drawn.
 fn read_stream(stream: &mut [u8], kinds: &[u8], square: &[u8], m: Mark)
-    requires { ⌜ Fitting m (now square) × Drawn (m .version) (now kinds) × (8 * totalOf (m .version) ≤ dataModules (layoutOf (m .version))) × (totalOf (m .version) ≤ length (now stream)) ⌝ }
+    requires { ⌜ Fitting m (now square) × Drawn (m .version) (now kinds) × (8 * totalOf (m .version) ≤ dataModules (layoutOf (m .version)))
+        × (totalOf (m .version) ≤ length (now stream)) ⌝ }
     ensures { λ _. ⌜ Streamed m (now (square .entry)) (now (stream .exit)) ⌝ }
 {
     let side = Version { number: m.version }.side();
@@ -71,7 +72,8 @@ fn tell_blocks(
     script: &mut [u8],
 ) -> Told
     requires { ⌜ Fitting m (now square) × Drawn (m .version) (now kinds) × (8 * totalOf (m .version) ≤ dataModules (layoutOf (m .version))) ⌝ }
-    ensures { λ r. ⌜ (readingIn m r (now (payload .exit)) (now (script .exit)) ≡ bodyOf (m .version) (m .level) (m .mask) (m .distance) (now (square .entry)) (now (payload .entry)) (now (script .entry))) × Small r ⌝ }
+    ensures { λ r. ⌜ (readingIn m r (now (payload .exit)) (now (script .exit))
+        ≡ bodyOf (m .version) (m .level) (m .mask) (m .distance) (now (square .entry)) (now (payload .entry)) (now (script .entry))) × Small r ⌝ }
 {
     if m.version <= 10 {
         let mut stream = [0u8; 155];
@@ -92,7 +94,8 @@ fn tell_drawn(
     script: &mut [u8],
 ) -> Told
     requires { ⌜ Fitting m (now square) × Drawn (m .version) (now kinds) ⌝ }
-    ensures { λ r. ⌜ (readingIn m r (now (payload .exit)) (now (script .exit)) ≡ bodyOr1 m (now (square .entry)) (now (payload .entry)) (now (script .entry))) × Small r ⌝ }
+    ensures { λ r. ⌜ (readingIn m r (now (payload .exit)) (now (script .exit))
+        ≡ bodyOr1 m (now (square .entry)) (now (payload .entry)) (now (script .entry))) × Small r ⌝ }
 {
     if symbol::counting::data_modules(kinds, square.len())
         < 8 * block_table::total_codewords(m.version)
@@ -111,7 +114,8 @@ fn tell_open(
     script: &mut [u8],
 ) -> Told
     requires { ⌜ Fitting m (now square) × (m .version < 4) ⌝ }
-    ensures { λ r. ⌜ (readingIn m r (now (payload .exit)) (now (script .exit)) ≡ bodyOr1 m (now (square .entry)) (now (payload .entry)) (now (script .entry))) × Small r ⌝ }
+    ensures { λ r. ⌜ (readingIn m r (now (payload .exit)) (now (script .exit))
+        ≡ bodyOr1 m (now (square .entry)) (now (payload .entry)) (now (script .entry))) × Small r ⌝ }
 {
     let mut stream = [0u8; 50];
     read_open_stream(&mut stream, square, m);
@@ -121,7 +125,8 @@ fn tell_open(
 // What is told of a square that has passed the first refusals. The buffer for its layout is lent.
 pub fn tell(kinds: &mut [u8], square: &[u8], m: Mark, payload: &mut [u8], script: &mut [u8]) -> Told
     requires { ⌜ Fitting m (now square) × (sideOf (m .version) * sideOf (m .version) ≤ length (now kinds)) ⌝ }
-    ensures { λ r. ⌜ (readingIn m r (now (payload .exit)) (now (script .exit)) ≡ bodyOr1 m (now (square .entry)) (now (payload .entry)) (now (script .entry))) × Small r ⌝ }
+    ensures { λ r. ⌜ (readingIn m r (now (payload .exit)) (now (script .exit))
+        ≡ bodyOr1 m (now (square .entry)) (now (payload .entry)) (now (script .entry))) × Small r ⌝ }
 {
     if m.version < 4 {
         return tell_open(kinds, square, m, payload, script);

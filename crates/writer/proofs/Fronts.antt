@@ -36,7 +36,8 @@ stream-of-row script payload v l r s er en e =
 -- ---- the square
 
 -- a stream placed in a square, by way of its codewords in front of a buffer
-module _ (m : Mark) (ks : List ℕ) (R : Ready m ks) (stream found found′ sq sq′ : List ℕ) (total side : ℕ) (et : total ≡ totalOf (m .version)) (es : side ≡ sideOf (m .version)) where
+module _ (m : Mark) (ks : List ℕ) (R : Ready m ks) (stream found found′ sq sq′ : List ℕ) (total side : ℕ) (et : total ≡ totalOf (m .version))
+    (es : side ≡ sideOf (m .version)) where
   pub stream-placed : total ≤ length found → length found′ ≡ length found → found′ ≡ fromStream (take total stream) ++ drop total found
       → length sq ≡ sideOf (m .version) * sideOf (m .version) → sq′ ≡ placed (maskBit side (m .mask)) 0 (take (length sq) ks) (bitsOf (take total found′))
       → sq′ ≡ squareOf (maskBit (sideOf (m .version)) (m .mask)) (layoutOf (m .version)) (take (totalOf (m .version)) stream)

@@ -67,9 +67,12 @@ fn script_refusal(m: Mark, row: &[u8], script: &[u8], payload: &[u8]) -> usize
 
 // The stream of a script and payload, in the blocks of a row. `data` has room for the data codewords of the row.
 fn encode_stream(stream: &mut [u8], data: &mut [u8], row: &[u8], script: &[u8], payload: &[u8])
-    requires { ⌜ (length (now row) ≡ 9) × T (rowHolds (shapes (now row)) (totalSize (shapes (now row)))) × (totalSize (shapes (now row)) ≤ length (now stream)) × (length (now «data») ≡ totalData (shapes (now row))) ⌝ }
+    requires { ⌜ (length (now row) ≡ 9) × T (rowHolds (shapes (now row)) (totalSize (shapes (now row))))
+        × (totalSize (shapes (now row)) ≤ length (now stream)) × (length (now «data») ≡ totalData (shapes (now row))) ⌝ }
     requires { ⌜ Fits (now script) (now payload) (length (now «data»)) × (length (now «data») ≤ 3886) ⌝ }
-    ensures { λ _. ⌜ take (totalSize (shapes (now (row .entry)))) (now (stream .exit)) ≡ streamOf (shapes (now (row .entry))) (scriptData (totalData (shapes (now (row .entry)))) (commandsOf (now (script .entry)) (now (payload .entry)))) ⌝ }
+    ensures { λ _. ⌜ take (totalSize (shapes (now (row .entry)))) (now (stream .exit))
+        ≡ streamOf (shapes (now (row .entry))) (scriptData (totalData (shapes (now (row .entry))))
+        (commandsOf (now (script .entry)) (now (payload .entry)))) ⌝ }
 {
     encoding::encode(script, payload, data);
     block_writer::write_blocks(stream, data, row);
@@ -77,8 +80,10 @@ fn encode_stream(stream: &mut [u8], data: &mut [u8], row: &[u8], script: &[u8], 
 
 // A stream in the data modules of a square; the information modules are light. The codewords are put in order in a lent buffer.
 fn place_stream(square: &mut [u8], kinds: &[u8], m: Mark, stream: &[u8], found: &mut [u8])
-    requires { ⌜ Ready m (now kinds) × (length (now square) ≡ sideOf (m .version) * sideOf (m .version)) × (totalOf (m .version) ≤ length (now stream)) × (totalOf (m .version) ≤ length (now found)) ⌝ }
-    ensures { λ _. ⌜ now (square .exit) ≡ squareOf (maskBit (sideOf (m .version)) (m .mask)) (layoutOf (m .version)) (take (totalOf (m .version)) (now (stream .entry))) ⌝ }
+    requires { ⌜ Ready m (now kinds) × (length (now square) ≡ sideOf (m .version) * sideOf (m .version))
+        × (totalOf (m .version) ≤ length (now stream)) × (totalOf (m .version) ≤ length (now found)) ⌝ }
+    ensures { λ _. ⌜ now (square .exit) ≡ squareOf (maskBit (sideOf (m .version)) (m .mask)) (layoutOf (m .version))
+        (take (totalOf (m .version)) (now (stream .entry))) ⌝ }
 {
     let total = block_table::total_codewords(m.version);
     let side = Version { number: m.version }.side();
@@ -145,7 +150,8 @@ fn write_mark(square: &mut [u8], kinds: &[u8], m: Mark, row: &[u8], script: &[u8
 // The mark and 0, or the first refusal behind that of version, level and mask.
 fn write_ready(square: &mut [u8], kinds: &[u8], m: Mark, script: &[u8], payload: &[u8]) -> usize
     requires { ⌜ Ready m (now kinds) ⌝ }
-    ensures { λ r. ⌜ writingOf r (now (square .exit)) ≡ writeOf (m .version) (m .level) (m .mask) (now (script .entry)) (now (payload .entry)) (now (square .entry)) ⌝ }
+    ensures { λ r. ⌜ writingOf r (now (square .exit)) ≡ writeOf (m .version) (m .level) (m .mask) (now (script .entry)) (now (payload .entry))
+        (now (square .entry)) ⌝ }
 {
     let place = place_refusal(m, kinds, square.len());
     if place != 0 {

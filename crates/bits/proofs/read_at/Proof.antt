@@ -17,7 +17,8 @@ returns-3 c = simp (le-ltb _ _ (c .before .before .if1 .left), le-ltb _ _ (c .be
 
 returns-4 : tie.Need-returns-4
 unfolding readAt
-returns-4 c = simp (le-ltb _ _ (c .before .before .before .if1 .left), le-ltb _ _ (c .before .before .if2 .left), le-ltb _ _ (c .before .if3 .left)) (c .read-bits .ensures)
+returns-4 c = simp (le-ltb _ _ (c .before .before .before .if1 .left), le-ltb _ _ (c .before .before .if2 .left), le-ltb _ _ (c .before .if3 .left))
+    (c .read-bits .ensures)
 
 pub read-at-spec : {M : Type 1} → Rattle.bits.proofs.read_at.Statement.statement M
 read-at-spec = tie.close (tie.spec returns (λ c. search needs) returns-2 returns-3 (λ c κs. search needs) returns-4)

@@ -17,7 +17,9 @@ returns c =
     let f = e .before .before in
     let a = f .before .before .before .before .args in
     read-four (a .s .now) (a .at) (a .n) (((f .wide .result * 256 + e .wide2 .result) * 256 + d .wide3 .result) * 256 + c .wide4 .result) (omega arith) (omega arith)
-    (window-four (a .s .now) (a .at / 8) (f .wide .result) (e .wide2 .result) (d .wide3 .result) (c .wide4 .result) (omega arith) (f .wide .ensures .1, e .wide2 .ensures .1, d .wide3 .ensures .1, c .wide4 .ensures .1) (f .wide .ensures .0) (e .wide2 .ensures .0) (d .wide3 .ensures .0) (c .wide4 .ensures .0))
+    (window-four (a .s .now) (a .at / 8) (f .wide .result) (e .wide2 .result) (d .wide3 .result) (c .wide4 .result) (omega arith)
+    (f .wide .ensures .1, e .wide2 .ensures .1, d .wide3 .ensures .1, c .wide4 .ensures .1) (f .wide .ensures .0) (e .wide2 .ensures .0)
+    (d .wide3 .ensures .0) (c .wide4 .ensures .0))
 
 returns-2 : tie.Need-returns-2
 returns-2 c =

@@ -22,7 +22,8 @@ rem-before c =
     rw (one-shifted (8 - a .at % 8) (omega arith)) (pow-pos (8 - a .at % 8))
 
 -- what is stored
-joins : (c : tie.After-store-four-arg) → Joins (c .before .wide .result) (c .before .before .before .before .before .args .at % 8) (c .before .before .before .before .before .args .n) (c .before .before .before .before .before .args .v)
+joins : (c : tie.After-store-four-arg) → Joins (c .before .wide .result) (c .before .before .before .before .before .args .at % 8)
+    (c .before .before .before .before .before .args .n) (c .before .before .before .before .before .args .v)
 joins c =
     let a = c .before .before .before .before .before .args in
     joined-is (c .before .wide .result) (a .at % 8) (a .n) (a .v) (c .before .wide .ensures .1) (omega arith) (omega arith)

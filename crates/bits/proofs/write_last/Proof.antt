@@ -17,8 +17,12 @@ loop-again c =
     let loop = c .before .before .before .before .before .loop in
     let write-bit = c .before .before .write-bit in
     let a = start .args in
-    let l = loop in
-    (write-bit .kept .0 ∙ l .inv .0, omega arith, l .inv .2 ∙ write-more (bitsOf (l .buf)) (a .at) (a .n) (l .i) (a .v) (omega arith) ∙ ap (λ (B : List ℕ). sets B (a .at + (l .i + 1)) (lowBits (a .n - (l .i + 1)) (a .v))) (sym (write-bit .ensures)))
+    let l = loop in (
+      write-bit .kept .0 ∙ l .inv .0,
+      omega arith,
+      l .inv .2 ∙ write-more (bitsOf (l .buf)) (a .at) (a .n) (l .i) (a .v) (omega arith)
+          ∙ ap (λ (B : List ℕ). sets B (a .at + (l .i + 1)) (lowBits (a .n - (l .i + 1)) (a .v))) (sym (write-bit .ensures)),
+    )
 
 returns : tie.Need-returns Inv-loop μ-loop
 returns c =

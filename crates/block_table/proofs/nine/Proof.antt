@@ -12,8 +12,12 @@ abbrev μ-loop : tie.MeasureT-loop
 loop-again : tie.Need-loop-again Inv-loop μ-loop
 loop-again c =
     let start = c .before .before .before in
-    let loop = c .before .before .loop in
-    (omega arith, length-set (loop .row) (loop .n) _ ∙ loop .inv .1, copied-more (λ k. getD (start .args .table .now) (start .args .at + k) 0) (loop .row) (loop .n) _ (omega arith) refl (loop .inv .2))
+    let loop = c .before .before .loop in (
+      omega arith,
+      length-set (loop .row) (loop .n) _ ∙ loop .inv .1,
+      copied-more (λ k. getD (start .args .table .now) (start .args .at + k) 0)
+          (loop .row) (loop .n) _ (omega arith) refl (loop .inv .2),
+    )
 
 returns : tie.Need-returns Inv-loop μ-loop
 returns c = let loop = c .before .loop in (loop .inv .1, λ k h. loop .inv .2 k (omega arith))

@@ -5,15 +5,21 @@ use Rattle.general.proofs.Names.{false, length, drop, _-_, _≤_, _≡_, refl, 
 use Rattle.codewords.proofs.from_stream.Tie as tie
 
 abbrev Inv-loop : tie.InvT-loop
-Inv-loop out₀ stream total i₀ start₀ out i start = Moves false total stream out start i × (drop total out ≡ drop total out₀) × (start ≤ 13) × (length out ≡ length out₀)
+Inv-loop out₀ stream total i₀ start₀ out i start =
+    Moves false total stream out start i × (drop total out ≡ drop total out₀) × (start ≤ 13) × (length out ≡ length out₀)
 
 abbrev μ-loop : tie.MeasureT-loop
 μ-loop out₀ stream total i₀ start₀ out i start = 13 - start
 
 loop-holds : tie.Need-loop-holds Inv-loop μ-loop
 loop-holds c =
-    let start = c .before .before in
-    (move-first false (start .args .total) (start .args .stream .now) (start .args .out .now) (start .pre .0) (start .pre .1) (start .pre .2), refl, omega arith, refl)
+    let start = c .before .before in (
+      move-first false (start .args .total) (start .args .stream .now) (start .args .out .now) (start .pre .0) (start .pre .1)
+          (start .pre .2),
+      refl,
+      omega arith,
+      refl,
+    )
 
 loop-again : tie.Need-loop-again Inv-loop μ-loop
 loop-again c =

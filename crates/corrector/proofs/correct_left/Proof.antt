@@ -22,14 +22,22 @@ repair-requires : tie.Need-repair-requires
 repair-requires c κs =
     let start = c .before .before .before .before .before .before .before .before .before .before .before in
     let fits = start .pre .0 in
-    let field = c .before .before .before .before .before .before .before .han-xin .ensures in
-    (field .0, ((omega arith, omega arith, fits .2), c .before .before .before .before .syndromes .ensures (start .args .block .now) (left-as (start .pre .1) (field .1) (omega arith))))
+    let field = c .before .before .before .before .before .before .before .han-xin .ensures in (
+      field .0,
+      (
+        (omega arith, omega arith, fits .2),
+        c .before .before .before .before .syndromes .ensures (start .args .block .now)
+            (left-as (start .pre .1) (field .1) (omega arith)),
+      ),
+    )
 
 returns-2 : tie.Need-returns-2
 returns-2 c =
     let start = c .before .before .before .before .before .before .before .before .before .before .before .before .before .before .before in
     let fits = start .pre .0 in
-    c .before .before .before .repair .ensures ∙ ap (λ (p : ℕ). settled (start .args .block .now) (nearest p 1 (start .args .parity) (start .args .block .now))) (c .before .before .before .before .before .before .before .before .before .before .before .han-xin .ensures .1)
+    c .before .before .before .repair .ensures ∙ ap (λ (p : ℕ). settled (start .args .block .now)
+    (nearest p 1 (start .args .parity) (start .args .block .now)))
+    (c .before .before .before .before .before .before .before .before .before .before .before .han-xin .ensures .1)
     ∙ fit-settled _ _ _ _ (fit _ _ (λ e. omega arith) (fits .1) (fits .2))
 
 pub correct-left-spec : {M : Type 1} → Rattle.corrector.proofs.correct_left.Statement.statement M

@@ -13,8 +13,13 @@ abbrev μ-loop : tie.MeasureT-loop
 loop-again : tie.Need-loop-again Inv-loop μ-loop
 loop-again c =
     let loop = c .before .before .before .loop in
-    let kinds = c .before .before .before .before .before .before .args .kinds .now in
-    (omega arith, length-set (loop .square) (loop .i) (c .pattern .result) ∙ loop .inv .1, copied-more (λ (k : ℕ). patternOf (getD kinds k 0)) (loop .square) (loop .i) (c .pattern .result) (c .before .before .loop-test .taken) (c .pattern .ensures) (loop .inv .2))
+    let kinds = c .before .before .before .before .before .before .args .kinds .now in (
+      omega arith,
+      length-set (loop .square) (loop .i) (c .pattern .result)
+          ∙ loop .inv .1,
+      copied-more (λ (k : ℕ). patternOf (getD kinds k 0)) (loop .square) (loop .i) (c .pattern .result) (c .before .before .loop-test .taken)
+          (c .pattern .ensures) (loop .inv .2),
+    )
 
 returns : tie.Need-returns Inv-loop μ-loop
 returns c = let loop = c .before .loop in record { is = λ k lo hi. loop .inv .2 k (omega arith) }

@@ -7,7 +7,16 @@ cast-square : tie.Need-cast-square
 cast-square c = let start = c .before .before .before .before in omega (arith, bit-lt (start .args .codewords .now) (start .args .bit))
 
 returns-2 : tie.Need-returns-2
-returns-2 c = let start = c .before .before .before .before in record { room = λ h. (refl, ap (λ (y : ℕ). set (start .args .square .now) (start .args .at) (bitXor y (start .args .inverted))) (c .bit .ensures)); full = λ h. absurd (omega arith) }
+returns-2 c =
+    let start = c .before .before .before .before in
+    record {
+      room = λ h. (
+        refl,
+        ap (λ (y : ℕ). set (start .args .square .now) (start .args .at) (bitXor y (start .args .inverted)))
+            (c .bit .ensures),
+      );
+      full = λ h. absurd (omega arith);
+    }
 
 pub put-bit-spec : {M : Type 1} → Rattle.drawing.proofs.put_bit.Statement.statement M
 put-bit-spec =

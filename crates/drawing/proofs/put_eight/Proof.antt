@@ -10,8 +10,15 @@ spread-requires c κs = let start = c .before .before .before .before in omega (
 returns : tie.Need-returns
 returns c =
     let start = c .before .before .before .before .before .before .before .before .before .before .before in
-    let bytes = masked-bytes (start .args .codewords .now) (start .args .row .now) (start .args .p .bit) (start .args .p .column) (omega arith) (start .pre .3) (c .before .before .before .before .before .before .before .window .ensures) (c .before .before .before .before .before .before .spread .ensures) (c .before .before .before .before .before .eight .ensures) in
-    record { column-is = refl; bit-is = refl; is = c .before .before .before .put .ensures ∙ ap (sets (start .args .square .now) (start .args .p .column)) bytes }
+    let bytes = masked-bytes (start .args .codewords .now) (start .args .row .now) (start .args .p .bit) (start .args .p .column) (omega arith) (start .pre .3)
+    (c .before .before .before .before .before .before .before .window .ensures) (c .before .before .before .before .before .before .spread .ensures)
+    (c .before .before .before .before .before .eight .ensures) in
+    record {
+      column-is = refl;
+      bit-is = refl;
+      is = c .before .before .before .put .ensures
+          ∙ ap (sets (start .args .square .now) (start .args .p .column)) bytes;
+    }
 
 pub put-eight-spec : {M : Type 1} → Rattle.drawing.proofs.put_eight.Statement.statement M
 put-eight-spec =

@@ -16,7 +16,8 @@ loop-holds c = let start = c .before .before .before .before in (start .pre .0, 
 loop-again : tie.Need-loop-again Inv-loop μ-loop
 loop-again c =
     let put-one = c .before .before .put-one in
-    let loop = c .before .before .before .before .before .before .loop in (blank-kept (put-one .kept .0) (loop .inv .0), put-one .ensures .1, puts-on (loop .inv .2) (put-one .ensures .2))
+    let loop = c .before .before .before .before .before .before .loop in
+    (blank-kept (put-one .kept .0) (loop .inv .0), put-one .ensures .1, puts-on (loop .inv .2) (put-one .ensures .2))
 
 same-length : tie.Need-same-length Inv-loop μ-loop
 same-length c = c .before .before .loop .inv .0 .size ∙ sym (c .before .before .before .before .before .before .before .pre .0 .size)

@@ -5,10 +5,14 @@ use Rattle.general.proofs.Names.{refl, arith, needs}
 use Rattle.drawing.proofs.put_one.Tie as tie
 
 returns : tie.Need-returns
-returns c = let start = c .before .before .before .before .before .before .before .before .before .before .before in (omega arith, omega arith, puts-one (start .pre .1) (c .before .before .before .before .before .if1 .taken) refl (c .before .before .put-bit .ensures))
+returns c =
+    let start = c .before .before .before .before .before .before .before .before .before .before .before in
+    (omega arith, omega arith, puts-one (start .pre .1) (c .before .before .before .before .before .if1 .taken) refl (c .before .before .put-bit .ensures))
 
 returns-2 : tie.Need-returns-2
-returns-2 c = let start = c .before .before .before .before .before .before in (omega arith, omega arith, puts-skip (passed-one (start .args .kinds .now) (start .args .p .column) (start .pre .1) (c .if1 .left)) refl)
+returns-2 c =
+    let start = c .before .before .before .before .before .before in
+    (omega arith, omega arith, puts-skip (passed-one (start .args .kinds .now) (start .args .p .column) (start .pre .1) (c .if1 .left)) refl)
 
 pub put-one-spec : {M : Type 1} → Rattle.drawing.proofs.put_one.Statement.statement M
 put-one-spec =

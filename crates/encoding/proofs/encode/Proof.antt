@@ -7,7 +7,8 @@ use Rattle.encoding.proofs.encode.Tie as tie
 
 abbrev Inv-loop : tie.InvT-loop
 Inv-loop script payload codewords₀ i₀ j₀ at₀ codewords i j at =
-    (length codewords ≡ length codewords₀) × (i ≤ length script) × (j ≤ length payload) × (length codewords₀ ≤ 3886) × Left script payload (length codewords₀) codewords i j at
+    (length codewords ≡ length codewords₀) × (i ≤ length script) × (j ≤ length payload) × (length codewords₀ ≤ 3886) × Left script payload
+    (length codewords₀) codewords i j at
 
 abbrev μ-loop : tie.MeasureT-loop
 μ-loop script payload codewords₀ i₀ j₀ at₀ codewords i j at = length script - i
@@ -16,8 +17,14 @@ loop-holds : tie.Need-loop-holds Inv-loop μ-loop
 loop-holds c =
     let y = c .before .before in
     let s = y .before in
-    let a = s .args in
-    (refl, omega arith, omega arith, s .pre .1, begun (a .script .now) (a .payload .now) (length (a .codewords .now)) (a .codewords .now) (λ k. omega (arith, y .shared-slice-known .given k)) (s .pre .0))
+    let a = s .args in (
+      refl,
+      omega arith,
+      omega arith,
+      s .pre .1,
+      begun (a .script .now) (a .payload .now) (length (a .codewords .now)) (a .codewords .now)
+          (λ k. omega (arith, y .shared-slice-known .given k)) (s .pre .0),
+    )
 
 -- the segment in front, where the command is one of modes 1 to 7
 next-run : (c : tie.After-known-told Inv-loop μ-loop)
@@ -30,7 +37,8 @@ next-run : (c : tie.After-known-told Inv-loop μ-loop)
 next-run c =
     let g = c .before .before .before in
     let y = g .before .before .before .before .before in
-    run-next (omega arith) (g .command-at .ensures) (g .before .before .loop .inv .4) (λ q. omega (arith, y .shared-slice-known .given q)) (c .before .next .given .1)
+    run-next (omega arith) (g .command-at .ensures) (g .before .before .loop .inv .4) (λ q. omega (arith, y .shared-slice-known .given q))
+    (c .before .next .given .1)
 
 -- and where it is an ECI
 next-eci : (c : tie.After-known-told2 Inv-loop μ-loop)
@@ -40,7 +48,8 @@ next-eci : (c : tie.After-known-told2 Inv-loop μ-loop)
 next-eci c =
     let g = c .before .before .before in
     let y = g .before .before .before .before .before in
-    eci-next (omega arith) (g .command-at .ensures) (g .before .before .loop .inv .4) (λ q. omega (arith, y .shared-slice-known .given q)) (c .before .next2 .given .1)
+    eci-next (omega arith) (g .command-at .ensures) (g .before .before .loop .inv .4) (λ q. omega (arith, y .shared-slice-known .given q))
+    (c .before .next2 .given .1)
 
 add-end : tie.Need-add-end Inv-loop μ-loop
 add-end c = let t = next-run c in omega arith

@@ -16,7 +16,11 @@ loop-holds c =
     (refl, omega arith, begun 8 (a .buf .now) (a .from) (a .run .now))
 
 -- the byte that is next
-next : (c : tie.In-loop Inv-loop μ-loop) → Doing 8 (c .before .before .before .before .args .buf .now) (c .before .before .before .before .args .from) (c .before .before .before .before .args .run .now) (c .before .loop .buf) (c .before .loop .at) (getD (c .before .before .before .before .args .run .now) (c .before .loop .j) 0 ∷ drop (c .before .loop .j + 1) (c .before .before .before .before .args .run .now))
+next : (c : tie.In-loop Inv-loop μ-loop)
+    → Doing 8 (c .before .before .before .before .args .buf .now) (c .before .before .before .before .args .from)
+    (c .before .before .before .before .args .run .now) (c .before .loop .buf) (c .before .loop .at)
+    (getD (c .before .before .before .before .args .run .now) (c .before .loop .j) 0 ∷ drop (c .before .loop .j + 1)
+    (c .before .before .before .before .args .run .now))
 next c =
     let l = c .before .loop in
     let a = c .before .before .before .before .args in

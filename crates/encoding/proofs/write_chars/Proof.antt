@@ -17,35 +17,45 @@ loop-holds : tie.Need-loop-holds Inv-loop μ-loop
 unfolding beginsIn
 loop-holds c =
     let s = c .before .before .before .before in
-    let a = s .args in
-    (refl, omega arith, s .pre .1, rw (c .width .ensures .0) (s .pre .2), begun (c .width .result) (a .buf .now) (a .from) (wordsOf (a .mode) (beginsIn (a .mode)) (a .run .now)))
+    let a = s .args in (
+      refl,
+      omega arith,
+      s .pre .1,
+      rw (c .width .ensures .0) (s .pre .2),
+      begun (c .width .result) (a .buf .now) (a .from)
+          (wordsOf (a .mode) (beginsIn (a .mode)) (a .run .now)),
+    )
 
 -- behind a character of the present subset or region, and behind one of the other
 same : (c : tie.After-known-told Inv-loop μ-loop)
     → let l = c .before .before .before .before .before .loop in
     let y = c .before .before .before .before .before .before in
     let a = y .before .before .before .before .args in
-    Behind (a .run .now) (a .mode) (l .j + y .before .step .result) (y .width .result) (a .buf .now) (a .from) (wordsOf (a .mode) (beginsIn (a .mode)) (a .run .now)) (l .buf) (l .at)
+    Behind (a .run .now) (a .mode) (l .j + y .before .step .result) (y .width .result) (a .buf .now) (a .from)
+    (wordsOf (a .mode) (beginsIn (a .mode)) (a .run .now)) (l .buf) (l .at)
     (c .before .g .given .0 .0 ∷ []) (l .first)
 unfolding beginsIn
 same c =
     let g = c .before .before .before in
     let l = g .before .before .loop in
     let a = g .before .before .before .before .before .before .before .args in
-    same-words (a .run .now) (a .mode) (l .first) (l .j) (g .character-at .ensures) (g .before .before .before .before .step .ensures .0) (omega arith) (l .inv .2) (l .inv .4) (c .before .g .given .1)
+    same-words (a .run .now) (a .mode) (l .first) (l .j) (g .character-at .ensures) (g .before .before .before .before .step .ensures .0) (omega arith)
+    (l .inv .2) (l .inv .4) (c .before .g .given .1)
 
 other : (c : tie.After-known-told2 Inv-loop μ-loop)
     → let l = c .before .before .before .before .before .loop in
     let y = c .before .before .before .before .before .before in
     let a = y .before .before .before .before .args in
-    Behind (a .run .now) (a .mode) (l .j + y .before .step .result) (y .width .result) (a .buf .now) (a .from) (wordsOf (a .mode) (beginsIn (a .mode)) (a .run .now)) (l .buf) (l .at)
+    Behind (a .run .now) (a .mode) (l .j + y .before .step .result) (y .width .result) (a .buf .now) (a .from)
+    (wordsOf (a .mode) (beginsIn (a .mode)) (a .run .now)) (l .buf) (l .at)
     (switchOf (a .mode) ∷ c .before .g2 .given .0 .0 ∷ []) (not (l .first))
 unfolding beginsIn
 other c =
     let g = c .before .before .before in
     let l = g .before .before .loop in
     let a = g .before .before .before .before .before .before .before .args in
-    other-words (a .run .now) (a .mode) (l .first) (l .j) (g .character-at .ensures) (g .before .before .before .before .step .ensures .0) (omega arith) (l .inv .2) (l .inv .4) (c .before .g2 .given .1)
+    other-words (a .run .now) (a .mode) (l .first) (l .j) (g .character-at .ensures) (g .before .before .before .before .step .ensures .0) (omega arith)
+    (l .inv .2) (l .inv .4) (c .before .g2 .given .1)
 
 put-requires : tie.Need-put-requires Inv-loop μ-loop
 unfolding beginsIn

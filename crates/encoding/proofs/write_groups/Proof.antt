@@ -1,7 +1,7 @@
 -- `write_groups` meets its contract. Assumes nothing.
 use Rattle.general.proofs.Names.{_≡_, refl, _∙_, [], _∷_, _+_, _-_, _*_, _≤_, arith, length, getD, drop}
 use Rattle.script.specs.Writer.{numericWords}
-use Rattle.encoding.specs.Written.{Doing}
+use Rattle.encoding.specs.Written.{Doing, groupAt}
 use Rattle.encoding.proofs.Doing.{begun, word-room, word-done, all-done, doing-as, three-digits, one-digit, two-digits, no-digit}
 use Rattle.encoding.proofs.write_groups.Tie as tie
 
@@ -16,38 +16,47 @@ loop-holds c =
     let a = c .before .before .args in
     (refl, omega arith, begun 10 (a .buf .now) (a .from) (numericWords (a .run .now)))
 
+-- three digits are left, or one, or two, or none
+three : (c : tie.In-loop Inv-loop μ-loop)
+    → let l = c .before .loop in
+    let a = c .before .before .before .before .args in
+    Doing 10 (a .buf .now) (a .from) (numericWords (a .run .now)) (l .buf) (l .at) (groupAt (a .run .now) (l .j) ∷ numericWords (drop (l .j + 3) (a .run .now)))
+three c = let l = c .before .loop in doing-as (three-digits (c .before .before .before .before .args .run .now) (l .j) (omega arith)) (l .inv .2)
+
+one : (c : tie.Then1 Inv-loop μ-loop)
+    → let l = c .before .before .loop in
+    let a = c .before .before .before .before .before .args in
+    Doing 10 (a .buf .now) (a .from) (numericWords (a .run .now)) (l .buf) (l .at) ((getD (a .run .now) (l .j) 0 - 48) ∷ 1021 ∷ [])
+one c = let l = c .before .before .loop in doing-as (one-digit (c .before .before .before .before .before .args .run .now) (l .j) (omega arith)) (l .inv .2)
+
+two : (c : tie.Then2 Inv-loop μ-loop)
+    → let l = c .before .before .before .loop in
+    let a = c .before .before .before .before .before .before .args in
+    Doing 10 (a .buf .now) (a .from) (numericWords (a .run .now)) (l .buf) (l .at)
+    (((getD (a .run .now) (l .j) 0 - 48) * 10 + (getD (a .run .now) (l .j + 1) 0 - 48)) ∷ 1022 ∷ [])
+two c =
+    let l = c .before .before .before .loop in
+    doing-as (two-digits (c .before .before .before .before .before .before .args .run .now) (l .j) (omega arith)) (l .inv .2)
+
+none : (c : tie.Else2 Inv-loop μ-loop)
+    → let l = c .before .before .before .loop in
+    let a = c .before .before .before .before .before .before .args in
+    Doing 10 (a .buf .now) (a .from) (numericWords (a .run .now)) (l .buf) (l .at) (1023 ∷ [])
+none c =
+    let l = c .before .before .before .loop in
+    doing-as (no-digit (c .before .before .before .before .before .before .args .run .now) (l .j) (omega arith)) (l .inv .2)
+
 put-requires : tie.Need-put-requires Inv-loop μ-loop
 put-requires c κs =
-    let l = c .before .before .before .loop in
-    let a = c .before .before .before .before .before .before .args in
-    let r = word-room (8 * length (a .buf .now)) (doing-as (three-digits (a .run .now) (l .j) (omega arith)) (l .inv .2)) (omega arith) in
+    let i = c .before .before in
+    let r = word-room (8 * length (i .before .before .before .before .args .buf .now)) (three i) (omega arith) in
     (omega arith, omega arith, omega arith)
 
 loop-again : tie.Need-loop-again Inv-loop μ-loop
 loop-again c =
-    let l = c .before .before .before .before .before .before .loop in
-    let a = c .before .before .before .before .before .before .before .before .before .args in
+    let g = c .before .before .before in
     let p = c .before .before .put in
-    (p .kept .0 ∙ l .inv .0, omega arith, word-done (doing-as (three-digits (a .run .now) (l .j) (omega arith)) (l .inv .2)) (rw (c .before .before .before .group .ensures .0) at (p .ensures)))
-
--- one digit is left, or two, or none
-one : (c : tie.Then1 Inv-loop μ-loop) → Doing 10 (c .before .before .before .before .before .args .buf .now) (c .before .before .before .before .before .args .from) (numericWords (c .before .before .before .before .before .args .run .now)) (c .before .before .loop .buf) (c .before .before .loop .at) ((getD (c .before .before .before .before .before .args .run .now) (c .before .before .loop .j) 0 - 48) ∷ 1021 ∷ [])
-one c =
-    let l = c .before .before .loop in
-    let a = c .before .before .before .before .before .args in
-    doing-as (one-digit (a .run .now) (l .j) (omega arith)) (l .inv .2)
-
-two : (c : tie.Then2 Inv-loop μ-loop) → Doing 10 (c .before .before .before .before .before .before .args .buf .now) (c .before .before .before .before .before .before .args .from) (numericWords (c .before .before .before .before .before .before .args .run .now)) (c .before .before .before .loop .buf) (c .before .before .before .loop .at) (((getD (c .before .before .before .before .before .before .args .run .now) (c .before .before .before .loop .j) 0 - 48) * 10 + (getD (c .before .before .before .before .before .before .args .run .now) (c .before .before .before .loop .j + 1) 0 - 48)) ∷ 1022 ∷ [])
-two c =
-    let l = c .before .before .before .loop in
-    let a = c .before .before .before .before .before .before .args in
-    doing-as (two-digits (a .run .now) (l .j) (omega arith)) (l .inv .2)
-
-none : (c : tie.Else2 Inv-loop μ-loop) → Doing 10 (c .before .before .before .before .before .before .args .buf .now) (c .before .before .before .before .before .before .args .from) (numericWords (c .before .before .before .before .before .before .args .run .now)) (c .before .before .before .loop .buf) (c .before .before .before .loop .at) (1023 ∷ [])
-none c =
-    let l = c .before .before .before .loop in
-    let a = c .before .before .before .before .before .before .args in
-    doing-as (no-digit (a .run .now) (l .j) (omega arith)) (l .inv .2)
+    (p .kept .0 ∙ g .before .before .before .loop .inv .0, omega arith, word-done (three (g .before .before)) (rw (g .group .ensures .0) at (p .ensures)))
 
 put-requires-2 : tie.Need-put-requires-2 Inv-loop μ-loop
 put-requires-2 c κs =
@@ -91,7 +100,8 @@ put-requires-5 c κs =
     let i = d .before .before .before in
     let a = i .before .before .before .before .before .before .args in
     let p = c .before .before .before .put4 in
-    let r = word-room (8 * length (a .buf .now)) (word-done (two i) (rw (d .before .digit2 .ensures .0, d .digit3 .ensures .0) at (p .ensures))) (omega arith) in
+    let r = word-room (8 * length (a .buf .now)) (word-done (two i) (rw (d .before .digit2 .ensures .0, d .digit3 .ensures .0) at (p .ensures)))
+    (omega arith) in
     (omega arith, omega arith, omega arith)
 
 same-length-2 : tie.Need-same-length-2 Inv-loop μ-loop

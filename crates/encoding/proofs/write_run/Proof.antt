@@ -38,15 +38,21 @@ returns c =
     rw (numeric-bits (a .mode) (a .chars .now) (i .if1 .taken)) (written-both (p .put .ensures) (c .before .before .write-numeric .ensures))
 
 -- the bits of bytes
-bytes : (c : tie.Then2) → let a = c .before .before .before .before .before .before .before .before .args in modeBits (a .mode) (a .chars .now) ≡ lowBits 13 (length (a .chars .now)) ++ wordBits 8 (a .chars .now)
+bytes : (c : tie.Then2)
+    → let a = c .before .before .before .before .before .before .before .before .args in
+    modeBits (a .mode) (a .chars .now) ≡ lowBits 13 (length (a .chars .now)) ++ wordBits 8 (a .chars .now)
 bytes c = let a = c .before .before .before .before .before .before .before .before .args in bytes-bits (a .mode) (a .chars .now) (c .if2 .taken)
 
 put-requires-2 : tie.Need-put-requires-2
 put-requires-2 c κs =
     let i = c .before in
     let p = i .before .before .before .before in
-    let a = p .before .before .before .before .args in
-    (omega arith, first-room 13 (length (a .chars .now)) (p .put .result) (8 * length (p .put .last .0)) (wordBits 8 (a .chars .now)) (rw (bytes i) at (room p)), omega arith)
+    let a = p .before .before .before .before .args in (
+      omega arith,
+      first-room 13 (length (a .chars .now)) (p .put .result) (8 * length (p .put .last .0)) (wordBits 8 (a .chars .now))
+          (rw (bytes i) at (room p)),
+      omega arith,
+    )
 
 write-bytes-requires : tie.Need-write-bytes-requires
 write-bytes-requires c κs =
@@ -81,7 +87,8 @@ returns-3 c =
     let f = c .before .before .before in
     let p = f .before .before .before .before .before .before .before in
     let a = p .before .before .before .before .args in
-    rw (four-bits (a .mode) (a .chars .now) (f .before .before .if3 .taken)) (written-both (p .put .ensures) (rw (f .four-code .ensures) at (c .before .before .put3 .ensures)))
+    rw (four-bits (a .mode) (a .chars .now) (f .before .before .if3 .taken))
+    (written-both (p .put .ensures) (rw (f .four-code .ensures) at (c .before .before .put3 .ensures)))
 
 -- the other modes are those of characters
 chars : (c : tie.Else3)
@@ -99,8 +106,12 @@ write-chars-requires c κs =
     let s = p .before .before .before .before in
     let a = s .args in
     let e = chars i in
-    let r = rw (e .0) at (room p) in
-    (omega arith, sym (e .1) ∙ s .pre .3, word-length (widthOf (a .mode)) (wordsOf (a .mode) (beginsIn (a .mode)) (a .chars .now)) (p .put .result) (8 * length (p .put .last .0)) r)
+    let r = rw (e .0) at (room p) in (
+      omega arith,
+      sym (e .1) ∙ s .pre .3,
+      word-length (widthOf (a .mode)) (wordsOf (a .mode) (beginsIn (a .mode)) (a .chars .now)) (p .put .result)
+          (8 * length (p .put .last .0)) r,
+    )
 
 returns-4 : tie.Need-returns-4
 returns-4 c =

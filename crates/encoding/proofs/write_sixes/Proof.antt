@@ -6,7 +6,8 @@ use Rattle.encoding.proofs.Doing.{begun, two-room, two-done, doing-as, 
 use Rattle.encoding.proofs.write_sixes.Tie as tie
 
 abbrev Inv-loop : tie.InvT-loop
-Inv-loop buf₀ from run at₀ j₀ buf at j = (length buf ≡ length buf₀) × (j ≤ length run) × (j % 6 ≡ 0) × Doing 10 buf₀ from (numericWords run) buf at (numericWords (drop j run))
+Inv-loop buf₀ from run at₀ j₀ buf at j = (length buf ≡ length buf₀) × (j ≤ length run) × (j % 6 ≡ 0) × Doing 10 buf₀ from (numericWords run) buf at
+    (numericWords (drop j run))
 
 abbrev μ-loop : tie.MeasureT-loop
 μ-loop buf₀ from run at₀ j₀ buf at j = length run - j

@@ -17,15 +17,22 @@ loop-holds c = (omega arith, omega arith, omega arith, omega arith, refl)
 loop-again : tie.Need-loop-again Inv-loop μ-loop
 loop-again c =
     let loop = c .before .before .before .loop in
-    let plus-if-odd = c .before .plus-if-odd in
-    (plus-if-odd .ensures .1, c .times-x .ensures .1, omega arith, omega arith, sym (one-more (loop .p) (loop .a) (loop .b) (loop .i) (c .before .before .loop-test .taken) (plus-if-odd .ensures .0) (c .times-x .ensures .0)) ∙ loop .inv .4)
+    let plus-if-odd = c .before .plus-if-odd in (
+      plus-if-odd .ensures .1,
+      c .times-x .ensures .1,
+      omega arith,
+      omega arith,
+      sym (one-more (loop .p) (loop .a) (loop .b) (loop .i)
+          (c .before .before .loop-test .taken) (plus-if-odd .ensures .0) (c .times-x .ensures .0)) ∙ loop .inv .4,
+    )
 
 returns : tie.Need-returns Inv-loop μ-loop
 unfolding productFrom
 returns c =
     let start = c .before .before in
     let loop = c .before .loop in
-    let e : 4 - loop .i ≡ 0 = omega arith in let q : productFrom (4 - loop .i) (loop .p) (loop .a) (loop .b) ≡ gf16Mul (start .args .x) (start .args .y) = loop .inv .4 in (rw e at q, loop .inv .0)
+    let e : 4 - loop .i ≡ 0 = omega arith in let q : productFrom (4 - loop .i) (loop .p) (loop .a) (loop .b) ≡ gf16Mul (start .args .x)
+    (start .args .y) = loop .inv .4 in (rw e at q, loop .inv .0)
 
 pub gf16-mul-spec : {M : Type 1} → Rattle.information.proofs.gf16_mul.Statement.statement M
 gf16-mul-spec =

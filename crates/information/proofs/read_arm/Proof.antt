@@ -1,7 +1,6 @@
 -- `read_arm` meets its contract. Assumes nothing.
-use Rattle.general.proofs.Names.{getD, ℕ, _-_, _≤_, _≡_, ap, _∙_, needs, arith}
+use Rattle.general.proofs.Names.{getD, ℕ, _-_, _<_, _≤_, _≡_, ap, _∙_, needs, arith}
 use Rattle.information.proofs.Copies.{number-small, number-more}
-use Rattle.information.specs.Information.{infoPosition}
 use Rattle.information.specs.Inner.{moduleOf, numberFrom}
 use Rattle.information.proofs.read_arm.Tie as tie
 
@@ -14,31 +13,32 @@ abbrev μ-loop : tie.MeasureT-loop
 info-position-requires : tie.Need-info-position-requires Inv-loop μ-loop
 info-position-requires c κs = (c .before .before .before .pre .0, c .before .before .before .pre .1, omega arith)
 
-mul-w : tie.Need-mul-w Inv-loop μ-loop
-mul-w c =
-    let start = c .before .before .before .before in
-    let loop = c .before .before .loop in
-    omega (arith, number-small (λ k. getD (start .args .square .now) (infoPosition (start .args .side) (start .args .second) k) 0) (λ k. start .pre .3 (infoPosition (start .args .side) (start .args .second) k)) (loop .n) (omega arith))
+-- the bits so far are a small number
+small : (c : tie.In-loop Inv-loop μ-loop) → c .before .loop .w < 17179869184
+small c =
+    let start = c .before .before .before in
+    omega (arith, number-small (moduleOf (start .args .side) (start .args .second) (start .args .square .now)) (λ k. start .pre .3 _) (c .before .loop .n) (omega arith))
 
 add-w : tie.Need-add-w Inv-loop μ-loop
 add-w c =
     let start = c .before .before .before .before .before .before in
-    let loop = c .before .before .before .before .loop in
-    omega (arith, number-small (λ k. getD (start .args .square .now) (infoPosition (start .args .side) (start .args .second) k) 0) (λ k. start .pre .3 (infoPosition (start .args .side) (start .args .second) k)) (loop .n) (omega arith), start .pre .3 (c .before .before .info-position .result))
+    omega (arith, small (c .before .before .before), start .pre .3 (c .before .before .info-position .result))
 
 loop-again : tie.Need-loop-again Inv-loop μ-loop
 loop-again c =
     let start = c .before .before .before .before .before .before in
     let loop = c .before .before .before .before .loop in
-    (omega arith, number-more (λ k. getD (start .args .square .now) (infoPosition (start .args .side) (start .args .second) k) 0) (loop .n) (loop .inv .1) (c .wide8 .ensures ∙ ap (λ (k : ℕ). getD (start .args .square .now) k 0) (c .before .before .info-position .ensures .0)))
+    let bit = c .wide8 .ensures ∙ ap (λ (k : ℕ). getD (start .args .square .now) k 0) (c .before .before .info-position .ensures .0) in
+    (omega arith, number-more (moduleOf (start .args .side) (start .args .second) (start .args .square .now)) (loop .n) (loop .inv .1) bit)
 
 returns : tie.Need-returns Inv-loop μ-loop
 returns c =
     let start = c .before .before .before in
     let loop = c .before .loop in
-    loop .inv .1 ∙ ap (numberFrom (moduleOf (start .args .side) (start .args .second) (start .args .square .now))) (let e : loop .n ≡ start .args .to = omega arith in e)
+    loop .inv .1 ∙ ap (numberFrom (moduleOf (start .args .side) (start .args .second) (start .args .square .now)))
+    (let e : loop .n ≡ start .args .to = omega arith in e)
 
 pub read-arm-spec : {M : Type 1} → Rattle.information.proofs.read_arm.Statement.statement M
 read-arm-spec =
-    tie.close (tie.spec Inv-loop μ-loop (λ c. (c .before .pre .4, c .before .pre .6)) info-position-requires mul-w (λ c. omega arith)
-    (λ c κs. search needs) add-w (λ c. omega arith) (λ c. omega arith) loop-again returns)
+    tie.close (tie.spec Inv-loop μ-loop (λ c. (c .before .pre .4, c .before .pre .6)) info-position-requires (λ c. omega (arith, small (c .before)))
+    (λ c. omega arith) (λ c κs. search needs) add-w (λ c. omega arith) (λ c. omega arith) loop-again returns)

@@ -17,15 +17,22 @@ loop-again : tie.Need-loop-again Inv-loop μ-loop
 loop-again c =
     let start = c .before .before .before .before .before in
     let loop = c .before .before .before .loop in
-    let info-position = c .before .info-position in
-    (omega arith, record { is = λ g e. write-more (start .args .side) (start .args .second) (start .args .word) (loop .n) g (loop .inv .1 .is g e) (info-position .ensures .0) (c .bit .ensures) }, length-set (loop .square) (info-position .result) (c .bit .result) ∙ loop .inv .2)
+    let info-position = c .before .info-position in (
+      omega arith,
+      record {
+        is = λ g e. write-more (start .args .side) (start .args .second) (start .args .word) (loop .n) g (loop .inv .1 .is g e)
+            (info-position .ensures .0) (c .bit .ensures);
+      },
+      length-set (loop .square) (info-position .result) (c .bit .result) ∙ loop .inv .2,
+    )
 
 returns : tie.Need-returns Inv-loop μ-loop
 returns c =
     let start = c .before .before .before in
     let loop = c .before .loop in
     let n : loop .n ≡ start .args .to = omega arith in
-    subst (λ (k : ℕ). ArmWritten (start .args .side) (start .args .second) (start .args .word) (start .args .from) k (start .args .square .now) (loop .square)) n (loop .inv .1)
+    subst (λ (k : ℕ). ArmWritten (start .args .side) (start .args .second) (start .args .word) (start .args .from) k (start .args .square .now)
+    (loop .square)) n (loop .inv .1)
 
 pub write-arm-spec : {M : Type 1} → Rattle.information.proofs.write_arm.Statement.statement M
 write-arm-spec =

@@ -20,7 +20,8 @@ slice-write-table-2 c = let loop = c .before .before .before .loop in omega (ari
 slice-write-table-3 : tie.Need-slice-write-table-3 Inv-loop μ-loop
 slice-write-table-3 c =
     let loop = c .before .before .before .loop in
-    let first = set (loop .table) (192 + loop .c) (c .before .factor .result) in omega (arith, length-set (loop .table) (192 + loop .c) (c .before .factor .result), length-set first (384 + loop .c) (c .rest-of .result))
+    let first = set (loop .table) (192 + loop .c) (c .before .factor .result) in
+    omega (arith, length-set (loop .table) (192 + loop .c) (c .before .factor .result), length-set first (384 + loop .c) (c .rest-of .result))
 
 loop-again : tie.Need-loop-again Inv-loop μ-loop
 loop-again c =

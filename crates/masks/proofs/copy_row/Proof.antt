@@ -16,7 +16,11 @@ cast-row : tie.Need-cast-row Inv-loop μ-loop
 cast-row c =
     let section = c .before .before .before .section in
     let start = c .before .before .before .before .before .before in
-    omega (arith, bit-copied (start .args .i) (start .pre .3) (start .pre .0) (start .pre .1) (section .ensures .0) (section .ensures .1) (c .before .loop-test .taken) .1)
+    omega (
+      arith,
+      bit-copied (start .args .i) (start .pre .3) (start .pre .0) (start .pre .1) (section .ensures .0) (section .ensures .1)
+          (c .before .loop-test .taken) .1,
+    )
 
 loop-again : tie.Need-loop-again Inv-loop μ-loop
 loop-again c =

@@ -31,8 +31,11 @@ slice-write-table-3 c =
 loop-again : tie.Need-loop-again Inv-loop μ-loop
 loop-again c =
     let loop = c .before .before .before .before .loop in
-    let start = c .before .before .before .before .before .before in
-    (rows-next _ _ _ (loop .inv .0) (omega arith) (start .pre .3) (c .inverts-low3 .ensures) (c .before .before .inverts-low .ensures) (c .before .inverts-low2 .ensures), omega arith)
+    let start = c .before .before .before .before .before .before in (
+      rows-next _ _ _ (loop .inv .0) (omega arith) (start .pre .3) (c .inverts-low3 .ensures) (c .before .before .inverts-low .ensures)
+          (c .before .inverts-low2 .ensures),
+      omega arith,
+    )
 
 returns : tie.Need-returns Inv-loop μ-loop
 returns c =

@@ -17,7 +17,8 @@ returns c =
     let t = start .args .table .now in
     let i = start .args .i in
     let k = start .args .c in
-    let e = ap₂ (λ (x y : ℕ). bitXor (bitXor (bitXor (bitXor (getD t i 0 + getD t (384 + i) 0 + 1) (getD t k 0)) (getD t (384 + k) 0)) x) y % 2) (c .before .before .before .before .multiple .ensures) (c .before .before .multiple2 .ensures) in
+    let e = ap₂ (λ (x y : ℕ). bitXor (bitXor (bitXor (bitXor (getD t i 0 + getD t (384 + i) 0 + 1) (getD t k 0)) (getD t (384 + k) 0)) x) y % 2)
+    (c .before .before .before .before .multiple .ensures) (c .before .before .multiple2 .ensures) in
     (e ∙ columns-three (start .pre .1) (start .pre .2) (start .pre .3) (start .pre .4), omega arith)
 
 pub inverts-three-spec : {M : Type 1} → Rattle.masks.proofs.inverts_three.Statement.statement M

@@ -19,14 +19,21 @@ copy-row-requires c κs =
 inverts-three-requires : tie.Need-inverts-three-requires Inv-loop μ-loop
 inverts-three-requires c κs =
     let start = c .before .before .before .before .before .before in
-    let m : 2 < start .args .mask = omega arith in
-    (start .pre .2 .size, start .pre .0, omega arith, start .pre .2 .column m (start .args .i) (omega arith), start .pre .3 .column m (c .before .loop .c) (c .loop-test .taken))
+    let m : 2 < start .args .mask = omega arith in (
+      start .pre .2 .size,
+      start .pre .0,
+      omega arith,
+      start .pre .2 .column m (start .args .i) (omega arith),
+      start .pre .3 .column m
+          (c .before .loop .c) (c .loop-test .taken),
+    )
 
 loop-again : tie.Need-loop-again Inv-loop μ-loop
 loop-again c =
     let start = c .before .before .before .before .before .before .before in
     let m : 2 < start .args .mask = omega arith in
-    filling-next _ (c .before .before .loop .inv) (omega (arith, m)) (omega arith) (c .inverts-three .ensures .0 ∙ mask-above (start .args .mask) _ _ m) (c .inverts-three .ensures .1)
+    filling-next _ (c .before .before .loop .inv) (omega (arith, m)) (omega arith)
+    (c .inverts-three .ensures .0 ∙ mask-above (start .args .mask) _ _ m) (c .inverts-three .ensures .1)
 
 same-length-2 : tie.Need-same-length-2 Inv-loop μ-loop
 same-length-2 c = c .before .loop .inv .row-is .size ∙ sym (c .before .before .before .before .before .before .pre .4 .size)

@@ -15,7 +15,11 @@ returns c =
     let start = c .before .before .before .before .before .before .before .before .before .before in
     let fits = c .before .before .before .before .before .before .is-parity .ensures (c .before .before .before .before .before .if1 .taken) in
     let bytes = c .before .before .before .before .before .before .before .before .bytes in (
-      λ _. left-written _ _ _ _ _ (λ i. omega (arith, c .before .before .before .before .before .before .before .before .before .slice-known .given i)) (start .pre .0 .1) (start .pre .0 .0) (fits .0) (start .pre .1)
+      λ _. left-written _ _ _ _ _ (λ i. omega (
+        arith,
+        c .before .before .before .before .before .before .before .before .before .slice-known .given
+            i,
+      )) (start .pre .0 .1) (start .pre .0 .0) (fits .0) (start .pre .1)
           (bytes .ensures .0) (bytes .ensures .1) (fits .1) (c .before .before .put-behind .ensures),
       λ e. absurd (false≢true (sym e)),
     )

@@ -13,7 +13,8 @@ returns : tie.Need-returns
 returns c =
     let start = c .before .before .before .before .before .before .before .before .before .before in
     c .before .before .write-parity .ensures 1 (c .before .before .before .before .before .before .generator .ensures .1)
-    ∙ ap (λ (p : ℕ). writtenOf p 1 (length (start .args .block .now) - start .args .k) (start .args .block .now)) (c .before .before .before .before .before .before .before .before .han-xin .ensures .1)
+    ∙ ap (λ (p : ℕ). writtenOf p 1 (length (start .args .block .now) - start .args .k) (start .args .block .now))
+    (c .before .before .before .before .before .before .before .before .han-xin .ensures .1)
 
 pub write-plain-spec : {M : Type 1} → Rattle.parity.proofs.write_plain.Statement.statement M
 write-plain-spec =

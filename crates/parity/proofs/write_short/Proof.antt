@@ -7,7 +7,8 @@ returns-2 : tie.Need-returns-2
 returns-2 c =
     let start = c .before .before .before .before .before .before .before .before .before .before .before .before in
     c .before .before .write-plain .ensures
-    ∙ ap (λ (x : List ℕ). writtenOf 0x163 1 (length x - start .args .k) x) (c .before .before .before .before .before .before .before .put-left .ensures .1 (c .before .before .before .before .if1 .left))
+    ∙ ap (λ (x : List ℕ). writtenOf 0x163 1 (length x - start .args .k) x)
+    (c .before .before .before .before .before .before .before .put-left .ensures .1 (c .before .before .before .before .if1 .left))
 
 pub write-short-spec : {M : Type 1} → Rattle.parity.proofs.write_short.Statement.statement M
 write-short-spec =

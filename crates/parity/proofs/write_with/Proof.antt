@@ -4,13 +4,15 @@ use Rattle.parity.specs.Encode.{writtenOf}
 use Rattle.parity.proofs.write_with.Tie as tie
 
 put-left-requires : tie.Need-put-left-requires
-put-left-requires c κs = let start = c .before .before .before .before .before in ((start .pre .0, start .pre .1, start .pre .3), c .before .remainder .ensures _ (start .pre .2))
+put-left-requires c κs = let start = c .before .before .before .before .before in
+    ((start .pre .0, start .pre .1, start .pre .3), c .before .remainder .ensures _ (start .pre .2))
 
 returns-2 : tie.Need-returns-2
 returns-2 c =
     let start = c .before .before .before .before .before .before .before .before .before .before .before .before .before in
     c .before .before .write-plain .ensures
-    ∙ ap (λ (x : List ℕ). writtenOf 0x163 1 (length x - start .args .k) x) (c .before .before .before .before .before .before .before .put-left .ensures .1 (c .before .before .before .before .if1 .left))
+    ∙ ap (λ (x : List ℕ). writtenOf 0x163 1 (length x - start .args .k) x)
+    (c .before .before .before .before .before .before .before .put-left .ensures .1 (c .before .before .before .before .if1 .left))
 
 pub write-with-spec : {M : Type 1} → Rattle.parity.proofs.write_with.Statement.statement M
 write-with-spec =

@@ -2,7 +2,8 @@
 use Rattle.general.proofs.Names.{_≡_, _∙_, refl, arith, needs, _≤_, _*_, _-_, _+_, length}
 use Rattle.bits.proofs.Words.{WordAt, word-read, word-few}
 use Rattle.bits.proofs.Inside.{read-inside}
-use Rattle.segments.specs.Segments.{cut, lacking}
+use Rattle.segments.specs.Segments.{Fault, cut, lacking, segmentsOf}
+use Rattle.segments.specs.Positions.{counted, stepped, Parses}
 use Rattle.segments.proofs.Steps.{Parsing, parsing-start, parse-few, parse-end, parse-stop, parse-room, parse-on}
 use Rattle.parse.proofs.parse.Tie as tie
 
@@ -28,7 +29,7 @@ returns c =
 
 -- what was read, where a word was read
 word : (c : tie.After-known-told Inv-loop μ-loop)
-    → WordAt 4 (c .before .before .before .before .loop .at) (c .before .got .given .0 .0) (c .before .before .before .before .before .before .before .before .args .s .now)
+    → let g = c .before .before .before .before in WordAt 4 (g .loop .at) (c .before .got .given .0 .0) (g .before .before .before .before .args .s .now)
 word c =
     let b = c .before .before .before in
     let l = b .before .loop in
@@ -44,16 +45,28 @@ segment-requires c κs =
     let w = word (c .before .before .before) in
     (omega arith, omega arith, omega arith, omega arith, omega arith)
 
+-- both buffers keep their lengths
+kept : (c : tie.After-segment Inv-loop μ-loop)
+    → let a = c .before .before .before .before .before .before .before .before .before .before .before .before .args in
+    (length (c .segment .last .1 .1 .1 .0) ≡ length (a .out .now)) × (length (c .segment .last .1 .1 .1 .1 .0) ≡ length (a .script .now))
+kept c =
+    let l = c .before .before .before .before .before .before .before .before .loop in
+    (c .segment .kept .1 .1 .1 .0 ∙ l .inv .0, c .segment .kept .1 .1 .1 .1 .0 ∙ l .inv .1)
+
 -- where the segment ended
 room : (c : tie.After-known-told2 Inv-loop μ-loop)
-    → let l = c .before .before .before .before .before .before .before .before .before .before .before .before .before .before .before .loop in
-    let s = c .before .before .before .before .before .before .before .before .before .before .before .before .before .before .before .before .before .before .before .args .s .now in
+    → let g = c .before .before .before .before .before .before .before in
     let v = c .before .next .given .0 in
-    (l .at + 4 ≤ v .0) × (v .0 ≤ 8 * length s) × (v .1 .0 ≤ v .0) × (v .1 .1 .0 ≤ v .0)
+    (g .before .before .before .before .before .before .before .before .loop .at + 4 ≤ v .0)
+    × (v .0 ≤ 8 * length (g .before .before .before .before .before .before .before .before .before .before .before .before .args .s .now))
+    × (v .1 .0 ≤ v .0) × (v .1 .1 .0 ≤ v .0)
 room c =
-    let q = c .before .before .before .before .before .before .before .segment in
-    let i = c .before .before .before .before .before .before .before .before .before .before in
-    parse-room (c .before .before .before .before .before .before .before .before .before .before .before .before .before .before .before .loop .inv .5) (word (i .before)) (i .if1 .left) (q .result) (q .last .1 .1 .1 .0) (q .last .1 .1 .1 .1 .0) (q .ensures) (c .before .next .given .1)
+    let g = c .before .before .before .before .before .before .before in
+    let q = g .segment in
+    let i = g .before .before .before in
+    parse-room (i .before .before .before .before .before .loop .inv .5) (word (i .before)) (i .if1 .left) (q .result) (q .last .1 .1 .1 .0)
+    (q .last .1 .1 .1 .1 .0) (q .ensures)
+    (c .before .next .given .1)
 
 loop-less : tie.Need-loop-less Inv-loop μ-loop
 loop-less c =
@@ -64,23 +77,22 @@ loop-less c =
 loop-again : tie.Need-loop-again Inv-loop μ-loop
 loop-again c =
     let r = room c in
-    let q = c .before .before .before .before .before .before .before .segment in
-    let i = c .before .before .before .before .before .before .before .before .before .before in
-    let l = c .before .before .before .before .before .before .before .before .before .before .before .before .before .before .before .loop in
-    let d = parse-on (l .inv .5) (word (i .before)) (i .if1 .left) (q .result) (q .last .1 .1 .1 .0) (q .last .1 .1 .1 .1 .0) (q .ensures) (c .before .next .given .1) in
-    (q .kept .1 .1 .1 .0 ∙ l .inv .0, q .kept .1 .1 .1 .1 .0 ∙ l .inv .1, omega arith, omega arith, omega arith, d)
+    let g = c .before .before .before .before .before .before .before in
+    let q = g .segment in
+    let i = g .before .before .before in
+    let d = parse-on (i .before .before .before .before .before .loop .inv .5) (word (i .before)) (i .if1 .left) (q .result) (q .last .1 .1 .1 .0)
+    (q .last .1 .1 .1 .1 .0) (q .ensures) in
+    (kept g .0, kept g .1, omega arith, omega arith, omega arith, d (c .before .next .given .1))
 
-returns-3 : tie.Need-returns-3 Inv-loop μ-loop
-returns-3 c =
-    let q = c .before .before .before .before .before .before .segment in
-    let i = c .before .before .before .before .before .before .before .before .before in
-    parse-stop (c .before .before .before .before .before .before .before .before .before .before .before .before .before .before .loop .inv .5) (word (i .before)) (i .if1 .left) (q .result) (q .last .1 .1 .1 .0) (q .last .1 .1 .1 .1 .0) (q .ensures) cut (c .enum-told2 .given .1)
-
-returns-4 : tie.Need-returns-4 Inv-loop μ-loop
-returns-4 c =
-    let q = c .before .before .before .before .before .before .segment in
-    let i = c .before .before .before .before .before .before .before .before .before in
-    parse-stop (c .before .before .before .before .before .before .before .before .before .before .before .before .before .before .loop .inv .5) (word (i .before)) (i .if1 .left) (q .result) (q .last .1 .1 .1 .0) (q .last .1 .1 .1 .1 .0) (q .ensures) lacking (c .enum-told3 .given .1)
+-- where a segment is cut or lacking
+stop : (c : tie.After-segment Inv-loop μ-loop) (bad : Fault) → c .segment .result ≡ stepped bad
+    → let a = c .before .before .before .before .before .before .before .before .before .before .before .before .args in
+    Parses 0 0 (a .out .now) (a .script .now) (segmentsOf (a .s .now)) (counted bad) (c .segment .last .1 .1 .1 .0) (c .segment .last .1 .1 .1 .1 .0)
+stop c bad e =
+    let q = c .segment in
+    let i = c .before .before .before in
+    parse-stop (i .before .before .before .before .before .loop .inv .5) (word (i .before)) (i .if1 .left) (q .result) (q .last .1 .1 .1 .0)
+    (q .last .1 .1 .1 .1 .0) (q .ensures) bad e
 
 pub parse-spec : {M : Type 1} → Rattle.parse.proofs.parse.Statement.statement M
 parse-spec =
@@ -88,7 +100,7 @@ parse-spec =
     (λ c. c .before .before .before .loop .inv .0) (λ c. c .before .before .before .loop .inv .1) returns
     (λ c. c .before .before .before .before .before .loop .inv .0) (λ c. c .before .before .before .before .before .loop .inv .1)
     returns-2 (λ c. omega arith) segment-requires (λ c. c .match2 .keys1) loop-less loop-again (λ c. c .match2 .keys2)
-    (λ c. c .before .before .before .before .before .before .segment .kept .1 .1 .1 .0 ∙ c .before .before .before .before .before .before .before .before .before .before .before .before .before .before .loop .inv .0)
-    (λ c. c .before .before .before .before .before .before .segment .kept .1 .1 .1 .1 .0 ∙ c .before .before .before .before .before .before .before .before .before .before .before .before .before .before .loop .inv .1) returns-3 (λ c. c .match2 .keys3)
-    (λ c. c .before .before .before .before .before .before .segment .kept .1 .1 .1 .0 ∙ c .before .before .before .before .before .before .before .before .before .before .before .before .before .before .loop .inv .0)
-    (λ c. c .before .before .before .before .before .before .segment .kept .1 .1 .1 .1 .0 ∙ c .before .before .before .before .before .before .before .before .before .before .before .before .before .before .loop .inv .1) returns-4)
+    (λ c. kept (c .before .before .before .before .before .before) .0) (λ c. kept (c .before .before .before .before .before .before) .1)
+    (λ c. stop (c .before .before .before .before .before .before) cut (c .enum-told2 .given .1))
+    (λ c. c .match2 .keys3) (λ c. kept (c .before .before .before .before .before .before) .0) (λ c. kept (c .before .before .before .before .before .before) .1)
+    (λ c. stop (c .before .before .before .before .before .before) lacking (c .enum-told3 .given .1)))

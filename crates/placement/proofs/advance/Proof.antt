@@ -9,8 +9,11 @@ returns : tie.Need-returns
 returns c =
     let start = c .before .before .before .before .before .before in
     let least = c .before .before .before .least in
-    let none : c .before .before .before .before .lead .result ≡ 0 = omega (arith, least .ensures .2 (omega arith)) in
-    (record { few = start .pre .0 .few; small = start .pre .0 .small }, moves-skip (start .pre .1) (start .pre .2) (subst (Leads (start .args .k)) none (c .before .before .before .before .lead .ensures)) (c .before .no-data .ensures) refl refl refl refl)
+    let none : c .before .before .before .before .lead .result ≡ 0 = omega (arith, least .ensures .2 (omega arith)) in (
+      record { few = start .pre .0 .few; small = start .pre .0 .small },
+      moves-skip (start .pre .1) (start .pre .2)
+          (subst (Leads (start .args .k)) none (c .before .before .before .before .lead .ensures)) (c .before .no-data .ensures) refl refl refl refl,
+    )
 
 push-requires : tie.Need-push-requires
 push-requires c κs =
@@ -23,8 +26,11 @@ returns-2 : tie.Need-returns-2
 returns-2 c =
     let start = c .before .before .before .before .before .before .before .before .before in
     let least = c .before .before .before .before .before .before .least in
-    let push = c .before .before .push in
-    (push .ensures .0, moves-push (start .pre .1) (start .pre .2) (least .result) (c .before .before .before .before .before .before .before .lead .ensures) (least .ensures .0) (omega arith) (omega arith) (c .before .before .before .gather .ensures) (push .ensures .1) (push .ensures .2))
+    let push = c .before .before .push in (
+      push .ensures .0,
+      moves-push (start .pre .1) (start .pre .2) (least .result) (c .before .before .before .before .before .before .before .lead .ensures)
+          (least .ensures .0) (omega arith) (omega arith) (c .before .before .before .gather .ensures) (push .ensures .1) (push .ensures .2),
+    )
 
 pub advance-spec : {M : Type 1} → Rattle.placement.proofs.advance.Statement.statement M
 advance-spec =

@@ -5,7 +5,8 @@ use Rattle.general.proofs.Names.{length-take-le, sym, arith, needs}
 use Rattle.placement.proofs.read_codewords.Tie as tie
 
 slice-aggregate-read-rows : tie.Need-slice-aggregate-read-rows
-slice-aggregate-read-rows c = let start = c .before .before .before .before in sym (length-take-le (start .args .total) (start .args .out .now) (start .pre .1 .0))
+slice-aggregate-read-rows c =
+    let start = c .before .before .before .before in sym (length-take-le (start .args .total) (start .args .out .now) (start .pre .1 .0))
 
 read-rows-requires : tie.Need-read-rows-requires
 read-rows-requires c κs =

@@ -6,7 +6,8 @@ use Rattle.general.proofs.Names.{length, _≡_, refl, _∙_, _-_, _≤_, arith}
 use Rattle.placement.proofs.read_last.Tie as tie
 
 abbrev Inv-loop : tie.InvT-loop
-Inv-loop out₀ kinds square row end k x r₀ out r = Pending r × (r₀ .column ≤ r .column) × (r .column ≤ length kinds) × Goes kinds square row out₀ out r₀ r × (length out ≡ length out₀)
+Inv-loop out₀ kinds square row end k x r₀ out r =
+    Pending r × (r₀ .column ≤ r .column) × (r .column ≤ length kinds) × Goes kinds square row out₀ out r₀ r × (length out ≡ length out₀)
 
 abbrev μ-loop : tie.MeasureT-loop
 μ-loop out₀ kinds square row end k x r₀ out r = length kinds - r .column
@@ -21,13 +22,23 @@ advance-requires : tie.Need-advance-requires Inv-loop μ-loop
 advance-requires c κs = let loop = c .before .before .before .before .loop in (loop .inv .0, omega arith, omega arith, omega arith)
 
 loop-less : tie.Need-loop-less Inv-loop μ-loop
-loop-less c = let m = last-moves (c .before .before .before .before .before .before .before .before .before .before .before .before .before .before .pre .0) (λ i. omega (arith, c .before .before .before .before .before .before .before .before .before .before .before .before .shared-slice-known .given i)) (c .before .before .before .before .before .before .before .before .before .before .before .before .before .before .pre .3) (c .before .before .before .before .before .if1 .taken) (omega arith) (c .before .before .before .before .before .before .before .before .before .eight .ensures) (c .before .before .before .before .before .before .before .before .modules .ensures) (c .before .before .advance .ensures .1) in omega arith
+loop-less c =
+    let advance = c .before .before .advance in
+    let turn = c .before .before .before .before .before in
+    let start = turn .before .before .before .before .before .before .before .before .before in
+    let bytes = turn .before .before .before .before .before .before .before .shared-slice-known .given in
+    let m = last-moves (start .pre .0) (λ i. omega (arith, bytes i)) (start .pre .3) (turn .if1 .taken) (omega arith)
+    (turn .before .before .before .before .eight .ensures) (turn .before .before .before .modules .ensures) (advance .ensures .1) in omega arith
 
 loop-again : tie.Need-loop-again Inv-loop μ-loop
 loop-again c =
     let advance = c .before .before .advance in
-    let loop = c .before .before .before .before .before .before .before .loop in
-    let m = last-moves (c .before .before .before .before .before .before .before .before .before .before .before .before .before .before .pre .0) (λ i. omega (arith, c .before .before .before .before .before .before .before .before .before .before .before .before .shared-slice-known .given i)) (c .before .before .before .before .before .before .before .before .before .before .before .before .before .before .pre .3) (c .before .before .before .before .before .if1 .taken) (omega (arith, c .before .before .before .before .before .before .before .loop .inv .1, c .before .before .before .before .before .before .before .before .before .before .before .before .before .before .pre .4)) (c .before .before .before .before .before .before .before .before .before .eight .ensures) (c .before .before .before .before .before .before .before .before .modules .ensures) (c .before .before .advance .ensures .1) in
+    let turn = c .before .before .before .before .before in
+    let loop = turn .before .before .loop in
+    let start = turn .before .before .before .before .before .before .before .before .before in
+    let bytes = turn .before .before .before .before .before .before .before .shared-slice-known .given in
+    let m = last-moves (start .pre .0) (λ i. omega (arith, bytes i)) (start .pre .3) (turn .if1 .taken) (omega (arith, loop .inv .1, start .pre .4))
+    (turn .before .before .before .before .eight .ensures) (turn .before .before .before .modules .ensures) (advance .ensures .1) in
     (advance .ensures .0, omega arith, m .1, goes-on (loop .inv .3) (m .2), advance .kept .0 ∙ loop .inv .4)
 
 returns : tie.Need-returns Inv-loop μ-loop

@@ -14,21 +14,28 @@ loop-holds : tie.Need-loop-holds Inv-loop μ-loop
 loop-holds c = let start = c .before .before .before .before .before in (start .pre .1, omega arith, goes-none, refl)
 
 step-requires : tie.Need-step-requires Inv-loop μ-loop
-step-requires c κs = let start = c .before .before .before .before .before .before .before .before .before in let loop = c .before .before .before .loop in (start .pre .0, loop .inv .0, c .before .before .before .before .groups-end .ensures .0 (loop .r .column) (c .before .if1 .taken))
+step-requires c κs =
+    let start = c .before .before .before .before .before .before .before .before .before in let loop = c .before .before .before .loop in
+    (start .pre .0, loop .inv .0, c .before .before .before .before .groups-end .ensures .0 (loop .r .column) (c .before .if1 .taken))
 
 loop-again : tie.Need-loop-again Inv-loop μ-loop
 loop-again c =
     let step = c .before .before .step in
-    let loop = c .before .before .before .before .before .before .loop in (step .ensures .0, step .ensures .2, goes-on (loop .inv .2) (step .ensures .3), step .kept .0 ∙ loop .inv .3)
+    let loop = c .before .before .before .before .before .before .loop in
+    (step .ensures .0, step .ensures .2, goes-on (loop .inv .2) (step .ensures .3), step .kept .0 ∙ loop .inv .3)
 
 read-last-requires : tie.Need-read-last-requires Inv-loop μ-loop
-read-last-requires c κs = let start = c .before .before .before .before .before .before .before .before .before in let loop = c .before .before .before .loop in (start .pre .0, loop .inv .0, loop .inv .1, start .pre .3, omega arith)
+read-last-requires c κs =
+    let start = c .before .before .before .before .before .before .before .before .before in let loop = c .before .before .before .loop in
+    (start .pre .0, loop .inv .0, loop .inv .1, start .pre .3, omega arith)
 
 same-length : tie.Need-same-length Inv-loop μ-loop
 same-length c = c .before .before .read-last .kept .0 ∙ c .before .before .before .before .before .before .loop .inv .3
 
 returns : tie.Need-returns Inv-loop μ-loop
-returns c = let last = c .before .before .read-last in (last .ensures .0, last .ensures .1, goes-on (c .before .before .before .before .before .before .loop .inv .2) (last .ensures .2))
+returns c =
+    let last = c .before .before .read-last in
+    (last .ensures .0, last .ensures .1, goes-on (c .before .before .before .before .before .before .loop .inv .2) (last .ensures .2))
 
 pub read-row-spec : {M : Type 1} → Rattle.placement.proofs.read_row.Statement.statement M
 read-row-spec =

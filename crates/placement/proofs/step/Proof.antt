@@ -6,15 +6,24 @@ use Rattle.general.proofs.Names.{refl, sym, _∙_, arith, needs}
 use Rattle.placement.proofs.step.Tie as tie
 
 push-requires : tie.Need-push-requires
-push-requires c κs = let start = c .before .before .before .before .before .before .before .before .before in (start .pre .1, omega arith, c .gather .ensures .small, omega arith)
+push-requires c κs =
+    let start = c .before .before .before .before .before .before .before .before .before in
+    (start .pre .1, omega arith, c .gather .ensures .small, omega arith)
 
 returns : tie.Need-returns
 returns c =
     let start = c .before .before .before .before .before .before .before .before .before .before .before .before in
     let push = c .before .before .push in
-    let kinds = eight-zero (behind (start .args .kinds .now) (start .args .r .column)) (sym (c .before .before .before .before .before .before .before .eight .ensures) ∙ c .before .before .before .before .before .if1 .taken) in
-    let bits = unmasked-is (start .pre .0 .masked) (start .args .r .column) (c .before .before .before .before .before .before .modules .ensures) (c .before .before .before .gather .ensures) in
-    (push .ensures .0, omega arith, omega arith, goes-push (start .pre .0 .masked) (start .pre .0 .size) 8 _ (start .pre .2) kinds bits (push .ensures .1) (push .ensures .2))
+    let kinds = eight-zero (behind (start .args .kinds .now) (start .args .r .column))
+    (sym (c .before .before .before .before .before .before .before .eight .ensures) ∙ c .before .before .before .before .before .if1 .taken) in
+    let bits = unmasked-is (start .pre .0 .masked) (start .args .r .column) (c .before .before .before .before .before .before .modules .ensures)
+    (c .before .before .before .gather .ensures) in (
+      push .ensures .0,
+      omega arith,
+      omega arith,
+      goes-push (start .pre .0 .masked) (start .pre .0 .size) 8 _ (start .pre .2) kinds bits (push .ensures .1)
+          (push .ensures .2),
+    )
 
 advance-requires : tie.Need-advance-requires
 advance-requires c κs = let start = c .before .before .before .before .before .before .before .before in (start .pre .1, omega arith, omega arith, omega arith)

@@ -29,7 +29,8 @@ returns-2 c =
     let side = c .before .before .before .before .before .side in
     let read-copy = c .before .before .before .before .read-copy in
     let a = start .pre in
-    absurd (no-version _ _ _ _ _ (a .3) (side .ensures) (read-copy .ensures) (c .before .before .before .read-copy2 .ensures) _ (a .0) (a .1) (c .enum-told .given .1) (c .before .before .nearest-info .ensures))
+    absurd (no-version _ _ _ _ _ (a .3) (side .ensures) (read-copy .ensures) (c .before .before .before .read-copy2 .ensures) _ (a .0) (a .1)
+    (c .enum-told .given .1) (c .before .before .nearest-info .ensures))
 
 pub mark-in-spec : {M : Type 1} → Rattle.reader.proofs.mark_in.Statement.statement M
 mark-in-spec =

@@ -18,7 +18,8 @@ returns-2 c =
     let from-side = c .before .before .before .before .before .before .from-side in
     let enum-told = c .before .before .before .before .enum-told in
     let a = start .args in
-    read-side (a .square .now) (a .side) (a .payload .now) (a .script .now) (a .receipt .now) (if1 .left) _ (from-side .ensures .0) (from-side .ensures .1) (enum-told .given .1) _ _ (c .before .before .refuse .ensures)
+    read-side (a .square .now) (a .side) (a .payload .now) (a .script .now) (a .receipt .now) (if1 .left) _ (from-side .ensures .0)
+    (from-side .ensures .1) (enum-told .given .1) _ _ (c .before .before .refuse .ensures)
 
 square-refusal-requires : tie.Need-square-refusal-requires
 square-refusal-requires c κs =
@@ -26,7 +27,8 @@ square-refusal-requires c κs =
     let if1 = c .before .before .before .before .if1 in
     let from-side = c .before .before .before .from-side in
     let a = start .args in
-    side-small (a .square .now) (a .side) (a .payload .now) (a .script .now) (a .receipt .now) (if1 .left) _ (from-side .ensures .0) (from-side .ensures .1) _ (c .before .v .given .1)
+    side-small (a .square .now) (a .side) (a .payload .now) (a .script .now) (a .receipt .now) (if1 .left) _ (from-side .ensures .0)
+    (from-side .ensures .1) _ (c .before .v .given .1)
 
 refuse-requires-2 : tie.Need-refuse-requires-2
 refuse-requires-2 c κs =
@@ -44,7 +46,8 @@ returns-3 c =
     let square-refusal = c .before .before .before .before .before .square-refusal in
     let if2 = c .before .before .before .before .if2 in
     let a = start .args in
-    read-early (a .square .now) (a .side) (a .payload .now) (a .script .now) (a .receipt .now) (if1 .left) _ (from-side .ensures .0) (from-side .ensures .1) _ (v .given .1) _ (square-refusal .ensures) (if2 .taken) _ _ (c .before .before .refuse2 .ensures)
+    read-early (a .square .now) (a .side) (a .payload .now) (a .script .now) (a .receipt .now) (if1 .left) _ (from-side .ensures .0)
+    (from-side .ensures .1) _ (v .given .1) _ (square-refusal .ensures) (if2 .taken) _ _ (c .before .before .refuse2 .ensures)
 
 mark-in-requires : tie.Need-mark-in-requires
 mark-in-requires c κs =
@@ -52,11 +55,13 @@ mark-in-requires c κs =
     let if1 = c .before .before .before .before .before .before .if1 in
     let from-side = c .before .before .before .before .before .from-side in
     let a = start .args in
-    read-legible (a .square .now) (a .side) (a .payload .now) (a .script .now) (a .receipt .now) (if1 .left) _ (from-side .ensures .0) (from-side .ensures .1) _ (c .before .before .before .v .given .1) _ (c .before .square-refusal .ensures) (c .if2 .left)
+    read-legible (a .square .now) (a .side) (a .payload .now) (a .script .now) (a .receipt .now) (if1 .left) _ (from-side .ensures .0)
+    (from-side .ensures .1) _ (c .before .before .before .v .given .1) _ (c .before .square-refusal .ensures) (c .if2 .left)
 
 returns-4 : tie.Need-returns-4
 returns-4 c =
-    let start = c .before .before .before .before .before .before .before .before .before .before .before .before .before .before .before .before .before .before .before in
+    let start = c .before .before .before .before .before .before .before .before .before .before .before .before .before .before .before .before
+    .before .before .before in
     let if1 = c .before .before .before .before .before .before .before .before .before .before .before .before .before .if1 in
     let from-side = c .before .before .before .before .before .before .before .before .before .before .before .before .from-side in
     let v = c .before .before .before .before .before .before .before .before .before .before .v in
@@ -65,11 +70,14 @@ returns-4 c =
     let mark-in = c .before .before .before .before .before .before .mark-in in
     let if3 = c .before .before .before .before .if3 in
     let a = start .args in
-    read-far (a .square .now) (a .side) (a .payload .now) (a .script .now) (a .receipt .now) (if1 .left) _ (from-side .ensures .0) (from-side .ensures .1) _ (v .given .1) _ (square-refusal .ensures) (if2 .left) _ (mark-in .ensures) (if3 .taken) _ _ (c .before .before .refuse3 .ensures)
+    read-far (a .square .now) (a .side) (a .payload .now) (a .script .now) (a .receipt .now) (if1 .left) _ (from-side .ensures .0)
+    (from-side .ensures .1) _ (v .given .1) _ (square-refusal .ensures) (if2 .left) _ (mark-in .ensures) (if3 .taken) _ _
+    (c .before .before .refuse3 .ensures)
 
 finish-in-requires : tie.Need-finish-in-requires
 finish-in-requires c κs =
-    let start = c .before .before .before .before .before .before .before .before .before .before .before .before .before .before .before .before .before .before .before in
+    let start = c .before .before .before .before .before .before .before .before .before .before .before .before .before .before .before .before
+    .before .before .before in
     let if1 = c .before .before .before .before .before .before .before .before .before .before .before .before .before .if1 in
     let from-side = c .before .before .before .before .before .before .before .before .before .before .before .before .from-side in
     let v = c .before .before .before .before .before .before .before .before .before .before .v in
@@ -77,23 +85,30 @@ finish-in-requires c κs =
     let if2 = c .before .before .before .before .before .before .before .if2 in
     let mark-in = c .before .before .before .before .before .before .mark-in in
     let a = start .args in
-    let fits = read-fits (a .square .now) (a .side) (a .payload .now) (a .script .now) (a .receipt .now) (if1 .left) _ (from-side .ensures .0) (from-side .ensures .1) _ (v .given .1) _ (square-refusal .ensures) (if2 .left) _ (mark-in .ensures) (c .before .before .before .before .if3 .left) in
+    let fits = read-fits (a .square .now) (a .side) (a .payload .now) (a .script .now) (a .receipt .now) (if1 .left) _ (from-side .ensures .0)
+    (from-side .ensures .1) _ (v .given .1) _ (square-refusal .ensures) (if2 .left) _ (mark-in .ensures) (c .before .before .before .before .if3 .left) in
     (fits, if1 .left, start .pre .room _ (fits .high) (fits .size))
 
 returns-5 : tie.Need-returns-5
 returns-5 c =
-    let start = c .before .before .before .before .before .before .before .before .before .before .before .before .before .before .before .before .before .before .before .before .before .before .before .before .before .before .before .before in
-    let if1 = c .before .before .before .before .before .before .before .before .before .before .before .before .before .before .before .before .before .before .before .before .before .before .if1 in
-    let from-side = c .before .before .before .before .before .before .before .before .before .before .before .before .before .before .before .before .before .before .before .before .before .from-side in
-    let v = c .before .before .before .before .before .before .before .before .before .before .before .before .before .before .before .before .before .before .before .v in
-    let square-refusal = c .before .before .before .before .before .before .before .before .before .before .before .before .before .before .before .before .before .square-refusal in
+    let start = c .before .before .before .before .before .before .before .before .before .before .before .before .before .before .before .before
+    .before .before .before .before .before .before .before .before .before .before .before .before in
+    let if1 = c .before .before .before .before .before .before .before .before .before .before .before .before .before .before .before .before
+    .before .before .before .before .before .before .if1 in
+    let from-side = c .before .before .before .before .before .before .before .before .before .before .before .before .before .before .before .before
+    .before .before .before .before .before .from-side in
+    let v = c .before .before .before .before .before .before .before .before .before .before .before .before .before .before .before .before .before
+    .before .before .v in
+    let square-refusal = c .before .before .before .before .before .before .before .before .before .before .before .before .before .before .before
+    .before .before .square-refusal in
     let if2 = c .before .before .before .before .before .before .before .before .before .before .before .before .before .before .before .before .if2 in
     let mark-in = c .before .before .before .before .before .before .before .before .before .before .before .before .before .before .before .mark-in in
     let if3 = c .before .before .before .before .before .before .before .before .before .before .before .before .before .if3 in
     let finish = c .before .before .before .before .before .before .before .before .finish-in in
     let a = start .args in
     finish .ensures
-    ∙ read-left (a .square .now) (a .side) (a .payload .now) (a .script .now) (a .receipt .now) (if1 .left) _ (from-side .ensures .0) (from-side .ensures .1) _ (v .given .1) _ (square-refusal .ensures) (if2 .left) _ (mark-in .ensures) (if3 .left)
+    ∙ read-left (a .square .now) (a .side) (a .payload .now) (a .script .now) (a .receipt .now) (if1 .left) _ (from-side .ensures .0)
+    (from-side .ensures .1) _ (v .given .1) _ (square-refusal .ensures) (if2 .left) _ (mark-in .ensures) (if3 .left)
 
 pub read-square-in-spec : {M : Type 1} → Rattle.reader.proofs.read_square_in.Statement.statement M
 read-square-in-spec =

@@ -18,7 +18,8 @@ returns-2 c =
 returns-3 : tie.Need-returns-3
 returns-3 c =
     let start = c .before .before .before .before in
-    right-square (start .args .square .now) (start .args .side) (c .before .before .if1 .left) (all-modules _ _ (c .before .greatest .ensures) (omega (arith, c .if2 .left)))
+    right-square (start .args .square .now) (start .args .side) (c .before .before .if1 .left)
+    (all-modules _ _ (c .before .greatest .ensures) (omega (arith, c .if2 .left)))
 
 pub square-refusal-spec : {M : Type 1} → Rattle.reader.proofs.square_refusal.Statement.statement M
 square-refusal-spec = tie.close (tie.spec mul-if1 returns (λ c κs. search needs) returns-2 returns-3)

@@ -13,7 +13,8 @@ returns c =
     let low5 = c .before .before .before .before .before .before .before .low5 in
     let low6 = c .before .before .before .before .before .before .low6 in
     let low7 = c .before .before .before .before .low7 in
-    accepted-is _ _ _ _ _ _ _ (start .pre .0 .0) (start .pre .0 .1) (start .pre .0 .2) (start .pre .1 .count) (start .pre .0 .3) (start .pre .1 .payload) (start .pre .1 .script)
+    accepted-is _ _ _ _ _ _ _ (start .pre .0 .0) (start .pre .0 .1) (start .pre .0 .2) (start .pre .1 .count) (start .pre .0 .3)
+    (start .pre .1 .payload) (start .pre .1 .script)
     _ _ _ _ _ _ _ _ _ _ (low .ensures) (low2 .ensures) (low3 .ensures) (low4 .ensures) (low5 .ensures) (low6 .ensures)
     (low7 .ensures) (c .before .before .before .low8 .ensures) (c .before .low9 .ensures) (c .low10 .ensures)
 

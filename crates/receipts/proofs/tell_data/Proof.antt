@@ -8,16 +8,22 @@ use Rattle.receipts.proofs.tell_data.Tie as tie
 slice-aggregate-from-data-with : tie.Need-slice-aggregate-from-data-with
 slice-aggregate-from-data-with c =
     let g = c .before .before .before .gather-data in
-    sym (length-take-le (g .result) (g .last .0) (omega (arith, g .ensures .0, c .before .before .before .before .before .before .before .before .before .before .before .before .pre)))
+    sym (length-take-le (g .result) (g .last .0) (omega (
+      arith,
+      g .ensures .0,
+      c .before .before .before .before .before .before .before .before .before .before .before .before .pre,
+    )))
 
 returns : tie.Need-returns
 returns c =
-    let a = c .before .before .before .before .before .before .before .before .before .before .before .before .before .before .before .before .before .before .before .before .before .before .before .before .before .before in
+    let a = c .before .before .before .before .before .before .before .before .before .before .before .before .before .before .before .before .before
+    .before .before .before .before .before .before .before .before .before in
     let g = c .before .before .before .before .before .before .before .before .before .before .before .before .before .before .before .before .before .gather-data in
     let q = c .before .before .before .before .before .before .before .before .before .from-data-with in
     let d = dataParts (shapes (a .args .row .now)) (cut (shapes (a .args .row .now)) (a .args .stream .now)) in
     let f = gathered (g .result) d (a .args .«data» .now) (g .last .0) (g .ensures .1) (omega (arith, g .ensures .0, a .pre .2)) (omega arith) in
-    tells (a .args .count) (q .result) _ d (a .args .payload .now) (a .args .script .now) _ _ (g .result) (a .pre .4) (f .0) (omega (arith, g .ensures .0, a .pre .3)) (c .told-of .ensures)
+    tells (a .args .count) (q .result) _ d (a .args .payload .now) (a .args .script .now) _ _ (g .result) (a .pre .4) (f .0)
+    (omega (arith, g .ensures .0, a .pre .3)) (c .told-of .ensures)
     (q .ensures ∙ ap (λ (x : List ℕ). fromData x (a .args .payload .now) (a .args .script .now)) (f .1))
 
 pub tell-data-spec : {M : Type 1} → Rattle.receipts.proofs.tell_data.Statement.statement M

@@ -6,7 +6,8 @@ use Rattle.remainder.proofs.add_digit.Tie as tie
 returns : tie.Need-returns
 returns c =
     let start = c .before .before .before .before in
-    c .sum .ensures ∙ ap (sumOf (start .args .r)) (c .before .row-at .ensures ∙ ap (λ (f : ℕ). rowAt (start .args .t .now) (16 * start .args .i + f)) (c .before .before .digit .ensures .0))
+    c .sum .ensures ∙ ap (sumOf (start .args .r)) (c .before .row-at .ensures
+    ∙ ap (λ (f : ℕ). rowAt (start .args .t .now) (16 * start .args .i + f)) (c .before .before .digit .ensures .0))
 
 pub add-digit-spec : {M : Type 1} → Rattle.remainder.proofs.add_digit.Statement.statement M
 add-digit-spec =

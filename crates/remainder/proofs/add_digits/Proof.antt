@@ -29,7 +29,8 @@ returns c =
     let loop = c .before .loop in
     let y = c .before .before .before .args .x in
     record {
-      adds = λ poly x e h R z. ap (λ (v : ℕ). behind poly x (digits poly x e 4 (bitXor h v)) (loop .n)) (sym (all-digits y (loop .i) (omega arith) (omega arith) (omega arith))) ∙ loop .inv .1 poly x e h R z;
+      adds = λ poly x e h R z. ap (λ (v : ℕ). behind poly x (digits poly x e 4 (bitXor h v)) (loop .n))
+          (sym (all-digits y (loop .i) (omega arith) (omega arith) (omega arith))) ∙ loop .inv .1 poly x e h R z;
     }
 
 pub add-digits-spec : {M : Type 1} → Rattle.remainder.proofs.add_digits.Statement.statement M

@@ -20,8 +20,11 @@ loop-again : tie.Need-loop-again Inv-loop μ-loop
 loop-again c =
     let start = c .before .before .before .before .before .before .before .before in
     let loop = c .before .before .before .before .before .before .loop in
-    let extend = c .before .before .before .extend in
-    (filling-next _ _ _ (start .pre .1) _ _ _ _ _ (loop .inv .0) (omega arith) (rw (bit-of (loop .b) (omega arith) .0) at (extend .ensures)) (c .doubled .ensures), omega arith)
+    let extend = c .before .before .before .extend in (
+      filling-next _ _ _ (start .pre .1) _ _ _ _ _ (loop .inv .0) (omega arith) (rw (bit-of (loop .b) (omega arith) .0) at (extend .ensures))
+          (c .doubled .ensures),
+      omega arith,
+    )
 
 returns : tie.Need-returns Inv-loop μ-loop
 returns c =

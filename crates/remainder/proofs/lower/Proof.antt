@@ -27,7 +27,8 @@ loop-again c =
     let start = c .before .before .before .before .before in
     let loop = c .before .before .before .loop in (
       each-next _ _ _ _ _ (loop .inv .0) (omega arith)
-          (c .raised .ensures ∙ ap (mul (polyOf (start .args .field .now)) _) (reduced-power _ (the-field _ (start .pre .0)) (start .args .n * (start .args .first + loop .j)))),
+          (c .raised .ensures ∙ ap (mul (polyOf (start .args .field .now)) _)
+          (reduced-power _ (the-field _ (start .pre .0)) (start .args .n * (start .args .first + loop .j)))),
       omega arith,
     )
 

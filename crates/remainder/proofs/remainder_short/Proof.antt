@@ -23,7 +23,8 @@ returns c =
     let known = c .before .before .before .before .before .before .shared-slice-known in
     let loop = c .before .loop in
     let e : loop .i ≡ start .args .k = omega arith in
-    leaves _ _ _ _ _ (λ T j h i f a b. c .before .before .before .fill-byte .ensures .rows (power 0x163 _) (c .before .before .before .before .generator .ensures T j h) i f (omega arith) (omega arith) b) (start .pre) (λ j. omega (arith, known .given j))
+    leaves _ _ _ _ _ (λ T j h i f a b. c .before .before .before .fill-byte .ensures .rows (power 0x163 _)
+    (c .before .before .before .before .generator .ensures T j h) i f (omega arith) (omega arith) b) (start .pre) (λ j. omega (arith, known .given j))
     (rw e at (loop .inv .1))
 
 pub remainder-short-spec : {M : Type 1} → Rattle.remainder.proofs.remainder_short.Statement.statement M

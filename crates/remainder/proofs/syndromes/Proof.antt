@@ -10,7 +10,8 @@ returns c =
     let bytes = c .before .before .before .before .before .before .before .before .before .before .bytes in
     let kept = c .before .before .before .before .before .before .before .before .before .kept in
     let syndromes = c .before .before .before .before .before .before .syndromes in
-    λ block R. syndromes-left _ (the-field _ (start .pre .0)) _ _ _ block _ _ _ _ R (kept .ensures) (bytes .ensures .0) (bytes .ensures .1) (syndromes .ensures) (c .before .before .lower .ensures)
+    λ block R. syndromes-left _ (the-field _ (start .pre .0)) _ _ _ block _ _ _ _ R (kept .ensures) (bytes .ensures .0) (bytes .ensures .1)
+    (syndromes .ensures) (c .before .before .lower .ensures)
 
 pub syndromes-spec : {M : Type 1} → Rattle.remainder.proofs.syndromes.Statement.statement M
 syndromes-spec =

@@ -2,7 +2,8 @@
 use Rattle.general.proofs.Names.{length-take-le, _≡_, _+_, _-_, _≤_, _<_, arith, needs, length, take, drop, length-drop}
 use Rattle.script.specs.Inner.{commandSize}
 use Rattle.script.specs.Characters.{costOf}
-use Rattle.script.proofs.Checks.{Settles, run-bounds, eci-bounds, settles-start, settles-wrong, settles-eci, settles-short, settles-takes, settles-lacks, end-left, end-lacks, end-empty, end-bits, limited}
+use Rattle.script.proofs.Checks.{Settles, run-bounds, eci-bounds, settles-start, settles-wrong, settles-eci, settles-short, settles-takes}
+use Rattle.script.proofs.Checks.{settles-lacks, end-left, end-lacks, end-empty, end-bits, limited}
 use Rattle.script.proofs.check_script.Tie as tie
 
 abbrev Inv-loop : tie.InvT-loop
@@ -33,7 +34,8 @@ bounds c =
     let b = g .before .before .before .before in
     let a = b .before .args in
     let v = c .before .next .given in
-    run-bounds (a .script .now) (l .i) (λ i. omega (arith, b .shared-slice-known .given i)) (omega arith) (g .command-at .result) (g .command-at .ensures) (v .0 .0) (v .0 .1 .0) (v .1)
+    run-bounds (a .script .now) (l .i) (λ i. omega (arith, b .shared-slice-known .given i)) (omega arith) (g .command-at .result) (g .command-at .ensures)
+    (v .0 .0) (v .0 .1 .0) (v .1)
 
 run-bits-requires : tie.Need-run-bits-requires Inv-loop μ-loop
 run-bits-requires c κs =
@@ -71,7 +73,8 @@ loop-again c =
     let p = c .before .capped-sum in
     let w = c .command-size .ensures in
     let b = bounds k in
-    let d = settles-takes (g .before .before .loop .inv .3) (omega arith) (g .command-at .ensures) (k .before .next .given .1) (q .before .before .if1 .left) (cost q) (w .0) (w .1) in
+    let d = settles-takes (g .before .before .loop .inv .3) (omega arith) (g .command-at .ensures) (k .before .next .given .1) (q .before .before .if1 .left)
+    (cost q) (w .0) (w .1) in
     (omega arith, omega arith, p .ensures .1, d (c .before .before .before .cost .given .1) (p .ensures .0))
 
 loop-again-2 : tie.Need-loop-again-2 Inv-loop μ-loop
@@ -82,7 +85,8 @@ loop-again-2 c =
     let l = g .before .before .loop in
     let w = c .command-size2 .ensures in
     let b = bounds k in
-    let d = settles-lacks (l .inv .3) (omega arith) (g .command-at .ensures) (k .before .next .given .1) (q .before .before .if1 .left) (cost q) (w .0) (w .1) in
+    let d = settles-lacks (l .inv .3) (omega arith) (g .command-at .ensures) (k .before .next .given .1) (q .before .before .if1 .left) (cost q) (w .0)
+    (w .1) in
     (omega arith, omega arith, l .inv .2, d (c .before .enum-told .given .1))
 
 eci-room : (c : tie.After-known-told3 Inv-loop μ-loop)
@@ -92,7 +96,8 @@ eci-room c =
     let l = g .before .before .loop in
     let b = g .before .before .before .before in
     let v = c .before .next2 .given in
-    eci-bounds (b .before .args .script .now) (l .i) (λ i. omega (arith, b .shared-slice-known .given i)) (omega arith) (g .command-at .result) (g .command-at .ensures) (v .0 .0) (v .1)
+    eci-bounds (b .before .args .script .now) (l .i) (λ i. omega (arith, b .shared-slice-known .given i)) (omega arith) (g .command-at .result)
+    (g .command-at .ensures) (v .0 .0) (v .1)
 
 loop-again-3 : tie.Need-loop-again-3 Inv-loop μ-loop
 loop-again-3 c =

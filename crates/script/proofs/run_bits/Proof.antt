@@ -35,8 +35,11 @@ returns-5 c =
 returns-6 : tie.Need-returns-6
 returns-6 c =
     let start = c .before .before .before .before .before in
-    let a = start .args in
-    (c .char-bits .ensures .0 ∙ char-cost (a .run .now) (a .mode) (omega arith) (omega arith) (c .before .before .before .if1 .left) (c .before .before .if3 .left) (c .before .if4 .left), c .char-bits .ensures .1)
+    let a = start .args in (
+      c .char-bits .ensures .0 ∙ char-cost (a .run .now) (a .mode) (omega arith) (omega arith) (c .before .before .before .if1 .left)
+          (c .before .before .if3 .left) (c .before .if4 .left),
+      c .char-bits .ensures .1,
+    )
 
 pub run-bits-spec : {M : Type 1} → Rattle.script.proofs.run_bits.Statement.statement M
 run-bits-spec =

@@ -7,11 +7,15 @@ use Rattle.segments.proofs.bytes_mode.Tie as tie
 returns : tie.Need-returns
 returns c =
     let b = c .before .before in
-    let a = b .before .before .before .args in
-    (rw (bytes-cut (a .s .now) (a .from) (a .to) (a .out .now) (word-few 13 (a .from) (a .s .now) (b .read-bits .result) (b .read-bits .ensures) (c .enum-told .given .1))) refl, tt)
+    let a = b .before .before .before .args in (
+      rw (bytes-cut (a .s .now) (a .from) (a .to) (a .out .now) (word-few 13 (a .from) (a .s .now) (b .read-bits .result) (b .read-bits .ensures)
+          (c .enum-told .given .1))) refl,
+      tt,
+    )
 
 -- what was read, where a word was read
-word : (c : tie.After-known-told) → WordAt 13 (c .before .before .before .before .before .before .args .from) (c .before .got .given .0 .0) (c .before .before .before .before .before .before .args .s .now)
+word : (c : tie.After-known-told)
+    → let a = c .before .before .before .before .before .before .args in WordAt 13 (a .from) (c .before .got .given .0 .0) (a .s .now)
 word c =
     let got = c .before .got in
     let b = c .before .before .before in
@@ -25,8 +29,11 @@ returns-2 : tie.Need-returns-2
 returns-2 c =
     let k = c .before .before .before .before in
     let a = k .before .before .before .before .before .before .args in
-    let q = c .before .before .bytes-run in
-    (rw (bytes-length (a .s .now) (a .from) (a .to) (a .out .now) (k .before .got .given .0 .0) (word k)) (q .ensures .0), longer-inside (a .s .now) (a .from) (a .to) 13 (q .result) (q .ensures .1))
+    let q = c .before .before .bytes-run in (
+      rw (bytes-length (a .s .now) (a .from) (a .to) (a .out .now) (k .before .got .given .0 .0) (word k)) (q .ensures .0),
+      longer-inside (a .s .now)
+          (a .from) (a .to) 13 (q .result) (q .ensures .1),
+    )
 
 pub bytes-mode-spec : {M : Type 1} → Rattle.segments.proofs.bytes_mode.Statement.statement M
 bytes-mode-spec =

@@ -21,7 +21,7 @@ returns c =
 
 -- what was read, where a word was read
 word : (c : tie.After-known-told Inv-loop μ-loop)
-    → WordAt 8 (c .before .before .before .before .before .loop .at) (c .before .got .given .0 .0) (c .before .before .before .before .before .before .before .before .args .s .now)
+    → let g = c .before .before .before .before .before in WordAt 8 (g .loop .at) (c .before .got .given .0 .0) (g .before .before .before .args .s .now)
 word c = let b = c .before .before .before in remains-word (b .before .before .loop .inv .2) (b .read-bits .ensures) (omega arith) (c .before .got .given .1)
 
 loop-less : tie.Need-loop-less Inv-loop μ-loop
@@ -33,8 +33,12 @@ loop-again c =
     let l = e .before .before .before .before .before .loop in
     let k = e .before .before .before .before .before .before .before .before .args .k in
     let w = e .before .got .given .0 .0 in
-    let p = c .before .before .put in
-    (p .kept .0 ∙ l .inv .0, omega arith, remains-on (l .inv .2) (word e) (w ∷ []) (bytesRun (k - (l .i + 1))) (bytes-run-more w k (l .i) (omega arith)) (omega arith) (p .ensures))
+    let p = c .before .before .put in (
+      p .kept .0 ∙ l .inv .0,
+      omega arith,
+      remains-on (l .inv .2) (word e) (w ∷ []) (bytesRun (k - (l .i + 1)))
+          (bytes-run-more w k (l .i) (omega arith)) (omega arith) (p .ensures),
+    )
 
 returns-2 : tie.Need-returns-2 Inv-loop μ-loop
 returns-2 c =

@@ -18,7 +18,11 @@ returns-2 c =
     let put-pair = c .before .before .put-pair in
     let p = before in
     let a = p .before .before .before .before .args in
-    rw (ne-eqb (a .mode) 7 (p .before .before .if1 .left)) (refl, one-more (a .script .now) (p .put2 .last .0) (put-pair .last .0) (a .n / 256 ∷ a .n % 256 ∷ []) (a .m) (a .m + 1) (a .mode) refl (p .put2 .ensures) (put-pair .ensures))
+    rw (ne-eqb (a .mode) 7 (p .before .before .if1 .left)) (
+      refl,
+      one-more (a .script .now) (p .put2 .last .0) (put-pair .last .0) (a .n / 256 ∷ a .n % 256 ∷ []) (a .m) (a .m + 1) (a .mode) refl
+          (p .put2 .ensures) (put-pair .ensures),
+    )
 
 pub put-command-spec : {M : Type 1} → Rattle.segments.proofs.put_command.Statement.statement M
 put-command-spec =

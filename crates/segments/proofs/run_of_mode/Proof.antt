@@ -25,13 +25,15 @@ returns-4 : tie.Need-returns-4
 returns-4 c =
     let q = c .before .before .before .region-one in
     let a = c .before .before .before .before .before .before .before .before .args in
-    rw (c .region-count .ensures) (rw (run-one (a .s .now) (a .from) (a .to) (a .out .now) (a .mode) (c .before .before .before .before .before .match .keys4)) (q .ensures .0), q .ensures .1)
+    rw (c .region-count .ensures)
+    (rw (run-one (a .s .now) (a .from) (a .to) (a .out .now) (a .mode) (c .before .before .before .before .before .match .keys4)) (q .ensures .0), q .ensures .1)
 
 returns-5 : tie.Need-returns-5
 returns-5 c =
     let q = c .before .before .before .region-two in
     let a = c .before .before .before .before .before .before .before .before .args in
-    rw (c .region-count2 .ensures) (rw (run-two (a .s .now) (a .from) (a .to) (a .out .now) (a .mode) (c .before .before .before .before .before .match .keys5)) (q .ensures .0), q .ensures .1)
+    rw (c .region-count2 .ensures)
+    (rw (run-two (a .s .now) (a .from) (a .to) (a .out .now) (a .mode) (c .before .before .before .before .before .match .keys5)) (q .ensures .0), q .ensures .1)
 
 returns-6 : tie.Need-returns-6
 returns-6 c =
@@ -48,8 +50,11 @@ returns-7 c =
 returns-8 : tie.Need-returns-8
 returns-8 c =
     let a = c .before .before .before .args in
-    let k = c .match .rest in
-    (rw (run-none (a .s .now) (a .from) (a .to) (a .out .now) (a .mode) (k .0 .0 .0 .0 .0 .0 .1) (k .0 .0 .0 .0 .0 .1) (k .0 .0 .0 .0 .1) (k .0 .0 .0 .1) (k .0 .0 .1) (k .0 .1) (k .1)) refl, tt)
+    let k = c .match .rest in (
+      rw (run-none (a .s .now) (a .from) (a .to) (a .out .now) (a .mode) (k .0 .0 .0 .0 .0 .0 .1) (k .0 .0 .0 .0 .0 .1) (k .0 .0 .0 .0 .1)
+          (k .0 .0 .0 .1) (k .0 .0 .1) (k .0 .1) (k .1)) refl,
+      tt,
+    )
 
 pub run-of-mode-spec : {M : Type 1} → Rattle.segments.proofs.run_of_mode.Statement.statement M
 run-of-mode-spec =

@@ -3,7 +3,8 @@ use Rattle.general.proofs.Names.{needs, _≡_, _∙_, refl, ap₂, not, [], _�
 use Rattle.bits.proofs.Words.{WordAt}
 use Rattle.segments.specs.Segments.{highOf, lowOf, regionOf}
 use Rattle.segments.specs.Positions.{regionAt}
-use Rattle.segments.proofs.Turns.{Remains, remains-start, remains-cut, remains-word, remains-lacks, remains-stop, remains-on, remains-none, region-end, region-switch, region-lacks, region-pair}
+use Rattle.segments.proofs.Turns.{Remains, remains-start, remains-cut, remains-word, remains-lacks, remains-stop, remains-on, remains-none}
+use Rattle.segments.proofs.Turns.{region-end, region-switch, region-lacks, region-pair}
 use Rattle.segments.proofs.same_region.Tie as tie
 
 abbrev Inv-loop : tie.InvT-loop
@@ -18,7 +19,7 @@ returns c = let b = c .before .before in record { cases = remains-cut (b .before
 
 -- what was read, where a word was read
 word : (c : tie.After-known-told Inv-loop μ-loop)
-    → WordAt 12 (c .before .before .before .before .loop .at) (c .before .got .given .0 .0) (c .before .before .before .before .before .before .before .args .s .now)
+    → let g = c .before .before .before .before in WordAt 12 (g .loop .at) (c .before .got .given .0 .0) (g .before .before .before .args .s .now)
 word c = let b = c .before .before .before in remains-word (b .before .loop .inv .1) (b .read-bits .ensures) (omega arith) (c .before .got .given .1)
 
 returns-2 : tie.Need-returns-2 Inv-loop μ-loop
@@ -45,7 +46,10 @@ returns-4 c =
     let i = c .before .before in
     let k = i .before .before in
     let one = k .before .before .before .before .before .before .before .args .one in
-    record { cases = remains-lacks (k .before .before .before .before .loop .inv .1) (word k) (region-lacks one (i .before .if1 .left) (i .if2 .left) (omega arith)) }
+    record {
+      cases =
+          remains-lacks (k .before .before .before .before .loop .inv .1) (word k) (region-lacks one (i .before .if1 .left) (i .if2 .left) (omega arith));
+    }
 
 loop-less : tie.Need-loop-less Inv-loop μ-loop
 loop-less c = let m = word (c .before .before .before .before .before .before .before .before .before .before) .room in omega arith
@@ -60,7 +64,8 @@ loop-again c =
     let p = c .before .before .put-pair in
     let e : p .last .0 ≡ sets (l .out) (l .n) (highOf one w ∷ lowOf one w ∷ []) =
     p .ensures
-    ∙ ap₂ (λ (x y : ℕ). sets (l .out) (l .n) (x ∷ y ∷ [])) (c .before .before .before .before .high-byte .ensures .1) (c .before .before .before .low-byte .ensures .1) in
+    ∙ ap₂ (λ (x y : ℕ). sets (l .out) (l .n) (x ∷ y ∷ [])) (c .before .before .before .before .high-byte .ensures .1)
+    (c .before .before .before .low-byte .ensures .1) in
     let on = region-pair one (i .before .if1 .left) (i .if2 .left) (omega arith) in
     (p .kept .0 ∙ l .inv .0, remains-on (l .inv .1) (word k) (highOf one w ∷ lowOf one w ∷ []) (regionOf one) on (omega arith) e)
 
@@ -69,6 +74,5 @@ same-region-spec =
     tie.close (tie.spec Inv-loop μ-loop (λ c. (refl, remains-start (omega arith) (omega arith))) (λ c κs. search needs) (λ c. c .match .keys1)
     (λ c. c .match .keys2) (λ c. c .before .before .before .loop .inv .0) returns (λ c. omega arith)
     (λ c. c .before .before .before .before .before .loop .inv .0) returns-2 (λ c. c .before .before .before .before .before .before .loop .inv .0)
-    returns-3 (λ c κs. search needs) same-length-4 returns-4 (λ c κs. omega (arith, c .before .before .region-size .ensures))
-    (λ c κs. omega (arith, c .before .before .before .region-size .ensures))
+    returns-3 (λ c κs. search needs) same-length-4 returns-4 (λ c κs. omega arith) (λ c κs. omega arith)
     (λ c κs. (omega arith, c .before .high-byte .ensures .0, c .low-byte .ensures .0)) (λ c. omega arith) loop-less loop-again)

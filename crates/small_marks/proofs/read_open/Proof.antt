@@ -19,7 +19,8 @@ returns : tie.Need-returns
 returns c =
     let start = c .before .before .before .before .before .before in
     let v = start .args .version in
-    first-codewords (start .args .out .now) (dataBits (maskBit (sideOf v) (start .args .mask)) 0 (layoutOf v) (start .args .square .now)) (start .args .total) (start .pre .1 .0) (c .before .before .read-open-rows .ensures)
+    first-codewords (start .args .out .now) (dataBits (maskBit (sideOf v) (start .args .mask)) 0 (layoutOf v) (start .args .square .now))
+    (start .args .total) (start .pre .1 .0) (c .before .before .read-open-rows .ensures)
 
 pub read-open-spec : {M : Type 1} → Rattle.small_marks.proofs.read_open.Statement.statement M
 read-open-spec =

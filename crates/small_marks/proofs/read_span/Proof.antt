@@ -8,7 +8,8 @@ use lib.Pow.{pow-pos}
 use Rattle.small_marks.proofs.read_span.Tie as tie
 
 abbrev Inv-loop : tie.InvT-loop
-Inv-loop out₀ square mask to r₀ out r = Pending r × (r₀ .column ≤ r .column) × (r .column ≤ to) × Spans square (lowBits 27 mask) out₀ out r₀ r × (length out ≡ length out₀)
+Inv-loop out₀ square mask to r₀ out r = Pending r × (r₀ .column ≤ r .column) × (r .column ≤ to) × Spans square (lowBits 27 mask) out₀ out r₀ r
+    × (length out ≡ length out₀)
 
 abbrev μ-loop : tie.MeasureT-loop
 μ-loop out₀ square mask to r₀ out r = to - r .column
@@ -30,8 +31,15 @@ loop-again c =
     let push = c .before .before .push in
     let taken = c .before .before .before .before .before .if1 .taken in
     let lo = loop .inv .1 in
-    let on = push .ensures .1 in
-    (push .ensures .0, omega (arith, lo, on), omega (arith, on, taken), spans-on lo (omega (arith, on)) (loop .inv .3) (spans-push (start .pre .0) 8 _ (omega (arith, taken)) (c .before .before .before .unmasked .ensures .0) on (push .ensures .2)), push .kept .0 ∙ loop .inv .4)
+    let on = push .ensures .1 in (
+      push .ensures .0,
+      omega (arith, lo, on),
+      omega (arith, on, taken),
+      spans-on lo (omega (arith, on)) (loop .inv .3)
+          (spans-push (start .pre .0) 8 _ (omega (arith, taken)) (c .before .before .before .unmasked .ensures .0) on (push .ensures .2)),
+      push .kept .0
+          ∙ loop .inv .4,
+    )
 
 unmasked-requires-2 : tie.Need-unmasked-requires-2 Inv-loop μ-loop
 unmasked-requires-2 c κs = let start = c .before .before .before .before .before .before .before in (start .pre .0, omega arith, start .pre .5)
@@ -56,8 +64,13 @@ returns c =
     let w = start .args .to - loop .r .column in
     let e : push .result .column ≡ start .args .to = omega (arith, most) in
     let left = c .before .before .before .before .before .before .before .if1 .left in
-    let x = lowest-is (start .pre .0) (to - 8) w (loop .r .column) (omega (arith, left)) (omega (arith, most)) (c .before .before .before .before .unmasked2 .ensures .0) (c .before .before .before .lowest .ensures) in
-    (push .ensures .0, e, spans-on (loop .inv .1) (omega (arith, e, most)) (loop .inv .3) (spans-push (start .pre .0) w _ (omega (arith, most)) x (push .ensures .1) (push .ensures .2)))
+    let x = lowest-is (start .pre .0) (to - 8) w (loop .r .column) (omega (arith, left)) (omega (arith, most))
+    (c .before .before .before .before .unmasked2 .ensures .0) (c .before .before .before .lowest .ensures) in (
+      push .ensures .0,
+      e,
+      spans-on (loop .inv .1) (omega (arith, e, most)) (loop .inv .3)
+          (spans-push (start .pre .0) w _ (omega (arith, most)) x (push .ensures .1) (push .ensures .2)),
+    )
 
 pub read-span-spec : {M : Type 1} → Rattle.small_marks.proofs.read_span.Statement.statement M
 read-span-spec =

@@ -14,7 +14,8 @@ returns-2 c = too-high (c .before .before .before .args .version) (c .before .be
 returns-3 : tie.Need-returns-3
 returns-3 c =
     let start = c .before .before .before .before .before in
-    too-short (start .args .version) (start .args .out .now) (c .before .before .before .if1 .left) (c .before .before .if2 .left) (subst (λ (k : ℕ). length (start .args .out .now) < k * k) (c .before .side .ensures) (c .if3 .taken))
+    too-short (start .args .version) (start .args .out .now) (c .before .before .before .if1 .left) (c .before .before .if2 .left)
+    (subst (λ (k : ℕ). length (start .args .out .now) < k * k) (c .before .side .ensures) (c .if3 .taken))
 
 returns-4 : tie.Need-returns-4
 returns-4 c =
@@ -23,7 +24,9 @@ returns-4 c =
     let if2 = c .before .before .before .before .before .before .before .if2 in
     let side = c .before .before .before .before .before .before .side in
     let if3 = c .before .before .before .before .before .if3 in
-    small (start .args .version) (start .args .out .now) (if1 .left) (if2 .left) (subst (λ (k : ℕ). k * k ≤ length (start .args .out .now)) (side .ensures) (if3 .left)) (side .ensures) (c .before .before .before .corners .ensures) (c .if4 .taken)
+    small (start .args .version) (start .args .out .now) (if1 .left) (if2 .left)
+    (subst (λ (k : ℕ). k * k ≤ length (start .args .out .now)) (side .ensures) (if3 .left)) (side .ensures) (c .before .before .before .corners .ensures)
+    (c .if4 .taken)
 
 alignment-requires : tie.Need-alignment-requires
 alignment-requires c κs =

@@ -11,8 +11,14 @@ read-open-requires : tie.Need-read-open-requires
 read-open-requires c κs =
     let a = c .before .before .before .before in
     let f = a .pre .0 in
-    let total = c .before .total-codewords in
-    ((f .low, omega (arith, a .pre .1), f .mask, f .size, f .bits), (omega (arith, total .ensures .0, total-open _ (f .low) (a .pre .1)), enough-bits (a .args .m) _ _ f (open-drawn _) _ (total .result) (total .ensures .0) (open-enough _ (f .low) (omega (arith, a .pre .1)))))
+    let total = c .before .total-codewords in (
+      (f .low, omega (arith, a .pre .1), f .mask, f .size, f .bits),
+      (
+        omega (arith, total .ensures .0, total-open _ (f .low) (a .pre .1)),
+        enough-bits (a .args .m) _ _ f (open-drawn _) _ (total .result)
+            (total .ensures .0) (open-enough _ (f .low) (omega (arith, a .pre .1))),
+      ),
+    )
 
 to-stream-requires : tie.Need-to-stream-requires
 to-stream-requires c κs =
@@ -26,7 +32,8 @@ returns c =
     let a = c .before .before .before .before .before .before .before .before .before .before .before in
     let total = c .before .before .before .before .before .before .before .before .total-codewords in
     stream-is (a .args .m) _ _ (a .pre .0) (open-drawn _) _ _ _ _ refl (total .ensures .0)
-    (c .before .before .to-stream .ensures ∙ ap (λ (x : List ℕ). toStream x ++ drop (total .result) (a .args .stream .now)) (codewords-taken _ _ _ _ (c .before .before .before .before .before .before .read-open .ensures)))
+    (c .before .before .to-stream .ensures ∙ ap (λ (x : List ℕ). toStream x ++ drop (total .result) (a .args .stream .now))
+    (codewords-taken _ _ _ _ (c .before .before .before .before .before .before .read-open .ensures)))
 
 pub read-open-stream-spec : {M : Type 1} → Rattle.telling.proofs.read_open_stream.Statement.statement M
 read-open-stream-spec =

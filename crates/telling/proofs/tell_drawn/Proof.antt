@@ -7,14 +7,19 @@ returns : tie.Need-returns
 returns c =
     let before = c .before .before .before .before .before .before .before .before .before in
     let a = before in
-    too-few (a .args .m) _ _ (a .pre .0) (a .pre .1) _ _ (c .before .before .before .data-modules .ensures) (c .before .before .total-codewords .ensures .0) _ _ (c .before .if1 .taken) _ (c .refused .ensures)
+    too-few (a .args .m) _ _ (a .pre .0) (a .pre .1) _ _ (c .before .before .before .data-modules .ensures)
+    (c .before .before .total-codewords .ensures .0) _ _ (c .before .if1 .taken) _ (c .refused .ensures)
 
 tell-blocks-requires : tie.Need-tell-blocks-requires
 tell-blocks-requires c κs =
     let before = c .before .before .before .before .before .before .before .before .before .before .before in
     let data-modules = c .before .before .before .before .before .data-modules in
-    let a = before in
-    (a .pre .0, a .pre .1, enough (a .args .m) _ _ (a .pre .0) (a .pre .1) _ _ (data-modules .ensures) (c .before .before .before .before .total-codewords .ensures .0) (a .args .payload .now) (a .args .script .now) (c .before .before .before .if1 .left))
+    let a = before in (
+      a .pre .0,
+      a .pre .1,
+      enough (a .args .m) _ _ (a .pre .0) (a .pre .1) _ _ (data-modules .ensures)
+          (c .before .before .before .before .total-codewords .ensures .0) (a .args .payload .now) (a .args .script .now) (c .before .before .before .if1 .left),
+    )
 
 returns-2 : tie.Need-returns-2
 returns-2 c =

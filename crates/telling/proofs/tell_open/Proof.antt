@@ -17,8 +17,11 @@ tell-stream-requires c κs =
 returns : tie.Need-returns
 returns c =
     let a = c .before .before .before .before .before .before .before .before .before .before .before .before .before .before .before .before .before .before .before in
-    let t = c .before .before .before .before .before .before .before .tell-stream .ensures in
-    (open-blocks (a .args .m) _ _ _ _ (a .pre .0) (a .pre .1) (t .reading _ (c .before .before .before .before .before .before .before .before .before .before .before .before .before .read-open-stream .ensures)), t .small)
+    let t = c .before .before .before .before .before .before .before .tell-stream .ensures in (
+      open-blocks (a .args .m) _ _ _ _ (a .pre .0) (a .pre .1) (t .reading _
+          (c .before .before .before .before .before .before .before .before .before .before .before .before .before .read-open-stream .ensures)),
+      t .small,
+    )
 
 pub tell-open-spec : {M : Type 1} → Rattle.telling.proofs.tell_open.Statement.statement M
 tell-open-spec =

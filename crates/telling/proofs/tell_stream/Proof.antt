@@ -19,20 +19,30 @@ tell-segments-requires c κs =
     let f = a .pre .0 in
     let row = c .before .before .before .before .before .before .before .before .before .before .before .before .before .block-row .ensures in
     let long = row-total (m .version) (m .level) (f .low) (f .high) (f .level) _ row in
-    let n = c .before .before .before .before .before .before .count .given in
-    (search needs, omega (arith, long, a .pre .1), row-data _ _ (f .low) (f .high) (f .level) _ row, count-small m f _ row _ (n .0 .0) _ (n .1) (λ z. c .before .before .before .before .before .before .before .before .before .before .correct-blocks .ensures .1 z .0))
+    let n = c .before .before .before .before .before .before .count .given in (
+      search needs,
+      omega (arith, long, a .pre .1),
+      row-data _ _ (f .low) (f .high) (f .level) _ row,
+      count-small m f _ row _ (n .0 .0) _ (n .1)
+          (λ z. c .before .before .before .before .before .before .before .before .before .before .correct-blocks .ensures .1 z .0),
+    )
 
 returns : tie.Need-returns
 returns c =
-    let a = c .before .before .before .before .before .before .before .before .before .before .before .before .before .before .before .before .before .before .before .before .before .before .before .before .before .before .before in
+    let a = c .before .before .before .before .before .before .before .before .before .before .before .before .before .before .before .before .before
+    .before .before .before .before .before .before .before .before .before .before in
     let n = c .before .before .before .before .before .before .before .before .before .before .before .before .before .before .before .count .given in
-    let q = c .before .before .before .before .before .before .before .before .before .before .before .before .before .before .before .before .before .before .before .correct-blocks in
-    blocks-told (a .args .m) (a .pre .0) _ (c .before .before .before .before .before .before .before .before .before .before .before .before .before .before .before .before .before .before .before .before .before .before .block-row .ensures) _ _ _ (q .result) (n .0 .0) _ _ _ _ _ (n .1) (q .ensures .0) (q .ensures .1) (c .before .before .before .before .before .before .before .before .tell-segments .ensures)
+    let q = c .before .before .before .before .before .before .before .before .before .before .before .before .before .before .before .before .before
+    .before .before .correct-blocks in
+    blocks-told (a .args .m) (a .pre .0) _ (c .before .before .before .before .before .before .before .before .before .before .before .before .before
+    .before .before .before .before .before .before .before .before .before .block-row .ensures) _ _ _ (q .result) (n .0 .0) _ _ _ _ _ (n .1)
+    (q .ensures .0) (q .ensures .1) (c .before .before .before .before .before .before .before .before .tell-segments .ensures)
 
 returns-2 : tie.Need-returns-2
 returns-2 c =
     let a = c .before .before .before .before .before .before .before .before .before .before .before .before .before in
-    blocks-refused (a .args .m) (a .pre .0) _ (c .before .before .before .before .before .before .before .before .block-row .ensures) _ _ _ _ _ (c .before .enum-told .given .1) (c .before .before .before .before .before .correct-blocks .ensures .0) (c .refused .ensures)
+    blocks-refused (a .args .m) (a .pre .0) _ (c .before .before .before .before .before .before .before .before .block-row .ensures) _ _ _ _ _
+    (c .before .enum-told .given .1) (c .before .before .before .before .before .correct-blocks .ensures .0) (c .refused .ensures)
 
 pub tell-stream-spec : {M : Type 1} → Rattle.telling.proofs.tell_stream.Statement.statement M
 tell-stream-spec =

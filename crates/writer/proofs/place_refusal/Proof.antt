@@ -14,7 +14,8 @@ returns : tie.Need-returns
 returns c =
     let before = c .before .before .before .before .before in
     let o = before in
-    too-few _ _ (o .pre) (o .args .size) _ _ _ (c .before .before .before .side .ensures) (c .before .before .total-codewords .ensures .0) (c .before .data-modules .ensures) (c .if1 .taken)
+    too-few _ _ (o .pre) (o .args .size) _ _ _ (c .before .before .before .side .ensures) (c .before .before .total-codewords .ensures .0)
+    (c .before .data-modules .ensures) (c .if1 .taken)
 
 mul-if2 : tie.Need-mul-if2
 mul-if2 c = omega (arith, square-small _ _ (c .before .before .before .before .before .pre .ranged .high) (c .before .before .before .side .ensures))
@@ -24,14 +25,16 @@ returns-2 c =
     let before = c .before .before .before .before .before .before in
     let side = c .before .before .before .before .side in
     let o = before in
-    wrong-size _ _ (o .pre) (o .args .size) _ _ _ (side .ensures) (c .before .before .before .total-codewords .ensures .0) (c .before .before .data-modules .ensures) (omega (arith, c .before .if1 .left)) (c .if2 .taken)
+    wrong-size _ _ (o .pre) (o .args .size) _ _ _ (side .ensures) (c .before .before .before .total-codewords .ensures .0)
+    (c .before .before .data-modules .ensures) (omega (arith, c .before .if1 .left)) (c .if2 .taken)
 
 returns-3 : tie.Need-returns-3
 returns-3 c =
     let before = c .before .before .before .before .before .before in
     let side = c .before .before .before .before .side in
     let o = before in
-    right-size _ _ (o .pre) (o .args .size) _ _ _ (side .ensures) (c .before .before .before .total-codewords .ensures .0) (c .before .before .data-modules .ensures) (omega (arith, c .before .if1 .left)) (c .if2 .left)
+    right-size _ _ (o .pre) (o .args .size) _ _ _ (side .ensures) (c .before .before .before .total-codewords .ensures .0)
+    (c .before .before .data-modules .ensures) (omega (arith, c .before .if1 .left)) (c .if2 .left)
 
 pub place-refusal-spec : {M : Type 1} → Rattle.writer.proofs.place_refusal.Statement.statement M
 place-refusal-spec =

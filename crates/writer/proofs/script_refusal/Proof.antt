@@ -8,7 +8,8 @@ use Rattle.writer.proofs.script_refusal.Tie as tie
 returns : tie.Need-returns
 returns c =
     let start = c .before .before .before .before .before .before .before .before in
-    script-bits _ _ _ _ (room-small (start .pre .0)) _ _ _ (c .before .before .n .given .1) (c .before .before .before .before .check-script .ensures) (c .bits-refusal .ensures)
+    script-bits _ _ _ _ (room-small (start .pre .0)) _ _ _ (c .before .before .n .given .1) (c .before .before .before .before .check-script .ensures)
+    (c .bits-refusal .ensures)
 
 returns-2 : tie.Need-returns-2
 returns-2 c =

@@ -8,7 +8,8 @@ use Rattle.writer.proofs.write_in.Tie as tie
 returns : tie.Need-returns
 returns c =
     let start = c .before .before .before .before .before .before .before in
-    answers-one _ _ _ (start .args .script .now) (start .args .payload .now) (start .args .square .now) (no-word _ _ _ _ (c .before .before .info-bits .ensures) (c .enum-told .given .1))
+    answers-one _ _ _ (start .args .script .now) (start .args .payload .now) (start .args .square .now)
+    (no-word _ _ _ _ (c .before .before .info-bits .ensures) (c .enum-told .given .1))
 
 write-ready-requires : tie.Need-write-ready-requires
 write-ready-requires c κs =

@@ -11,17 +11,29 @@ returns c =
 returns-2 : tie.Need-returns-2
 returns-2 c =
     let o = c .before .before .before .before .before .before .before .before .before .before in
-    answers-script _ _ (o .pre) (o .args .script .now) (o .args .payload .now) (o .args .square .now) _ (c .before .before .before .before .before .place-refusal .ensures) (c .before .before .before .before .if1 .left) _ (c .before .script-refusal .ensures) (c .if2 .taken)
+    answers-script _ _ (o .pre) (o .args .script .now) (o .args .payload .now) (o .args .square .now) _
+    (c .before .before .before .before .before .place-refusal .ensures) (c .before .before .before .before .if1 .left) _
+    (c .before .script-refusal .ensures) (c .if2 .taken)
 
 write-mark-requires : tie.Need-write-mark-requires
 write-mark-requires c κs =
-    let o = c .before .before .before .before .before .before .before .before .before .before .before .before in
-    (o .pre, nothing-turned _ _ (o .pre) (o .args .script .now) (o .args .payload .now) (o .args .square .now) _ (c .before .before .before .before .before .before .before .place-refusal .ensures) (c .before .before .before .before .before .before .if1 .left) _ (c .before .before .before .script-refusal .ensures) (c .before .before .if2 .left), record { nine = search needs; is = c .before .before .before .before .before .block-row .ensures })
+    let o = c .before .before .before .before .before .before .before .before .before .before .before .before in (
+      o .pre,
+      nothing-turned _ _ (o .pre) (o .args .script .now) (o .args .payload .now) (o .args .square .now) _
+          (c .before .before .before .before .before .before .before .place-refusal .ensures)
+          (c .before .before .before .before .before .before .if1 .left) _ (c .before .before .before .script-refusal .ensures)
+          (c .before .before .if2 .left),
+      record { nine = search needs; is = c .before .before .before .before .before .block-row .ensures },
+    )
 
 returns-3 : tie.Need-returns-3
 returns-3 c =
     let o = c .before .before .before .before .before .before .before .before .before .before .before .before .before .before .before in
-    answers-zero _ _ (o .pre) (o .args .script .now) (o .args .payload .now) (o .args .square .now) _ (c .before .before .before .before .before .before .before .before .before .before .place-refusal .ensures) (c .before .before .before .before .before .before .before .before .before .if1 .left) _ (c .before .before .before .before .before .before .script-refusal .ensures) (c .before .before .before .before .before .if2 .left) _ (c .before .before .write-mark .ensures)
+    answers-zero _ _ (o .pre) (o .args .script .now) (o .args .payload .now) (o .args .square .now) _
+    (c .before .before .before .before .before .before .before .before .before .before .place-refusal .ensures)
+    (c .before .before .before .before .before .before .before .before .before .if1 .left) _
+    (c .before .before .before .before .before .before .script-refusal .ensures) (c .before .before .before .before .before .if2 .left) _
+    (c .before .before .write-mark .ensures)
 
 pub write-ready-spec : {M : Type 1} → Rattle.writer.proofs.write_ready.Statement.statement M
 write-ready-spec =

@@ -17,7 +17,8 @@ returns-3 c = simp (le-leb _ _ (c .before .before .if1 .left), le-leb _ _ (c .be
 
 returns-4 : tie.Need-returns-4
 unfolding positionAnswer
-returns-4 c = simp (le-leb _ _ (c .before .before .before .if1 .left), le-leb _ _ (c .before .before .if2 .left), lt-ltb _ _ (c .before .if3 .left)) (c .info-position .ensures .0)
+returns-4 c = simp (le-leb _ _ (c .before .before .before .if1 .left), le-leb _ _ (c .before .before .if2 .left), lt-ltb _ _ (c .before .if3 .left))
+    (c .info-position .ensures .0)
 
 pub hx-info-position-spec : {M : Type 1} → Rattle.comparison.proofs.marks.hx_info_position.Statement.statement M
 hx-info-position-spec = tie.close (tie.spec returns returns-2 returns-3 (λ c κs. search needs) returns-4)

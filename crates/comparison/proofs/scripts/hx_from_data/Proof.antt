@@ -12,7 +12,8 @@ returns c =
     let a = g .before .before .before .before .before .before .args in
     let q = g .from-data in
     let v = c .before .answer .given in
-    fields (q .result) (Read (v .0 .0) (v .0 .1 .0)) (q .last .1 .0) (q .last .1 .1 .0) (fromData (a .codewords .now) (a .payload .now) (a .script .now)) (q .ensures) (v .1)
+    fields (q .result) (Read (v .0 .0) (v .0 .1 .0)) (q .last .1 .0) (q .last .1 .1 .0)
+    (fromData (a .codewords .now) (a .payload .now) (a .script .now)) (q .ensures) (v .1)
 
 returns-2 : tie.Need-returns-2
 returns-2 c =
@@ -44,7 +45,8 @@ returns-5 c =
     let g = before in
     let a = g .before .before .before .before .before .before .args in
     let q = g .from-data in
-    fields (q .result) PayloadFull (q .last .1 .0) (q .last .1 .1 .0) (fromData (a .codewords .now) (a .payload .now) (a .script .now)) (q .ensures) (c .enum-told4 .given .1)
+    fields (q .result) PayloadFull (q .last .1 .0) (q .last .1 .1 .0) (fromData (a .codewords .now) (a .payload .now) (a .script .now)) (q .ensures)
+    (c .enum-told4 .given .1)
 
 returns-6 : tie.Need-returns-6
 returns-6 c =
@@ -52,7 +54,8 @@ returns-6 c =
     let g = before in
     let a = g .before .before .before .before .before .before .args in
     let q = g .from-data in
-    fields (q .result) ScriptFull (q .last .1 .0) (q .last .1 .1 .0) (fromData (a .codewords .now) (a .payload .now) (a .script .now)) (q .ensures) (c .enum-told5 .given .1)
+    fields (q .result) ScriptFull (q .last .1 .0) (q .last .1 .1 .0) (fromData (a .codewords .now) (a .payload .now) (a .script .now)) (q .ensures)
+    (c .enum-told5 .given .1)
 
 pub hx-from-data-spec : {M : Type 1} → Rattle.comparison.proofs.scripts.hx_from_data.Statement.statement M
 hx-from-data-spec =

@@ -15,8 +15,12 @@ abbrev μ-loop : tie.MeasureT-loop
 loop-again : tie.Need-loop-again Inv-loop μ-loop
 loop-again c =
     let start = c .before .before .before .before in
-    let loop = c .before .before .before .loop in
-    (repaired-next (length (start .args .block .now)) (loop .k) (start .args .e .now) (start .args .block .now) (loop .block) (loop .inv .0) (omega arith), omega arith, refl)
+    let loop = c .before .before .before .loop in (
+      repaired-next (length (start .args .block .now)) (loop .k) (start .args .e .now) (start .args .block .now) (loop .block) (loop .inv .0)
+          (omega arith),
+      omega arith,
+      refl,
+    )
 
 pub add-spec : {M : Type 1} → Rattle.reed_solomon.proofs.errors.add.Statement.statement M
 add-spec =

@@ -12,7 +12,8 @@ returns c =
       refl,
       ap (λ x. v .b ⊕ x) (by-one _ _ _ _ (c .before .before .before .before .before .before .before .raised .ensures)),
       ap (λ x. v .c ⊕ x) (c .before .before .before .before .before .before .raised2 .ensures),
-      ap (λ x. v .d ⊕ x) (by-reduced _ (the-field _ (start .pre .0)) _ 3 _ _ _ (c .before .before .before .before .before .folded .ensures .1) (c .before .before .before .before .raised3 .ensures)),
+      ap (λ x. v .d ⊕ x) (by-reduced _ (the-field _ (start .pre .0)) _ 3 _ _ _ (c .before .before .before .before .before .folded .ensures .1)
+          (c .before .before .before .before .raised3 .ensures)),
     )
 
 pub add-term-spec : {M : Type 1} → Rattle.reed_solomon.proofs.errors.add_term.Statement.statement M

@@ -32,7 +32,8 @@ loop-holds c =
     let log = c .before .log in
     let e = start .args .d * start .args .first % 255 in (
       each-start _ _,
-      weight-start _ P _ _ _ _ (reduced-power poly P _ _ (c .reduced .ensures .1) ∙ sym (mul-power poly P (log .result) e) ∙ ap (λ (a : ℕ). mul poly a (power poly e)) (log .ensures .1)),
+      weight-start _ P _ _ _ _ (reduced-power poly P _ _ (c .reduced .ensures .1) ∙ sym (mul-power poly P (log .result) e)
+          ∙ ap (λ (a : ℕ). mul poly a (power poly e)) (log .ensures .1)),
       c .reduced .ensures .0,
       omega arith,
     )

@@ -14,8 +14,11 @@ abbrev μ-loop : tie.MeasureT-loop
 
 loop-holds : tie.Need-loop-holds Inv-loop μ-loop
 loop-holds c =
-    let start = c .before .before in
-    (off-all-start (polyOf (start .args .field .now)) (start .args .first) (start .args .n) (start .args .parity) (start .args .e .now) (start .args .s .now), omega arith)
+    let start = c .before .before in (
+      off-all-start (polyOf (start .args .field .now)) (start .args .first) (start .args .n) (start .args .parity) (start .args .e .now)
+          (start .args .s .now),
+      omega arith,
+    )
 
 take-off-requires : tie.Need-take-off-requires Inv-loop μ-loop
 take-off-requires c κs =

@@ -13,7 +13,8 @@ returns-2 : tie.Need-returns-2
 returns-2 c =
     let w = c .before .before .before in
     let a = w .before .before .before .args in
-    c .eci-at .ensures ∙ sym (command-eci (a .script .now) (a .i) (w .wide .result) (w .wide .ensures .0) (c .before .before .if1 .left) (c .before .if2 .taken))
+    c .eci-at .ensures ∙ sym
+    (command-eci (a .script .now) (a .i) (w .wide .result) (w .wide .ensures .0) (c .before .before .if1 .left) (c .before .if2 .taken))
 
 returns-3 : tie.Need-returns-3
 returns-3 c =
@@ -25,7 +26,8 @@ returns-4 : tie.Need-returns-4
 returns-4 c =
     let w = c .before .before .before .before in
     let a = w .before .before .before .args in
-    command-large (a .script .now) (a .i) (w .wide .result) (w .wide .ensures .0) (c .before .before .before .if1 .left) (c .before .before .if2 .left) (c .before .if3 .left) (c .if4 .taken)
+    command-large (a .script .now) (a .i) (w .wide .result) (w .wide .ensures .0) (c .before .before .before .if1 .left) (c .before .before .if2 .left)
+    (c .before .if3 .left) (c .if4 .taken)
 
 returns-5 : tie.Need-returns-5
 returns-5 c =
@@ -33,7 +35,9 @@ returns-5 c =
     let if1 = c .before .before .before .before .if1 in
     let w = before in
     let a = w .before .before .before .args in
-    c .run-at .ensures ∙ sym (command-run (a .script .now) (a .i) (w .wide .result) (w .wide .ensures .0) (if1 .left) (c .before .before .before .if2 .left) (c .before .before .if3 .left) (c .before .if4 .left))
+    c .run-at .ensures ∙ sym
+    (command-run (a .script .now) (a .i) (w .wide .result) (w .wide .ensures .0) (if1 .left) (c .before .before .before .if2 .left)
+    (c .before .before .if3 .left) (c .before .if4 .left))
 
 pub command-at-spec : {M : Type 1} → Rattle.script.proofs.commands.command_at.Statement.statement M
 command-at-spec =

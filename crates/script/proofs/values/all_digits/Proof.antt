@@ -14,8 +14,11 @@ loop-again : tie.Need-loop-again Inv-loop μ-loop
 loop-again c =
     let d = c .before in
     let l = d .before .before .before .loop in
-    let a = d .before .before .before .before .before .args in
-    (omega arith, l .inv .1 ∙ digits-next (a .run .now) (l .j) (l .top) (d .digit-value .result) (c .greater .result) (omega arith) (d .digit-value .ensures) (c .greater .ensures))
+    let a = d .before .before .before .before .before .args in (
+      omega arith,
+      l .inv .1 ∙ digits-next (a .run .now) (l .j) (l .top) (d .digit-value .result) (c .greater .result) (omega arith)
+          (d .digit-value .ensures) (c .greater .ensures),
+    )
 
 returns : tie.Need-returns Inv-loop μ-loop
 returns c =

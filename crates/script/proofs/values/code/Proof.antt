@@ -32,19 +32,34 @@ returns-6 c = simp (lt-ltb _ _ (c .if6 .taken), le-ltb _ _ (c .before .if5 .left
 
 returns-7 : tie.Need-returns-7
 unfolding codeOf
-returns-7 c = simp (lt-ltb _ _ (c .if7 .taken), le-ltb _ _ (c .before .if6 .left), le-ltb _ _ (c .before .before .if5 .left), c .before .before .before .if1 .left)
+returns-7 c =
+    simp (lt-ltb _ _ (c .if7 .taken), le-ltb _ _ (c .before .if6 .left), le-ltb _ _ (c .before .before .if5 .left), c .before .before .before .if1 .left)
 
 returns-8 : tie.Need-returns-8
 unfolding codeOf
 returns-8 c =
     let if1 = c .before .before .before .before .if1 in
-    simp (lt-ltb _ _ (c .if8 .taken), le-ltb _ _ (c .before .if7 .left), le-ltb _ _ (c .before .before .if6 .left), le-ltb _ _ (c .before .before .before .if5 .left), if1 .left)
+    simp (
+      lt-ltb _ _ (c .if8 .taken),
+      le-ltb _ _ (c .before .if7 .left),
+      le-ltb _ _ (c .before .before .if6 .left),
+      le-ltb _ _
+          (c .before .before .before .if5 .left),
+      if1 .left,
+    )
 
 returns-9 : tie.Need-returns-9
 unfolding codeOf
 returns-9 c =
     let if1 = c .before .before .before .before .if1 in
-    simp (le-ltb _ _ (c .if8 .left), le-ltb _ _ (c .before .if7 .left), le-ltb _ _ (c .before .before .if6 .left), le-ltb _ _ (c .before .before .before .if5 .left), if1 .left)
+    simp (
+      le-ltb _ _ (c .if8 .left),
+      le-ltb _ _ (c .before .if7 .left),
+      le-ltb _ _ (c .before .before .if6 .left),
+      le-ltb _ _
+          (c .before .before .before .if5 .left),
+      if1 .left,
+    )
 
 pub code-spec : {M : Type 1} → Rattle.script.proofs.values.code.Statement.statement M
 code-spec =

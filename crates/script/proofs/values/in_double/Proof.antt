@@ -23,7 +23,11 @@ returns-2 c =
     let a = p .before .args in
     let e = p .double-code .ensures in
     let l = rw e at (d .before .if1 .taken) in
-    rw (lt-ltb (doubleCode (a .a) (a .b)) 23940 l, ne-eqb (firstByte (doubleCode (a .a) (a .b))) (a .a) (λ q. c .if2 .left (d .first-byte .ensures .1 ∙ ap firstByte e ∙ q)))
+    rw (
+      lt-ltb (doubleCode (a .a) (a .b)) 23940 l,
+      ne-eqb (firstByte (doubleCode (a .a) (a .b))) (a .a)
+          (λ q. c .if2 .left (d .first-byte .ensures .1 ∙ ap firstByte e ∙ q)),
+    )
 
 returns-3 : tie.Need-returns-3
 unfolding inDouble

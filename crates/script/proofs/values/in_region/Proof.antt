@@ -23,7 +23,11 @@ returns-2 c =
     let a = p .before .args in
     let e = p .pair-code .ensures in
     let l = rw (e, d .before .before .region-size .ensures) at (d .before .if1 .taken) in
-    rw (lt-ltb (pairCode (a .one) (a .a) (a .b)) (regionSize (a .one)) l, ne-eqb (highOf (a .one) (pairCode (a .one) (a .a) (a .b))) (a .a) (λ q. c .if2 .left (d .high-byte .ensures .1 ∙ ap (highOf (a .one)) e ∙ q)))
+    rw (
+      lt-ltb (pairCode (a .one) (a .a) (a .b)) (regionSize (a .one)) l,
+      ne-eqb (highOf (a .one) (pairCode (a .one) (a .a) (a .b))) (a .a)
+          (λ q. c .if2 .left (d .high-byte .ensures .1 ∙ ap (highOf (a .one)) e ∙ q)),
+    )
 
 returns-3 : tie.Need-returns-3
 unfolding inRegion

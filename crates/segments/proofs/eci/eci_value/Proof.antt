@@ -26,14 +26,17 @@ returns-4 c =
     let b = before in
     let d = c .before .before in
     let a = b .before .before .before .args in
-    rw (eci-two (a .s .now) (a .from) (omega arith) (λ e. d .before .before .if2 .left (b .bit .ensures ∙ e)) (omega arith) (sym (d .bit2 .ensures) ∙ c .before .if4 .taken)) (c .eci-field2 .ensures)
+    rw (eci-two (a .s .now) (a .from) (omega arith) (λ e. d .before .before .if2 .left (b .bit .ensures ∙ e)) (omega arith)
+    (sym (d .bit2 .ensures) ∙ c .before .if4 .taken))
+    (c .eci-field2 .ensures)
 
 returns-5 : tie.Need-returns-5
 returns-5 c =
     let d = c .before .before in
     let b = d .before .before .before in
     let a = b .before .before .before .args in
-    rw (eci-two-cut (a .s .now) (a .from) (omega arith) (λ e. d .before .before .if2 .left (b .bit .ensures ∙ e)) (omega arith) (λ e. c .before .if4 .left (d .bit2 .ensures ∙ e)) (omega arith)) refl
+    rw (eci-two-cut (a .s .now) (a .from) (omega arith) (λ e. d .before .before .if2 .left (b .bit .ensures ∙ e)) (omega arith)
+    (λ e. c .before .if4 .left (d .bit2 .ensures ∙ e)) (omega arith)) refl
 
 returns-6 : tie.Need-returns-6
 returns-6 c =
@@ -41,7 +44,9 @@ returns-6 c =
     let d = g .before .before .before in
     let b = d .before .before .before in
     let a = b .before .before .before .args in
-    rw (eci-three (a .s .now) (a .from) (omega arith) (λ e. d .before .before .if2 .left (b .bit .ensures ∙ e)) (omega arith) (λ e. g .before .before .if4 .left (d .bit2 .ensures ∙ e)) (omega arith) (sym (g .bit3 .ensures) ∙ c .before .if6 .taken)) (c .eci-field3 .ensures)
+    rw (eci-three (a .s .now) (a .from) (omega arith) (λ e. d .before .before .if2 .left (b .bit .ensures ∙ e)) (omega arith)
+    (λ e. g .before .before .if4 .left (d .bit2 .ensures ∙ e)) (omega arith) (sym (g .bit3 .ensures) ∙ c .before .if6 .taken))
+    (c .eci-field3 .ensures)
 
 returns-7 : tie.Need-returns-7
 returns-7 c =
@@ -49,7 +54,8 @@ returns-7 c =
     let d = g .before .before .before in
     let b = d .before .before .before in
     let a = b .before .before .before .args in
-    rw (eci-lacks (a .s .now) (a .from) (omega arith) (λ e. d .before .before .if2 .left (b .bit .ensures ∙ e)) (omega arith) (λ e. g .before .before .if4 .left (d .bit2 .ensures ∙ e)) (omega arith) (λ e. c .if6 .left (g .bit3 .ensures ∙ e))) refl
+    rw (eci-lacks (a .s .now) (a .from) (omega arith) (λ e. d .before .before .if2 .left (b .bit .ensures ∙ e)) (omega arith)
+    (λ e. g .before .before .if4 .left (d .bit2 .ensures ∙ e)) (omega arith) (λ e. c .if6 .left (g .bit3 .ensures ∙ e))) refl
 
 pub eci-value-spec : {M : Type 1} → Rattle.segments.proofs.eci.eci_value.Statement.statement M
 eci-value-spec =

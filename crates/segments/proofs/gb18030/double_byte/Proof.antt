@@ -3,7 +3,8 @@ use Rattle.general.proofs.Names.{needs, _≡_, _∙_, refl, ap₂, [], _∷_, a
 use Rattle.bits.proofs.Words.{WordAt}
 use Rattle.segments.specs.Segments.{firstByte, secondByte, doubleByteOf}
 use Rattle.segments.specs.Positions.{doubleByteAt}
-use Rattle.segments.proofs.Turns.{Remains, remains-start, remains-cut, remains-word, remains-lacks, remains-stop, remains-on, double-end, double-lacks, double-pair}
+use Rattle.segments.proofs.Turns.{Remains, remains-start, remains-cut, remains-word, remains-lacks, remains-stop, remains-on, double-end}
+use Rattle.segments.proofs.Turns.{double-lacks, double-pair}
 use Rattle.segments.proofs.gb18030.double_byte.Tie as tie
 
 abbrev Inv-loop : tie.InvT-loop
@@ -20,14 +21,16 @@ returns c =
 
 -- what was read, where a word was read
 word : (c : tie.After-known-told Inv-loop μ-loop)
-    → WordAt 15 (c .before .before .before .before .loop .at) (c .before .got .given .0 .0) (c .before .before .before .before .before .before .before .args .s .now)
+    → let g = c .before .before .before .before in WordAt 15 (g .loop .at) (c .before .got .given .0 .0) (g .before .before .before .args .s .now)
 word c = let b = c .before .before .before in remains-word (b .before .loop .inv .1) (b .read-bits .ensures) (omega arith) (c .before .got .given .1)
 
 returns-2 : tie.Need-returns-2 Inv-loop μ-loop
 returns-2 c =
     let k = c .before in
-    let r = word k in
-    (rw (remains-stop (k .before .before .before .before .loop .inv .1) r (double-end (c .if1 .taken))) (refl, refl), (omega arith, omega arith, omega arith, omega arith))
+    let r = word k in (
+      rw (remains-stop (k .before .before .before .before .loop .inv .1) r (double-end (c .if1 .taken))) (refl, refl),
+      (omega arith, omega arith, omega arith, omega arith),
+    )
 
 returns-3 : tie.Need-returns-3 Inv-loop μ-loop
 returns-3 c =
@@ -46,8 +49,12 @@ loop-again c =
     let p = c .before .before .put-pair in
     let e : p .last .0 ≡ sets (l .out) (l .n) (firstByte w ∷ secondByte w ∷ []) =
     p .ensures
-    ∙ ap₂ (λ (x y : ℕ). sets (l .out) (l .n) (x ∷ y ∷ [])) (c .before .before .before .before .first-byte .ensures .1) (c .before .before .before .second-byte .ensures .1) in
-    (p .kept .0 ∙ l .inv .0, remains-on (l .inv .1) (word k) (firstByte w ∷ secondByte w ∷ []) doubleByteOf (double-pair (i .before .if1 .left) (i .if2 .left)) (omega arith) e)
+    ∙ ap₂ (λ (x y : ℕ). sets (l .out) (l .n) (x ∷ y ∷ [])) (c .before .before .before .before .first-byte .ensures .1)
+    (c .before .before .before .second-byte .ensures .1) in (
+      p .kept .0 ∙ l .inv .0,
+      remains-on (l .inv .1) (word k) (firstByte w ∷ secondByte w ∷ []) doubleByteOf
+          (double-pair (i .before .if1 .left) (i .if2 .left)) (omega arith) e,
+    )
 
 pub double-byte-spec : {M : Type 1} → Rattle.segments.proofs.gb18030.double_byte.Statement.statement M
 double-byte-spec =

@@ -7,11 +7,15 @@ use Rattle.segments.proofs.gb18030.four_byte.Tie as tie
 returns : tie.Need-returns
 returns c =
     let b = c .before .before in
-    let a = b .before .before .before .args in
-    (rw (four-cut (a .s .now) (a .from) (a .to) (a .out .now) (word-few 21 (a .from) (a .s .now) (b .read-bits .result) (b .read-bits .ensures) (c .enum-told .given .1))) refl, tt)
+    let a = b .before .before .before .args in (
+      rw (four-cut (a .s .now) (a .from) (a .to) (a .out .now) (word-few 21 (a .from) (a .s .now) (b .read-bits .result) (b .read-bits .ensures)
+          (c .enum-told .given .1))) refl,
+      tt,
+    )
 
 -- what was read, where a word was read
-word : (c : tie.After-known-told) → WordAt 21 (c .before .before .before .before .before .before .args .from) (c .before .got .given .0 .0) (c .before .before .before .before .before .before .args .s .now)
+word : (c : tie.After-known-told)
+    → let a = c .before .before .before .before .before .before .args in WordAt 21 (a .from) (c .before .got .given .0 .0) (a .s .now)
 word c =
     let got = c .before .got in
     let b = c .before .before .before in
@@ -30,8 +34,11 @@ returns-3 c =
     let if1 = c .before .before .before .before .if1 in
     let k = before in
     let a = k .before .before .before .before .before .before .args in
-    let m = word k .room in
-    (rw (four-end (a .s .now) (a .from) (a .to) (a .out .now) (k .before .got .given .0 .0) (word k) (if1 .left)) (refl, c .before .before .put-four .ensures), (omega arith, omega arith, omega arith, omega arith))
+    let m = word k .room in (
+      rw (four-end (a .s .now) (a .from) (a .to) (a .out .now) (k .before .got .given .0 .0) (word k) (if1 .left))
+          (refl, c .before .before .put-four .ensures),
+      (omega arith, omega arith, omega arith, omega arith),
+    )
 
 pub four-byte-spec : {M : Type 1} → Rattle.segments.proofs.gb18030.four_byte.Statement.statement M
 four-byte-spec =

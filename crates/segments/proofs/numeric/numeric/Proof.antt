@@ -3,7 +3,8 @@ use Rattle.general.proofs.Names.{_≡_, _∙_, refl, arith, needs, _<_, _*_, _-
 use Rattle.bits.proofs.Words.{WordAt}
 use Rattle.segments.specs.Segments.{digits, groupsOf, numericOf}
 use Rattle.segments.specs.Positions.{numericAt}
-use Rattle.segments.proofs.Turns.{Remains, remains-start, remains-cut, remains-word, remains-lacks, remains-end, remains-on, remains-none, length-digits, numeric-lacks, numeric-first, groups-more, groups-lack, groups-large, groups-end}
+use Rattle.segments.proofs.Turns.{Remains, remains-start, remains-cut, remains-word, remains-lacks, remains-end, remains-on, remains-none}
+use Rattle.segments.proofs.Turns.{length-digits, numeric-lacks, numeric-first, groups-more, groups-lack, groups-large, groups-end}
 use Rattle.segments.proofs.numeric.numeric.Tie as tie
 
 abbrev Inv-loop : tie.InvT-loop
@@ -13,7 +14,8 @@ abbrev μ-loop : tie.MeasureT-loop
 μ-loop s from out₀ to first at₀ n₀ p₀ out at n p = 8 * length s - at
 
 -- all of the mode is to come
-begins : (c : tie.Start Inv-loop μ-loop) → let a = c .args in Remains 10 (numericAt (a .s .now) (a .from) (a .to) (a .out .now)) (a .s .now) (a .from) (a .to) (a .from) (a .to) (a .out .now) numericOf
+begins : (c : tie.Start Inv-loop μ-loop)
+    → let a = c .args in Remains 10 (numericAt (a .s .now) (a .from) (a .to) (a .out .now)) (a .s .now) (a .from) (a .to) (a .from) (a .to) (a .out .now) numericOf
 begins c = remains-start (c .pre .1) (c .pre .2)
 
 returns : tie.Need-returns Inv-loop μ-loop
@@ -23,7 +25,7 @@ returns c =
     (rw (remains-cut (begins (b .before .before .before)) (b .read-bits .ensures) (c .enum-told .given .1) refl) refl, tt)
 
 word1 : (c : tie.After-known-told Inv-loop μ-loop)
-    → WordAt 10 (c .before .before .before .before .before .before .args .from) (c .before .start .given .0 .0) (c .before .before .before .before .before .before .args .s .now)
+    → let a = c .before .before .before .before .before .before .args in WordAt 10 (a .from) (c .before .start .given .0 .0) (a .s .now)
 word1 c = let b = c .before .before .before in remains-word (begins (b .before .before .before)) (b .read-bits .ensures) (omega arith) (c .before .start .given .1)
 
 returns-2 : tie.Need-returns-2 Inv-loop μ-loop
@@ -45,7 +47,8 @@ returns-3 c =
 
 word2 : (c : tie.After-known-told2 Inv-loop μ-loop)
     → let l = c .before .before .before .before .loop in
-    WordAt 10 (l .at) (c .before .got .given .0 .0) (c .before .before .before .before .before .before .before .before .before .before .before .before .args .s .now)
+    WordAt 10 (l .at) (c .before .got .given .0 .0)
+    (c .before .before .before .before .before .before .before .before .before .before .before .before .args .s .now)
 word2 c = let b = c .before .before .before in remains-word (b .before .loop .inv .2) (b .read-bits2 .ensures) (omega arith) (c .before .got .given .1)
 
 returns-4 : tie.Need-returns-4 Inv-loop μ-loop

@@ -20,8 +20,13 @@ loop-again c =
     let a = start .args in
     let q = c .before .before .put in
     let t = power-of-ten .ensures .0 in
-    let e : q .last .0 ≡ set (l .out) (a .n + l .i) (48 + a .v / 10 ^ (a .k - 1 - l .i) % 10) = q .ensures ∙ ap (λ (z : ℕ). set (l .out) (a .n + l .i) (48 + a .v / z % 10)) t in
-    (q .kept .0 ∙ l .inv .0, omega arith, l .inv .2 ∙ digits-more (l .out) (a .n) (a .k) (l .i) (a .v) (omega arith) ∙ ap (λ (z : List ℕ). sets z (a .n + (l .i + 1)) (digits (a .k - (l .i + 1)) (a .v))) (sym e))
+    let e : q .last .0 ≡ set (l .out) (a .n + l .i) (48 + a .v / 10 ^ (a .k - 1 - l .i) % 10) = q .ensures
+    ∙ ap (λ (z : ℕ). set (l .out) (a .n + l .i) (48 + a .v / z % 10)) t in (
+      q .kept .0 ∙ l .inv .0,
+      omega arith,
+      l .inv .2 ∙ digits-more (l .out) (a .n) (a .k) (l .i) (a .v) (omega arith)
+          ∙ ap (λ (z : List ℕ). sets z (a .n + (l .i + 1)) (digits (a .k - (l .i + 1)) (a .v))) (sym e),
+    )
 
 returns : tie.Need-returns Inv-loop μ-loop
 returns c =

@@ -3,7 +3,8 @@ use Rattle.general.proofs.Names.{_≡_, _∙_, refl, ap, true, not, [], _∷_, 
 use Rattle.bits.proofs.Words.{WordAt}
 use Rattle.segments.specs.Segments.{charOf, textOf}
 use Rattle.segments.specs.Positions.{textAt}
-use Rattle.segments.proofs.Turns.{Remains, remains-start, remains-cut, remains-word, remains-stop, remains-on, remains-none, text-end, text-switch, text-byte}
+use Rattle.segments.proofs.Turns.{Remains, remains-start, remains-cut, remains-word, remains-stop, remains-on, remains-none, text-end}
+use Rattle.segments.proofs.Turns.{text-switch, text-byte}
 use Rattle.segments.proofs.text.text_mode.Tie as tie
 
 abbrev Inv-loop : tie.InvT-loop
@@ -20,7 +21,7 @@ returns c =
 
 -- what was read, where a word was read
 word : (c : tie.After-known-told Inv-loop μ-loop)
-    → WordAt 6 (c .before .before .before .before .loop .at) (c .before .got .given .0 .0) (c .before .before .before .before .before .before .before .args .s .now)
+    → let g = c .before .before .before .before in WordAt 6 (g .loop .at) (c .before .got .given .0 .0) (g .before .before .before .args .s .now)
 word c = let b = c .before .before .before in remains-word (b .before .loop .inv .1) (b .read-bits .ensures) (omega arith) (c .before .got .given .1)
 
 returns-2 : tie.Need-returns-2 Inv-loop μ-loop
@@ -50,8 +51,12 @@ loop-again-2 c =
     let l = k .before .before .before .before .loop in
     let w = k .before .got .given .0 .0 in
     let p = c .before .before .put in
-    let e : p .last .0 ≡ set (l .out) (l .n) (charOf (l .first) w) = p .ensures ∙ ap (λ (x : ℕ). set (l .out) (l .n) x) (c .before .before .before .text-char .ensures .1) in
-    (p .kept .0 ∙ l .inv .0, remains-on (l .inv .1) (word k) (charOf (l .first) w ∷ []) (textOf (l .first)) (text-byte (l .first) (i .before .if1 .left) (i .if2 .left)) (omega arith) e)
+    let e : p .last .0 ≡ set (l .out) (l .n) (charOf (l .first) w) = p .ensures ∙ ap (λ (x : ℕ). set (l .out) (l .n) x)
+    (c .before .before .before .text-char .ensures .1) in (
+      p .kept .0 ∙ l .inv .0,
+      remains-on (l .inv .1) (word k) (charOf (l .first) w ∷ []) (textOf (l .first))
+          (text-byte (l .first) (i .before .if1 .left) (i .if2 .left)) (omega arith) e,
+    )
 
 pub text-mode-spec : {M : Type 1} → Rattle.segments.proofs.text.text_mode.Statement.statement M
 text-mode-spec =

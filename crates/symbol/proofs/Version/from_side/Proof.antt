@@ -16,14 +16,16 @@ unfolding isSide sideRefusal sideVersion
 returns-3 c =
     let if1 = c .before .before .if1 in
     let if2 = c .before .if2 in
-    let h = ne-eqb (c .before .before .before .args .side % 2) 1 (λ z. omega arith) in (simp (le-leb _ _ (if1 .left), le-leb _ _ (if2 .left), h), simp (le-leb _ _ (if1 .left), le-leb _ _ (if2 .left), h))
+    let h = ne-eqb (c .before .before .before .args .side % 2) 1 (λ z. omega arith) in
+    (simp (le-leb _ _ (if1 .left), le-leb _ _ (if2 .left), h), simp (le-leb _ _ (if1 .left), le-leb _ _ (if2 .left), h))
 
 returns-4 : tie.Need-returns-4
 unfolding isSide sideRefusal sideVersion
 returns-4 c =
     let if1 = c .before .before .if1 in
     let if2 = c .before .if2 in
-    let h = eq-eqb (c .before .before .before .args .side % 2) 1 (omega arith) in (simp (le-leb _ _ (if1 .left), le-leb _ _ (if2 .left), h), simp (le-leb _ _ (if1 .left), le-leb _ _ (if2 .left), h))
+    let h = eq-eqb (c .before .before .before .args .side % 2) 1 (omega arith) in
+    (simp (le-leb _ _ (if1 .left), le-leb _ _ (if2 .left), h), simp (le-leb _ _ (if1 .left), le-leb _ _ (if2 .left), h))
 
 pub from-side-spec : {M : Type 1} → Rattle.symbol.proofs.Version.from_side.Statement.statement M
 from-side-spec = tie.close (tie.spec returns returns-2 returns-3 (λ c. search needs) returns-4)

@@ -41,7 +41,8 @@ finder-lines-requires-2 c κs =
 
 returns : tie.Need-returns
 returns c =
-    let start = c .before .before .before .before .before .before .before .before .before .before .before .before .before .before .before .before .before .before .before .before .before in
+    let start = c .before .before .before .before .before .before .before .before .before .before .before .before .before .before .before .before
+    .before .before .before .before .before in
     let run = c .before .before .before .before .before .before .before .before .before .before .before .before .before .before .before .before .before .before .run in
     let upper = c .before .before .before .before .before .before .before .before .before .before .before .before .before .before .finder-lines in
     let arm = c .before .before .before .before .before .before .before .before .before .before .information-line in

@@ -5,13 +5,27 @@ use Rattle.symbol.proofs.corners.finder_row.Tie as tie
 
 returns : tie.Need-returns
 returns c =
-    let start = c .before .before in
-    (c .finder-at .ensures .1, (λ l. c .finder-at .ensures .0 ∙ sym (upper-row (start .args .side) (start .args .right) (start .args .row) (c .before .if1 .taken)), λ e. absurd (omega (arith, edge-top (start .args .side) (start .args .row)))))
+    let start = c .before .before in (
+      c .finder-at .ensures .1,
+      (
+        λ l. c .finder-at .ensures .0
+            ∙ sym (upper-row (start .args .side) (start .args .right) (start .args .row)
+            (c .before .if1 .taken)),
+        λ e. absurd (omega (arith, edge-top (start .args .side) (start .args .row))),
+      ),
+    )
 
 returns-2 : tie.Need-returns-2
 returns-2 c =
-    let start = c .before .before .before in
-    (c .finder-at2 .ensures .1, (λ l. c .finder-at2 .ensures .0 ∙ sym (lower-row (start .args .side) (start .args .right) (start .args .row) (c .before .before .if1 .left)), λ e. absurd (omega (arith, edge-bottom (start .args .side) (start .args .row)))))
+    let start = c .before .before .before in (
+      c .finder-at2 .ensures .1,
+      (
+        λ l. c .finder-at2 .ensures .0
+            ∙ sym (lower-row (start .args .side) (start .args .right) (start .args .row)
+            (c .before .before .if1 .left)),
+        λ e. absurd (omega (arith, edge-bottom (start .args .side) (start .args .row))),
+      ),
+    )
 
 returns-3 : tie.Need-returns-3
 returns-3 c =

@@ -17,7 +17,8 @@ returns : tie.Need-returns Inv-loop μ-loop
 returns c =
     let start = c .before .before in
     let loop = c .before .loop in
-    let e : loop .i ≡ start .args .to = omega arith in subst (λ (n : ℕ). Stored (λ i. start .args .kind) (start .args .from) n (start .args .out .now) (loop .out)) e (loop .inv .0)
+    let e : loop .i ≡ start .args .to =
+    omega arith in subst (λ (n : ℕ). Stored (λ i. start .args .kind) (start .args .from) n (start .args .out .now) (loop .out)) e (loop .inv .0)
 
 pub run-spec : {M : Type 1} → Rattle.symbol.proofs.corners.run.Statement.statement M
 run-spec =

@@ -13,15 +13,20 @@ abbrev μ-loop : tie.MeasureT-loop
 loop-again : tie.Need-loop-again Inv-loop μ-loop
 loop-again c =
     let loop = c .before .before .before .loop in
-    let kind = c .before .before .before .before .before .args .kind in
-    (stored-more (loop .inv .1) (omega arith) (c .drawn .ensures ∙ ap (λ (a : ℕ). drawn a kind) (loop .inv .0 .after (loop .i) (omega arith))) (loop .inv .0), omega arith, omega arith)
+    let kind = c .before .before .before .before .before .args .kind in (
+      stored-more (loop .inv .1) (omega arith) (c .drawn .ensures ∙ ap (λ (a : ℕ). drawn a kind) (loop .inv .0 .after (loop .i) (omega arith)))
+          (loop .inv .0),
+      omega arith,
+      omega arith,
+    )
 
 returns : tie.Need-returns Inv-loop μ-loop
 returns c =
     let start = c .before .before .before in
     let loop = c .before .loop in
     let e : loop .i ≡ start .args .to = omega arith in
-    subst (λ (n : ℕ). Stored (λ j. drawn (getD (start .args .grid .now) j 0) (start .args .kind)) (start .args .from) n (start .args .grid .now) (loop .grid)) e (loop .inv .0)
+    subst (λ (n : ℕ). Stored (λ j. drawn (getD (start .args .grid .now) j 0) (start .args .kind)) (start .args .from) n (start .args .grid .now) (loop .grid)) e
+    (loop .inv .0)
 
 pub draw-spec : {M : Type 1} → Rattle.symbol.proofs.patterns.draw.Statement.statement M
 draw-spec =
