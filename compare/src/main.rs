@@ -39,8 +39,8 @@ struct Part {
 const PARTS: [Part; 4] = [
     Part {
         name: "blocks",
-        compare: block_table::compare,
-        record: block_table::record,
+        compare: blocks::compare,
+        record: blocks::record,
     },
     Part {
         name: "symbol",
@@ -63,7 +63,7 @@ const PARTS: [Part; 4] = [
 const BENCHES: [(&str, fn(&mut sheet::Sheet)); 6] = [
     ("read", squares::reading),
     ("write", squares::writing_speed),
-    ("blocks", block_table::bench),
+    ("blocks", blocks::bench),
     ("segments", segments::bench),
     ("symbol", symbol::bench),
     ("stack", |_| squares::stack()),

@@ -1,7 +1,7 @@
 //! The kinds of squares that are compared.
 use super::plan::{Block, Plan};
 use super::{Both, Mark, Reading, bad, record, writing};
-use crate::block_table::our_parity;
+use crate::blocks::our_parity;
 use crate::han_xin::{info_bits, nearest_info};
 use crate::tools::{Random, hex, same};
 use crate::written::Written;

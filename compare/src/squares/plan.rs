@@ -1,6 +1,6 @@
 //! A version's square by the original's tables: where its codewords, blocks and information lie, marks made without our writer, and
 //! why the original refuses a square.
-use crate::block_table::our_parity;
+use crate::blocks::our_parity;
 use crate::han_xin::{Module, access, info_bits, info_positions, layout, size};
 use crate::reed_solomon::gf256;
 use crate::written::Bits;
