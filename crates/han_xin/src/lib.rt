@@ -1,5 +1,5 @@
 // The operations on squares for a station program in C, on numbers and byte slices only (include/han_xin.h). What they mean stands in
-// squares/specs.
+// marks/specs.
 ghost use mathlib.Core.Path.{_≡_};
 ghost use Rattle.marks.specs.Read.{readingOf, readOf, readKnownOf};
 ghost use Rattle.marks.specs.Write.{writingOf, writeOf};

@@ -1,2 +1,2 @@
--- What inner functions say of each other: nobody has to believe it. What writing means stands in squares/specs.
+-- What inner functions say of each other: nobody has to believe it. What writing means stands in marks/specs.
 pub mod Inner
