@@ -95,7 +95,7 @@ fn remainders() -> Vec<usize> {
 }
 
 const THEIRS: &str = include_str!(concat!(env!("OUT_DIR"), "/han_xin.rs"));
-const SYMBOL: &str = include_str!("../../crates/symbol/src/lib.rt");
+const SYMBOL: &str = include_str!("../../crates/symbol/src/table.rt");
 const TABLE: &str = include_str!("../../crates/block_table/src/table.rt");
 const SOURCE: &str = include_str!("../../scripts/blocks.txt");
 
