@@ -4,7 +4,7 @@ use Rattle.general.proofs.Names.{add-zero, le-of-suc-le-suc, not-suc-le-zero, a
 use Rattle.general.proofs.Names.{length-drop, drop-drop, getD-take, getD-drop, getD-set-same, getD-set-other, ext-getD, length-take-le, ℕ-discrete}
 use Rattle.general.proofs.Finite.{and-left, and-right, upTo, every}
 use Rattle.block_table.specs.Table.{blocks, totals}
-use Rattle.block_table.specs.Blocks.{totalOf, rowAt, rowOf, Shape, size, batch, shapes, shapesOf, totalSize, blockHolds, rowHolds}
+use Rattle.block_table.specs.Blocks.{totalOf, rowOf, Shape, size, batch, shapes, shapesOf, totalSize, blockHolds, rowHolds}
 use Rattle.block_table.specs.Inner.{Sound, none, more}
 
 -- f holds of n rows of nine, counted from i
@@ -32,7 +32,7 @@ unfolding everyRow test rowHolds blockHolds shapes batch totalSize blocks totals
 passes = tt
 
 pub row-holds : (v level : ℕ) → 1 ≤ v → v ≤ 84 → level ≤ 3 → T (rowHolds (shapesOf v level) (totalOf v))
-unfolding shapesOf rowOf rowAt totalOf test
+unfolding shapesOf rowOf totalOf test
 row-holds v l lo hi le =
     let h : 4 * (v - 1) + l < 336 = omega arith in
     let q : (0 + (4 * (v - 1) + l)) / 4 ≡ v - 1 = omega arith in
@@ -57,7 +57,7 @@ total-open v lo hi = total-below 3 50 tt v lo (omega arith)
 
 -- a number of a row, in the table
 row-number : (v level n : ℕ) → n < 9 → getD blocks ((4 * (v - 1) + level) * 9 + n) 0 ≡ getD (rowOf v level) n 0
-unfolding rowOf rowAt
+unfolding rowOf
 row-number v level n h =
     let e : (4 * (v - 1) + level) * 9 + n ≡ 9 * (4 * (v - 1) + level) + n = omega arith in
     ap (λ (i : ℕ). getD blocks i 0) e ∙ sym (getD-take 9 (drop (9 * (4 * (v - 1) + level)) blocks) n 0 h ∙ getD-drop (9 * (4 * (v - 1) + level)) blocks n 0)
@@ -69,7 +69,7 @@ rows-length = refl
 -- a row copied number by number
 pub row-copied : (v level : ℕ) → 1 ≤ v → v ≤ 84 → level ≤ 3 → (r : List ℕ) → length r ≡ 9
     → ((k : ℕ) → k < 9 → getD r k 0 ≡ getD blocks ((4 * (v - 1) + level) * 9 + k) 0) → r ≡ rowOf v level
-unfolding rowOf rowAt
+unfolding rowOf
 row-copied v level lo hi le r l e =
     ext-getD 0 r (take 9 (drop (9 * (4 * (v - 1) + level)) blocks))
     (l ∙ sym (length-take-le 9 (drop (9 * (4 * (v - 1) + level)) blocks) (omega (arith, length-drop (9 * (4 * (v - 1) + level)) blocks, rows-length))))

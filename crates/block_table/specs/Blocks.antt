@@ -11,12 +11,9 @@ use Rattle.block_table.specs.Table.{blocks, totals}
 unfoldable pub totalOf : ℕ → ℕ
 totalOf v = getD totals (v - 1) 0
 
--- the row at place k of the table, and that of a version and level
-unfoldable pub rowAt : ℕ → List ℕ
-rowAt k = take 9 (drop (9 * k) blocks)
-
+-- the row of a version and level
 unfoldable pub rowOf : ℕ → ℕ → List ℕ
-rowOf v level = rowAt (4 * (v - 1) + level)
+rowOf v level = take 9 (drop (9 * (4 * (v - 1) + level)) blocks)
 
 -- The blocks of a row (7.2).
 

@@ -3,7 +3,7 @@ use Rattle.general.proofs.Names.{_≡_, refl, sym, ap, ap₂, subst, _∙_, Lis
 use Rattle.general.proofs.Names.{add-assoc, arith, length, take, drop, length-drop, take-append-drop, drop-drop, take-at, drop-at, take-take}
 use Rattle.general.proofs.Names.{length-take-le}
 use Rattle.reed_solomon.specs.Block.{parityOf}
-use Rattle.parity.specs.Encode.{withParity, writtenOf}
+use Rattle.parity.specs.Encode.{writtenOf}
 use Rattle.remainder.specs.Words.{Prepared}
 use Rattle.reed_solomon.proofs.Search.{Bytes}
 use Rattle.block_table.specs.Blocks.{Shape, size, batch, totalSize, totalData, cut, joined, dataParts, cutData}
@@ -15,6 +15,7 @@ use Rattle.blocks.proofs.Splice.{part-back, spliced-behind, spliced-mor
 use Rattle.blocks.proofs.Rule.{behind-next, batch-next, sum-append, sum-batch, sum-size, sum-info}
 use Rattle.blocks.proofs.Settle.{Coded}
 use Rattle.blocks.proofs.Written.{encoded-coded}
+use Rattle.parity.specs.Inner.{withParity}
 
 -- ---- some blocks behind others
 

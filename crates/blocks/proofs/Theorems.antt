@@ -9,12 +9,13 @@ use Rattle.block_table.specs.Blocks.{rowHolds, Shape, size, totalSize, totalDat
 use Rattle.block_table.specs.Inner.{Sound}
 use Rattle.block_table.proofs.Rows.{row-total}
 use Rattle.block_table.proofs.Cuts.{Shaped, cut-shaped, cut-joined, length-joined, data-back}
-use Rattle.blocks.specs.Blockwise.{firstRefused, countOf, blocksOf, corrected, leftOf, correctedData, withParities, streamOf, differences, blockAt}
+use Rattle.blocks.specs.Blockwise.{firstRefused, countOf, blocksOf, corrected, leftOf, withParities, streamOf, differences, blockAt}
 use Rattle.blocks.specs.Blockwise.{parityAt}
 use Rattle.blocks.proofs.Corrects.{block-facts, blocks-shaped, joined-size, left-behind}
 use Rattle.blocks.proofs.Rule.{cut-front}
 use Rattle.blocks.proofs.Settle.{Coded, lost-refused, each-settled, either, coded-shaped, coded-each}
 use Rattle.blocks.proofs.Written.{encoded-coded, joined-bytes}
+use Rattle.blocks.specs.Inner.{correctedData}
 
 -- The length of blocks that hold the rule of a row for a total is that total, so that they hold it for their own length.
 pub row-holds-own : (bs : List Shape) (total : ℕ) → T (rowHolds bs total) → (totalSize bs ≡ total) × T (rowHolds bs (totalSize bs))

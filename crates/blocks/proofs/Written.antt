@@ -4,7 +4,6 @@ use Rattle.general.proofs.Names.{length-drop, take-at, getD-drop, length-take-l
 use Rattle.field.proofs.Instances.{passes-163}
 use Rattle.reed_solomon.specs.Block.{isCodeword, parityOf}
 use Rattle.reed_solomon.proofs.Search.{Bytes}
-use Rattle.parity.specs.Encode.{withParity}
 use Rattle.parity.proofs.Followed.{append-bytes, take-bytes}
 use Rattle.parity.proofs.Theorems.{has-parity, parity-makes-codeword}
 use Rattle.block_table.specs.Blocks.{Shape, size, totalData, joined, cutData}
@@ -12,6 +11,7 @@ use Rattle.block_table.specs.Inner.{Sound, more}
 use Rattle.block_table.proofs.Cuts.{Begins}
 use Rattle.blocks.specs.Blockwise.{withParities}
 use Rattle.blocks.proofs.Settle.{Coded}
+use Rattle.parity.specs.Inner.{withParity}
 
 pub drop-bytes : (k : ℕ) (xs : List ℕ) → Bytes xs → Bytes (drop k xs)
 drop-bytes k xs b i = omega (arith, getD-drop k xs i 0, b (k + i))
@@ -20,7 +20,6 @@ drop-bytes k xs b i = omega (arith, getD-drop k xs i 0, b (k + i))
 block-written : (b : Shape) (d : List ℕ) → size b ≤ 255 → Bytes d → length d ≡ b .info
     → let w = withParity d (parityOf 0x163 1 (b .parity) d) in
     ((length w ≡ size b) × Bytes w × T (isCodeword 0x163 1 (b .parity) w)) × (take (b .info) w ≡ d)
-unfolding withParity
 block-written b d small bytes l =
     let r = has-parity 0x163 passes-163 1 (b .parity) d bytes (omega arith) in
     subst

@@ -1,14 +1,14 @@
 -- SPECIFICATION 7.5 and 11.3: each block of a stream corrected by itself, first to last, and each block of data given its parity. The
 -- field is that of 163 hex, the first root α^1.
 use mathlib.Core.Bool.{cond}
+use mathlib.Core.Option.{Option·getD}
 use mathlib.Core.List.{List, [], _∷_, _++_, map, foldr, zipWith}
 use Prim.Native.Nat.{ℕ, _+_}
 use lib.Dec.{eqb}
 use lib.ListN.{take, drop, getD}
 use Rattle.reed_solomon.specs.Block.{distance, parityOf}
 use Rattle.corrector.specs.Correct.{BlockOutcome, correctOf}
-use Rattle.parity.specs.Encode.{withParity}
-use Rattle.block_table.specs.Blocks.{Shape, size, cut, joined, dataParts, cutData}
+use Rattle.block_table.specs.Blocks.{Shape, size, cut, joined, cutData}
 use Rattle.blocks.specs.declared.Blocks.{Blocks}
 use Rattle.blocks.specs.declared.Blocks.the-variants.{Corrected, Refused}
 
@@ -39,13 +39,9 @@ leftOf (b ∷ bs) s =
     correctOf 0x163 1 (b .parity) (take (size b) s) .block
     ++ cond (eqb (correctOf 0x163 1 (b .parity) (take (size b) s) .number) 0) (leftOf bs (drop (size b) s)) (drop (size b) s)
 
--- the data parts of the corrected blocks, joined in block order
-abbrev pub correctedData : List Shape → List ℕ → List ℕ
-correctedData bs stream = dataParts bs (blocksOf (corrected bs stream))
-
--- each data part followed by its parity
+-- each data part followed by its parity; there always is one (7.3)
 unfoldable pub withParities : List Shape → List (List ℕ) → List (List ℕ)
-withParities bs ds = zipWith (λ b d. withParity d (parityOf 0x163 1 (b .parity) d)) bs ds
+withParities bs ds = zipWith (λ b d. d ++ Option·getD (parityOf 0x163 1 (b .parity) d) []) bs ds
 
 -- the stream of data codewords: cut into data parts, each followed by its parity, and joined
 abbrev pub streamOf : List Shape → List ℕ → List ℕ

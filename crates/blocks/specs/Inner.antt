@@ -8,11 +8,16 @@ use Rattle.reed_solomon.specs.Block.{parityOf}
 use Rattle.corrector.specs.Correct.{BlockOutcome, correctOf}
 use Rattle.corrector.specs.declared.Correction.{Correction}
 use Rattle.corrector.specs.declared.Correction.the-variants as Correction
-use Rattle.parity.specs.Encode.{withParity}
-use Rattle.block_table.specs.Blocks.{Shape, size, batch, shapes}
+use Rattle.block_table.specs.Blocks.{Shape, size, batch, shapes, dataParts}
+use Rattle.blocks.specs.Blockwise.{blocksOf, corrected}
 use Rattle.blocks.specs.declared.Batch.{Batch}
 use Rattle.blocks.specs.declared.Blocks.{Blocks}
 use Rattle.blocks.specs.declared.Blocks.the-variants.{Corrected, Refused}
+use Rattle.parity.specs.Inner.{withParity}
+
+-- the data parts of the corrected blocks of a stream, joined in block order
+abbrev pub correctedData : List Shape → List ℕ → List ℕ
+correctedData bs stream = dataParts bs (blocksOf (corrected bs stream))
 
 -- batch k of a row, and as it is read
 abbrev pub batchOf : List ℕ → ℕ → Batch

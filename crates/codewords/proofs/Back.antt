@@ -5,10 +5,10 @@ use Rattle.symbol.specs.Layout.{layoutOf}
 use Rattle.information.specs.Information.{infoWritten}
 use Rattle.information.proofs.Flips.{info-length, info-else}
 use Rattle.symbol.specs.Layout.{dataModules}
-use Rattle.bits.specs.Bits.{bitsOf}
+use Rattle.bits.specs.Bits.{bitsOf, firstWords}
 use Rattle.bits.proofs.Reading.{length-bits}
-use Rattle.codewords.specs.Codewords.{maskBit, codewordsOf, dataBits, placed, order, fromStream, toStream, squareOf}
-use Rattle.codewords.specs.Inner.{streamIn}
+use Rattle.codewords.specs.Codewords.{maskBit, dataBits, placed, order, fromStream, toStream}
+use Rattle.codewords.specs.Inner.{streamIn, squareOf}
 use Rattle.codewords.proofs.Bits.{Bytes, codewords-back}
 use Rattle.codewords.proofs.Interleave.{interleave-back, length-interleaved}
 use Rattle.codewords.proofs.Placement.{data-placed, length-placed, data-agree}
@@ -22,13 +22,11 @@ unfolding fromStream
 bytes-interleaved s h = bytes-map s (order (length s)) h
 
 pub length-square : (m : ℕ → ℕ) (ks s : List ℕ) → length (squareOf m ks s) ≡ length ks
-unfolding squareOf
 length-square m ks s = length-placed m 0 ks (bitsOf (fromStream s))
 
 -- any square with the data modules of the square of s
 pub stream-back : (m : ℕ → ℕ) (ks s sq : List ℕ) → ((i : ℕ) → getD s i 0 < 256) → 8 * length s ≤ dataModules ks → length sq ≡ length ks
     → ((p : ℕ) → p < length ks → getD ks p 0 ≡ 0 → getD sq p 0 ≡ getD (squareOf m ks s) p 0) → streamIn (length s) m ks sq ≡ s
-unfolding squareOf
 stream-back m ks s sq b h l a =
     let ds = bitsOf (fromStream s) in
     let R = dataBits m 0 ks (placed m 0 ks ds) in
@@ -36,8 +34,8 @@ stream-back m ks s sq b h l a =
     let e : dataBits m 0 ks sq ≡ R = data-agree m 0 ks sq (placed m 0 ks ds) (l ∙ sym (length-placed m 0 ks ds)) a in
     let f : take (length ds) R ≡ ds = data-placed m 0 ks ds (omega (arith, length-bits (fromStream s))) in
     let g : R ≡ ds ++ drop (length ds) R = sym (take-append-drop (length ds) R) ∙ ap (λ (x : List ℕ). x ++ drop (length ds) R) f in
-    let c : codewordsOf (length s) (dataBits m 0 ks sq) ≡ fromStream s =
-    ap₂ codewordsOf (sym n) (e ∙ g) ∙ codewords-back (fromStream s) (drop (length ds) R) (bytes-interleaved s b) in
+    let c : firstWords 8 (length s) (dataBits m 0 ks sq) ≡ fromStream s =
+    ap₂ (firstWords 8) (sym n) (e ∙ g) ∙ codewords-back (fromStream s) (drop (length ds) R) (bytes-interleaved s b) in
     ap toStream c ∙ interleave-back s
 
 -- the square of a version, with an information word written into it

@@ -2,20 +2,19 @@
 use Rattle.general.proofs.Names.{_≡_, refl, ap, ap₂, List, [], _∷_, _++_, flatMap, ℕ, zero, suc, _+_, _-_, _<_, arith, length, drop}
 use Rattle.bits.specs.Bits.{lowBits, bitsOf, wordBits, groups, firstWords}
 use Rattle.bits.proofs.Words.{value-low}
-use Rattle.codewords.specs.Codewords.{codewordsOf}
 
 -- each is a byte
 abbrev pub Bytes : List ℕ → Type 0
 Bytes [] = Unit {0}
 Bytes (b ∷ bs) = (b < 256) × Bytes bs
 
-pub length-codewords : (n : ℕ) (bs : List ℕ) → length (codewordsOf n bs) ≡ n
+pub length-codewords : (n : ℕ) (bs : List ℕ) → length (firstWords 8 n bs) ≡ n
 unfolding firstWords groups
 length-codewords zero bs = refl
 length-codewords (suc n) bs = ap suc (length-codewords n (drop 8 bs))
 
 -- bytes that were written as bits are read back, whatever follows
-pub codewords-back : (cs rest : List ℕ) → Bytes cs → codewordsOf (length cs) (bitsOf cs ++ rest) ≡ cs
+pub codewords-back : (cs rest : List ℕ) → Bytes cs → firstWords 8 (length cs) (bitsOf cs ++ rest) ≡ cs
 unfolding wordBits flatMap firstWords groups lowBits
 codewords-back [] rest h = refl
 codewords-back (c ∷ cs) rest h = ap₂ _∷_ (let e = value-low 8 0 c in omega arith) (codewords-back cs rest (h .1))

@@ -4,8 +4,9 @@ use Rattle.general.proofs.Names.{append-nil, ℕ, zero, suc, _+_, _-_, _*_, _/_
 use Rattle.general.proofs.Names.{replicate, length-set, length-replicate, length-map, length-append, take-append-drop, getD-set-same, getD-set-other}
 use Rattle.general.proofs.Names.{ext-getD, drop-cons, take-set-lt, drop-set-lt, take-suc-set, length-take-le, getD-take, take-all}
 use Rattle.bits.specs.Bits.{storeAt}
-use Rattle.codewords.specs.Codewords.{steps, starts, order, toStream, fromStream}
-use Rattle.codewords.specs.Inner.{into, outOf, moved, goneOn, Moving, Moves}
+use Rattle.codewords.specs.Codewords.{order, toStream, fromStream}
+use Rattle.codewords.specs.Inner.{into, outOf, moved, goneOn, Moving, Moves, steps, starts}
+use Rattle.general.specs.Lists.{each}
 
 -- p is one of ps
 abbrev pub Among : ℕ → List ℕ → Type 0
@@ -65,10 +66,39 @@ on-start n p r (suc j) h lo hi c = elim (ℕ-discrete (p % 13) r) [
   | no d ↦ among-right p (steps r ((n + 12 - r) / 13)) (starts n (suc r) j) (on-start n p (suc r) j h (omega arith) (omega arith) (omega arith))
 ]
 
+-- the code's way through the places
+steps-last : (p n : ℕ) → steps p (suc n) ≡ steps p n ++ ((p + 13 * n) ∷ [])
+unfolding steps
+steps-last p zero = ap (λ (x : ℕ). x ∷ []) (let e : p ≡ p + 13 * 0 = omega arith in e)
+steps-last p (suc n) = ap (λ (ps : List ℕ). p ∷ ps) (steps-last (p + 13) n
+    ∙ (let e : p + 13 + 13 * n ≡ p + 13 * suc n = omega arith in ap (λ (x : ℕ). steps (p + 13) n ++ (x ∷ [])) e))
+
+starts-last : (n s k : ℕ) → starts n s (suc k) ≡ starts n s k ++ steps (s + k) ((n + 12 - (s + k)) / 13)
+unfolding starts
+starts-last n s zero =
+    append-nil (steps s ((n + 12 - s) / 13)) ∙ (let e : s ≡ s + 0 = omega arith in ap (λ (x : ℕ). steps x ((n + 12 - x) / 13)) e)
+starts-last n s (suc k) =
+    ap (_++_ (steps s ((n + 12 - s) / 13))) (starts-last n (suc s) k
+    ∙ (let e : suc s + k ≡ s + suc k = omega arith in ap (λ (x : ℕ). starts n (suc s) k ++ steps x ((n + 12 - x) / 13)) e))
+    ∙ sym (append-assoc (steps s ((n + 12 - s) / 13)) (starts n (suc s) k) (steps (s + suc k) ((n + 12 - (s + suc k)) / 13)))
+
+steps-are : (p n : ℕ) → each n (λ i. (p + 13 * i) ∷ []) ≡ steps p n
+unfolding each steps
+steps-are p zero = refl
+steps-are p (suc n) = ap (λ (ps : List ℕ). ps ++ ((p + 13 * n) ∷ [])) (steps-are p n) ∙ sym (steps-last p n)
+
+starts-are : (n k : ℕ) → each k (λ s. each ((n + 12 - s) / 13) (λ i. (s + 13 * i) ∷ [])) ≡ starts n 0 k
+unfolding each starts
+starts-are n zero = refl
+starts-are n (suc k) = ap₂ _++_ (starts-are n k) (steps-are k ((n + 12 - k) / 13)) ∙ sym (starts-last n 0 k ∙ (let e : 0 + k ≡ k = omega arith in ap (λ (x : ℕ). starts n 0 k ++ steps x ((n + 12 - x) / 13)) e))
+
+order-is : (n : ℕ) → order n ≡ starts n 0 13
+unfolding order
+order-is n = starts-are n 13
+
 -- every place is one of the order's
 pub on-order : (n p : ℕ) → p < n → Among p (order n)
-unfolding order
-on-order n p h = on-start n p 0 13 h (omega arith) (omega arith) (omega arith)
+on-order n p h = subst (Among p) (sym (order-is n)) (on-start n p 0 13 h (omega arith) (omega arith) (omega arith))
 
 length-steps : (p k : ℕ) → length (steps p k) ≡ k
 unfolding steps
@@ -84,8 +114,7 @@ length-starts n r (suc j) e =
     ∙ omega arith
 
 pub length-order : (n : ℕ) → length (order n) ≡ n
-unfolding order
-length-order n = length-starts n 0 13 (omega arith) ∙ omega arith
+length-order n = ap length (order-is n) ∙ length-starts n 0 13 (omega arith) ∙ omega arith
 
 pub length-interleaved : (s : List ℕ) → length (fromStream s) ≡ length s
 unfolding fromStream
@@ -179,8 +208,9 @@ from n p s = steps p ((n + 12 - p) / 13) ++ later n s
 
 module _ (d : Bool) (cs : List ℕ) where
   move-begun : (out : List ℕ) → length out ≡ length cs → Moving d cs out (starts (length cs) 0 (13 - 0)) 0
-  unfolding order fromStream
-  move-begun out e = record { size = e; rest = omega (arith, length-order (length cs)); left = all d }
+  unfolding fromStream
+  move-begun out e =
+      subst (λ (ps : List ℕ). Moving d cs out ps 0) (order-is (length cs)) (record { size = e; rest = omega (arith, length-order (length cs)); left = all d })
     where
       all : (d : Bool) → goneOn d cs out (order (length cs)) 0 ≡ moved d cs
       all true = stream-from cs out e

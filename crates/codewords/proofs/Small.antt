@@ -3,8 +3,8 @@ use Rattle.general.proofs.Names.{sym, subst, List, [], _∷_, ℕ, zero, suc, _
 use Rattle.general.proofs.Names.{getD-replicate, length-replicate, List·getD-eq-default, getD-drop}
 use Rattle.symbol.proofs.KindsLow.{set-any}
 use Rattle.bits.specs.Bits.{bitsOf, groups, firstWords, storeAt}
-use Rattle.codewords.specs.Codewords.{codewordsOf, dataBits, placed, order, toStream, fromStream, squareOf}
-use Rattle.codewords.specs.Inner.{streamIn}
+use Rattle.codewords.specs.Codewords.{dataBits, placed, order, toStream, fromStream}
+use Rattle.codewords.specs.Inner.{streamIn, squareOf}
 use Rattle.bits.proofs.Reading.{value-bound, bit-lt}
 
 -- every element of a list is below n
@@ -37,7 +37,7 @@ module _ (m : ℕ → ℕ) (small : (i : ℕ) → m i < 2) where
 drop-below : (n k : ℕ) (xs : List ℕ) → Below n xs → Below n (drop k xs)
 drop-below n k xs h i = subst (λ (x : ℕ). x < n) (sym (getD-drop k xs i 0)) (h (k + i))
 
-pub codewords-below : (n : ℕ) (bs : List ℕ) → Below 2 bs → Below 256 (codewordsOf n bs)
+pub codewords-below : (n : ℕ) (bs : List ℕ) → Below 2 bs → Below 256 (firstWords 8 n bs)
 unfolding firstWords groups
 codewords-below zero bs h j = omega arith
 codewords-below (suc n) bs h zero = value-bound bs 8 0 0 h (omega arith)
@@ -59,11 +59,10 @@ zeros-below k i = elim (decLt i k) [
 pub stream-below : (total : ℕ) (m : ℕ → ℕ) (ks sq : List ℕ) → ((i : ℕ) → m i < 2) → Below 2 sq → Below 256 (streamIn total m ks sq)
 unfolding toStream
 stream-below total m ks sq small h =
-    let cs = codewordsOf total (dataBits m 0 ks sq) in
+    let cs = firstWords 8 total (dataBits m 0 ks sq) in
     store-below 256 (order (length cs)) cs (replicate (length cs) 0) (codewords-below total (dataBits m 0 ks sq) (data-below m small 0 ks sq h))
     (zeros-below (length cs))
 
 -- the square of a stream has bits
 pub square-below : (m : ℕ → ℕ) (ks s : List ℕ) → ((i : ℕ) → m i < 2) → Below 2 (squareOf m ks s)
-unfolding squareOf
 square-below m ks s small = placed-below m small 0 ks (bitsOf (fromStream s)) (bit-lt (fromStream s))

@@ -4,8 +4,8 @@ use Rattle.symbol.specs.Version.{sideOf}
 use Rattle.symbol.specs.Layout.{layoutOf}
 use Rattle.information.specs.Information.{infoWritten}
 use Rattle.symbol.specs.Layout.{dataModules}
-use Rattle.codewords.specs.Codewords.{maskBit, toStream, fromStream, squareOf}
-use Rattle.codewords.specs.Inner.{streamIn}
+use Rattle.codewords.specs.Codewords.{maskBit, toStream, fromStream}
+use Rattle.codewords.specs.Inner.{streamIn, squareOf}
 use Rattle.codewords.proofs.Interleave as interleave
 use Rattle.codewords.proofs.Back as back
 use Rattle.codewords.proofs.Small as small

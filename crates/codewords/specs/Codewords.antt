@@ -1,9 +1,10 @@
 -- SPECIFICATION 6 (han_xin.rs: `masked`, first half of `decode_data`): from a square to its stream of codewords, and back.
-use mathlib.Core.List.{List, [], _∷_, _++_, map}
-use Prim.Native.Nat.{ℕ, zero, suc, _+_, _-_, _/_, _%_}
+use mathlib.Core.List.{List, [], _∷_, map}
+use Prim.Native.Nat.{ℕ, zero, suc, _+_, _-_, _*_, _/_, _%_}
 use lib.Bits.{bitXor}
-use Rattle.bits.specs.Bits.{bitsOf, firstWords, storeAt}
 use lib.ListN.{length, getD, replicate}
+use Rattle.general.specs.Lists.{each}
+use Rattle.bits.specs.Bits.{storeAt}
 
 -- Masks (6.1): 1 where the module is inverted.
 
@@ -17,10 +18,6 @@ maskAt (suc (suc (suc mask))) i j = 1 - (i % j + j % i + i % 3 + j % 3) % 2
 -- the mask at a place of a square of side s
 unfoldable pub maskBit : ℕ → ℕ → ℕ → ℕ
 maskBit s mask at = maskAt mask (at / s + 1) (at % s + 1)
-
--- the first n codewords of bits, high bit first
-abbrev pub codewordsOf : ℕ → List ℕ → List ℕ
-codewordsOf n bs = firstWords 8 n bs
 
 -- Placement (6.2, 6.3): kinds are those of the layout, 0 data, 1 information, 2 light, 3 dark; m is the mask by place, i the first place.
 
@@ -42,19 +39,9 @@ placed m i (suc (suc (suc k)) ∷ ks) ds = 1 ∷ placed m (suc i) ks ds
 
 -- Interleave (6.4): the codewords of a square go to stream places 0, 13, 26, .., then 1, 14, .. up to start 12.
 
--- n places from p on, 13 apart
-unfoldable pub steps : ℕ → ℕ → List ℕ
-steps p zero = []
-steps p (suc n) = p ∷ steps (p + 13) n
-
--- the places below total from k starts: start, start + 1, ..
-unfoldable pub starts : ℕ → ℕ → ℕ → List ℕ
-starts total start zero = []
-starts total start (suc k) = steps start ((total + 12 - start) / 13) ++ starts total (suc start) k
-
--- the stream place of each codeword
+-- the stream place of each codeword: from each start those below the total, 13 apart
 unfoldable pub order : ℕ → List ℕ
-order total = starts total 0 13
+order total = each 13 (λ start. each ((total + 12 - start) / 13) (λ i. (start + 13 * i) ∷ []))
 
 -- the stream of the codewords of a square, and the codewords of a stream
 unfoldable pub toStream : List ℕ → List ℕ
@@ -62,7 +49,3 @@ toStream cs = storeAt (order (length cs)) cs (replicate (length cs) 0)
 
 unfoldable pub fromStream : List ℕ → List ℕ
 fromStream s = map (λ p. getD s p 0) (order (length s))
-
--- the square of a stream
-unfoldable pub squareOf : (ℕ → ℕ) → List ℕ → List ℕ → List ℕ
-squareOf m ks s = placed m 0 ks (bitsOf (fromStream s))

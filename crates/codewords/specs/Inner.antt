@@ -1,15 +1,27 @@
 -- What only proofs and the contracts of inner functions cite. Nobody has to believe it: the records say where a loop or a call stands.
 use mathlib.Core.Path.{_≡_}
 use mathlib.Core.Bool.{Bool, true, false}
-use mathlib.Core.List.{List, _++_, map}
-use Prim.Native.Nat.{ℕ, _+_, _-_, _≤_}
+use mathlib.Core.List.{List, [], _∷_, _++_, map}
+use Prim.Native.Nat.{ℕ, zero, suc, _+_, _-_, _/_, _≤_}
 use lib.ListN.{length, getD, take, drop}
-use Rattle.bits.specs.Bits.{storeAt}
-use Rattle.codewords.specs.Codewords.{codewordsOf, dataBits, starts, toStream, fromStream}
+use Rattle.bits.specs.Bits.{bitsOf, firstWords, storeAt}
+use Rattle.codewords.specs.Codewords.{placed, dataBits, toStream, fromStream}
 
--- the stream of a square
+-- the square of a stream, and the stream of a square
+abbrev pub squareOf : (ℕ → ℕ) → List ℕ → List ℕ → List ℕ
+squareOf m ks s = placed m 0 ks (bitsOf (fromStream s))
+
 abbrev pub streamIn : ℕ → (ℕ → ℕ) → List ℕ → List ℕ → List ℕ
-streamIn total m ks sq = toStream (codewordsOf total (dataBits m 0 ks sq))
+streamIn total m ks sq = toStream (firstWords 8 total (dataBits m 0 ks sq))
+
+-- n places from p on, 13 apart; and those below total from k starts on, which the code takes one after the other
+unfoldable pub steps : ℕ → ℕ → List ℕ
+steps p zero = []
+steps p (suc n) = p ∷ steps (p + 13) n
+
+unfoldable pub starts : ℕ → ℕ → ℕ → List ℕ
+starts total start zero = []
+starts total start (suc k) = steps start ((total + 12 - start) / 13) ++ starts total (suc start) k
 
 -- Codewords move to the stream (true) or out of it (false). With i codewords moved, the next is number i at the stream place p: where it
 -- goes and where it comes from.

@@ -8,9 +8,9 @@ use Rattle.bits.proofs.Bytes.{words-bits}
 use Rattle.segments.specs.Script.{Segment, run, eci}
 use Rattle.script.specs.declared.Command.{Command}
 use Rattle.script.specs.declared.Command.the-variants.{Run, Eci, Wrong}
-use Rattle.script.specs.Writer.{has, encodingOf, allHave, encodings}
-use Rattle.script.specs.Check.{commands, commandsOf, scriptData}
-use Rattle.script.specs.Inner.{commandAt, commandSize, with, Fits}
+use Rattle.script.specs.Writer.{has, encodingOf, encodings}
+use Rattle.script.specs.Check.{commands, commandsOf}
+use Rattle.script.specs.Inner.{commandAt, commandSize, with, Fits, allHave, scriptData}
 use Rattle.script.proofs.Tests.{both}
 use Rattle.script.proofs.Checks.{run-bounds, eci-bounds, at-wrong, at-eci, at-short, at-run}
 use Rattle.encoding.specs.Written.{Written}
@@ -71,7 +71,7 @@ module _ {s p : List ℕ} {n : ℕ} {t : List ℕ} {i j a : ℕ} {c : Command} (
 
   split : (g : Segment) (x y : ℕ) (z : Option (List Segment)) → commands (d .fuel - 1) (drop (i + x) s) (drop (j + y) p) ≡ z
       → with g z ≡ some (d .rest) → 0 < x → i + x ≤ length s → y ≤ length p - j → Next s p n t i j a g x y
-  unfolding allHave encodings flatMap
+  unfolding encodings flatMap
   split g x y none q f b k m = never cc
   split g x y (some hs) q f b k m =
       let r : d .rest ≡ g ∷ hs = cc in

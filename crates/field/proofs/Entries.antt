@@ -1,25 +1,13 @@
 -- What stands in the table of a field: logarithms and powers, and so products and quotients. Assumes nothing.
-use Rattle.general.proofs.Names.{_≡_, refl, sym, ap, _∙_, subst, List, [], _∷_, _++_, ℕ, zero, suc, _+_, _-_, _*_, _%_, _^_, _≤_, _<_, arith, ℕ-discrete}
-use Rattle.general.proofs.Names.{decLt, T, bitXor, xor-block, xor-zero-l, xor-self, length, getD, replicate, length-append, getD-replicate}
-use Rattle.general.proofs.Names.{List·getD-append, getD-append-add, getD-append-seam}
+use Rattle.general.proofs.Names.{_≡_, refl, sym, ap, _∙_, subst, List, _++_, ℕ, zero, suc, _+_, _-_, _*_, _%_, _^_, _≤_, _<_, arith, ℕ-discrete}
+use Rattle.general.proofs.Names.{decLt, T, bitXor, xor-block, xor-zero-l, xor-self, length, getD, replicate, getD-replicate}
+use Rattle.general.proofs.Names.{List·getD-append, getD-append-add}
 use Rattle.field.specs.Field.{raised, timesAlpha, power, powers, log, times, mul, orderTest}
-use Rattle.field.specs.Table.{each, logEntry, tableOf, polyOf, Field}
+use Rattle.field.specs.Table.{logEntry, tableOf, polyOf, Field}
 use Rattle.field.proofs.Field.{Passes, passes, powers-length, powers-at, power-lt, power-log, mul-power, mul-comm, mul-assoc, mul-inverse}
 use Rattle.field.proofs.Field.{mul-one, times-zero}
-
-pub each-length : (n : ℕ) (f : ℕ → ℕ) → length (each n f) ≡ n
-unfolding each
-each-length zero f = refl
-each-length (suc n) f = length-append (each n f) (f n ∷ []) ∙ omega (arith, each-length n f)
-
-pub each-at : (n : ℕ) (f : ℕ → ℕ) (i : ℕ) → i < n → getD (each n f) i 0 ≡ f i
-unfolding each
-each-at zero f i h = absurd (omega arith)
-each-at (suc n) f i h = elim (ℕ-discrete i n) [
-  | yes e ↦ (let s : i ≡ length (each n f) = omega (arith, each-length n f) in
-      ap (λ (k : ℕ). getD (each n f ++ (f n ∷ [])) k 0) s ∙ getD-append-seam (each n f) (f n) [] 0 ∙ ap f (sym e))
-  | no d ↦ List·getD-append (each n f) (f n ∷ []) 0 i (omega (arith, each-length n f)) ∙ each-at n f i (omega arith)
-]
+use Rattle.general.specs.Each.{table}
+use Rattle.general.proofs.Lists.{length-table, getD-table}
 
 pub mul-left-zero : (poly b : ℕ) → mul poly 0 b ≡ 0
 unfolding mul times
@@ -33,9 +21,9 @@ mul-right-zero poly a = times-zero poly (a % 256)
 behind : (poly n : ℕ) → getD (tableOf poly) (256 + n) 0 ≡ getD (powers poly 510 1 ++ replicate 514 0) n 0
 unfolding tableOf
 behind poly n =
-    (let e : 256 + n ≡ length (each 256 (logEntry poly)) + n = omega (arith, each-length 256 (logEntry poly)) in
-    ap (λ (k : ℕ). getD (each 256 (logEntry poly) ++ (powers poly 510 1 ++ replicate 514 0)) k 0) e)
-    ∙ getD-append-add (each 256 (logEntry poly)) (powers poly 510 1 ++ replicate 514 0) n 0
+    (let e : 256 + n ≡ length (table 256 (logEntry poly)) + n = omega (arith, length-table 256 (logEntry poly)) in
+    ap (λ (k : ℕ). getD (table 256 (logEntry poly) ++ (powers poly 510 1 ++ replicate 514 0)) k 0) e)
+    ∙ getD-append-add (table 256 (logEntry poly)) (powers poly 510 1 ++ replicate 514 0) n 0
 
 table-power : (poly n : ℕ) → n < 510 → getD (tableOf poly) (256 + n) 0 ≡ power poly n
 table-power poly n h =
@@ -60,8 +48,8 @@ module _ (t : List ℕ) (F : Field t) where
   unfolding tableOf
   log-at a h =
       ap (λ (x : List ℕ). getD x a 0) (F .is)
-      ∙ List·getD-append (each 256 (logEntry poly)) ((powers poly 510 1 ++ replicate 514 0)) 0 a (omega (arith, each-length 256 (logEntry poly)))
-      ∙ each-at 256 (logEntry poly) a h
+      ∙ List·getD-append (table 256 (logEntry poly)) ((powers poly 510 1 ++ replicate 514 0)) 0 a (omega (arith, length-table 256 (logEntry poly)))
+      ∙ getD-table 256 (logEntry poly) a h
 
   pub log-zero : getD t 0 0 ≡ 510
   unfolding logEntry

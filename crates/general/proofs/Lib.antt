@@ -2,4 +2,5 @@
 pub mod Names
 pub mod Finite
 pub mod Xor
+pub mod Lists
 pub mod Each

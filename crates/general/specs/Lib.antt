@@ -1,2 +1,3 @@
--- What inner functions of several crates say. Nobody has to believe it.
+-- Words of definitions, and what inner functions of several crates say.
+pub mod Lists
 pub mod Each

@@ -4,7 +4,7 @@ use Rattle.general.proofs.Names.{arith, T, eqb, ltb, leb, eqb→eq, leb→le, l
 use Rattle.general.proofs.Names.{xor-zero-r, getD, ltb-true, ltb-false, eqb-true, eqb-false}
 use lib.Pow.{shr-lt}
 use lib.Count.{ones, onesIn, ones-step}
-use Rattle.information.specs.Information.{timesX, plusIfOdd, productFrom, gf16Mul, generatorTimes, remainder, wordOf, infoData, infoBits, wordAt}
+use Rattle.information.specs.Information.{timesX, productFrom, gf16Mul, generatorTimes, remainder, wordOf, infoBits, wordAt}
 use Rattle.information.specs.Information.{wordDistance, leastOf, nearestWord}
 use Rattle.information.specs.Inner.{differences}
 use Rattle.general.proofs.Xor.{xor-assoc, triangle}
@@ -12,15 +12,15 @@ use Rattle.general.proofs.Finite.{upTo, every}
 
 -- tests that antt computes: `generatorTimes` is linear and small, and 15 differences
 linear : T (upTo (λ n. eqb (generatorTimes (bitXor (n / 16) (n % 16))) (bitXor (generatorTimes (n / 16)) (generatorTimes (n % 16)))) 256)
-unfolding generatorTimes gf16Mul productFrom plusIfOdd timesX
+unfolding generatorTimes gf16Mul productFrom timesX
 linear = tt
 
 small : T (upTo (λ n. ltb (generatorTimes n) 65536) 16)
-unfolding generatorTimes gf16Mul productFrom plusIfOdd timesX
+unfolding generatorTimes gf16Mul productFrom timesX
 small = tt
 
 nine : T (upTo (λ n. eqb n 0 || leb 9 (onesIn 34 ((n * 65536 + generatorTimes n) * 64))) 16)
-unfolding generatorTimes gf16Mul productFrom plusIfOdd timesX onesIn
+unfolding generatorTimes gf16Mul productFrom timesX onesIn
 nine = tt
 
 generator-xor : (a b : ℕ) → a < 16 → b < 16 → generatorTimes (bitXor a b) ≡ bitXor (generatorTimes a) (generatorTimes b)
@@ -70,7 +70,7 @@ module _ (v : ℕ) (hi : v ≤ 84) where
   begun-lt = remainder-lt (remainder 0 ((v + 20) / 16)) ((v + 20) % 16) (remainder-lt 0 ((v + 20) / 16) (lit< tt) (omega arith)) (omega arith)
 
   pub word-at : (k : ℕ) → k < 16 → wordAt v k ≡ wordOf ((v + 20) * 16 + k)
-  unfolding wordAt infoBits infoData
+  unfolding wordAt infoBits
   word-at k h = let e : (v + 20) * 16 + k / 4 * 4 + k % 4 ≡ (v + 20) * 16 + k = omega arith in ap wordOf e
 
   word-last : (k : ℕ) → k < 16 → wordAt v k ≡ (((v + 20) * 16 + k) * 65536 + remainder begun k) * 64
@@ -186,7 +186,7 @@ word-difference v k hi h =
 
 -- the table of these differences: a test that antt computes
 differences-all : T (upTo (λ k. eqb (getD differences k 0) ((k * 65536 + generatorTimes k) * 64)) 16)
-unfolding differences generatorTimes gf16Mul productFrom plusIfOdd timesX
+unfolding differences generatorTimes gf16Mul productFrom timesX
 differences-all = tt
 
 pub difference-is : (k : ℕ) → k < 16 → getD differences k 0 ≡ (k * 65536 + generatorTimes k) * 64

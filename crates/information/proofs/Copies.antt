@@ -2,8 +2,8 @@
 use Rattle.general.proofs.Names.{_≡_, refl, sym, ap, ap₂, subst, _∙_, Bool, true, false, List, ℕ, zero, suc, _+_, _-_, _*_, _^_, _<_, _≤_, mul-le-mul}
 use Rattle.general.proofs.Names.{pow-suc, add-one, arith, lit<, set}
 use lib.Pow.{pow-mono}
-use Rattle.information.specs.Information.{positionRow, positionColumn, infoPosition, copyWritten}
-use Rattle.information.specs.Inner.{ArmWritten, numberFrom, bitOf, stored, bitsWritten}
+use Rattle.information.specs.Information.{positionRow, positionColumn, infoPosition}
+use Rattle.information.specs.Inner.{ArmWritten, numberFrom, bitOf, stored, bitsWritten, copyWritten}
 use Rattle.information.proofs.Read.{copy-written}
 use Rattle.information.proofs.Distinct.{row-lt, place-lt}
 

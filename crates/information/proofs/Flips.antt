@@ -5,8 +5,8 @@ use lib.Count.{ones}
 use Rattle.symbol.specs.Version.{sideOf}
 use Rattle.symbol.specs.Layout.{layoutOf}
 use Rattle.symbol.proofs.Theorems.{layout-length}
-use Rattle.information.specs.Information.{wordAt, wordDistance, nearestWord, infoPosition, copyOf, copyWritten, infoWritten, infoFlips}
-use Rattle.information.specs.Inner.{moduleOf, stored}
+use Rattle.information.specs.Information.{wordAt, wordDistance, nearestWord, infoPosition, copyOf, infoWritten, infoFlips}
+use Rattle.information.specs.Inner.{moduleOf, stored, copyWritten}
 use Rattle.information.proofs.Apart.{few-flips}
 use Rattle.information.proofs.Read.{copy-is, stored-length, stored-else, copy-length, copy-else, copy-bits, differing, distance-is, round, round-first}
 use Rattle.information.proofs.Distinct.{place-same, place-other}

@@ -1,8 +1,8 @@
 -- Laws of the gf16Mul in GF(16).
 use Rattle.general.proofs.Names.{_≡_, refl, sym, ap, ap₂, subst, _∙_, ℕ, suc, _+_, _-_, _*_, _/_, _<_, _≤_, _%_, add-one, Bool, true, false, cond, arith}
 use Rattle.general.proofs.Names.{ltb→lt, ltb, bitXor}
-use Rattle.information.specs.Information.{leastOf, timesX, plusIfOdd, productFrom, generatorTimes, remainder}
-use Rattle.information.specs.Inner.{Found}
+use Rattle.information.specs.Information.{leastOf, timesX, productFrom, generatorTimes, remainder}
+use Rattle.information.specs.Inner.{Found, plusIfOdd}
 use Rattle.information.specs.declared.Best.{Best}
 use Rattle.general.proofs.Finite.{every}
 

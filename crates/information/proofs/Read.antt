@@ -5,11 +5,11 @@ use Rattle.general.proofs.Names.{getD-set-same, getD-set-other}
 use lib.Count.{ones, ones-step}
 use Rattle.bits.specs.Bits.{lowBits, value, storeAt}
 use Rattle.bits.proofs.Words.{low-back}
-use Rattle.symbol.specs.Layout.{each}
 use Rattle.symbol.proofs.KindsLow.{set-any}
-use Rattle.information.specs.Information.{infoPosition, positions, copyOf, copyWritten}
-use Rattle.information.specs.Inner.{moduleOf, numberFrom, bitOf, stored, bitsWritten}
+use Rattle.information.specs.Information.{infoPosition, positions, copyOf}
+use Rattle.information.specs.Inner.{moduleOf, numberFrom, bitOf, stored, bitsWritten, copyWritten}
 use Rattle.information.proofs.Distinct.{place-lt, place-same, place-other}
+use Rattle.general.specs.Lists.{each}
 
 -- what a copy says, and what is written into one, turn by turn
 pub copy-is : (s : ℕ) (b : Bool) (g : List ℕ) → copyOf s b g ≡ numberFrom (moduleOf s b g) 34
@@ -17,7 +17,7 @@ unfolding copyOf positions each value numberFrom
 copy-is s b g = refl
 
 pub copy-written : (s : ℕ) (b : Bool) (w : ℕ) (g : List ℕ) → copyWritten s b w g ≡ bitsWritten s b w 34 g
-unfolding copyWritten positions each lowBits storeAt stored bitOf
+unfolding positions each lowBits storeAt stored bitOf
 copy-written s b w g = refl
 
 number-same : (f h : ℕ → ℕ) (n : ℕ) → ((k : ℕ) → k < n → f k ≡ h k) → numberFrom f n ≡ numberFrom h n

@@ -9,11 +9,11 @@ use lib.Count.{ones}
 use lib.ListN.{getD}
 use Rattle.bits.specs.Bits.{value, lowBits, storeAt}
 use Rattle.symbol.specs.Version.{isVersion}
-use Rattle.symbol.specs.Layout.{each}
 use Rattle.information.specs.declared.InfoBits.{InfoBits}
 use Rattle.information.specs.declared.InfoBits.the-variants as bits
 use Rattle.information.specs.declared.NearestInfo.{NearestInfo}
 use Rattle.information.specs.declared.NearestInfo.the-variants as near
+use Rattle.general.specs.Lists.{each}
 
 -- The word of a version, level and mask (5.1, 5.2).
 
@@ -21,14 +21,10 @@ use Rattle.information.specs.declared.NearestInfo.the-variants as near
 unfoldable pub timesX : ℕ → ℕ
 timesX a = cond (ltb (2 * a) 16) (2 * a) (bitXor (2 * a) 0x13)
 
--- p, plus a where b is odd
-unfoldable pub plusIfOdd : ℕ → ℕ → ℕ → ℕ
-plusIfOdd p a b = cond (eqb (b % 2) 1) (bitXor p a) p
-
--- p, plus a times the n lowest bits of b
+-- p, plus a times the n lowest bits of b: a is added where b is odd
 unfoldable pub productFrom : ℕ → ℕ → ℕ → ℕ → ℕ
 productFrom zero p a b = p
-productFrom (suc n) p a b = productFrom n (plusIfOdd p a b) (timesX a) (b / 2)
+productFrom (suc n) p a b = productFrom n (cond (eqb (b % 2) 1) (bitXor p a) p) (timesX a) (b / 2)
 
 -- the product in GF(16)
 unfoldable pub gf16Mul : ℕ → ℕ → ℕ
@@ -46,12 +42,9 @@ remainder r nibble = bitXor (r % 4096 * 16) (generatorTimes (bitXor nibble (r / 
 unfoldable pub wordOf : ℕ → ℕ
 wordOf d = (d * 65536 + remainder (remainder (remainder 0 (d / 256)) (d / 16 % 16)) (d % 16)) * 64
 
--- the 12 bits v + 20, level, mask
-unfoldable pub infoData : ℕ → ℕ → ℕ → ℕ
-infoData v level mask = (v + 20) * 16 + level * 4 + mask
-
+-- of the 12 bits v + 20, level, mask
 unfoldable pub infoBits : ℕ → ℕ → ℕ → ℕ
-infoBits v level mask = wordOf (infoData v level mask)
+infoBits v level mask = wordOf ((v + 20) * 16 + level * 4 + mask)
 
 -- SPECIFICATION 10.3, Information word. 1: version, level or mask outside its range; 0, and the word beside it.
 unfoldable pub isInfo : ℕ → ℕ → ℕ → Bool
@@ -127,12 +120,9 @@ positions s second = each 34 (λ n. infoPosition s second n ∷ [])
 unfoldable pub copyOf : ℕ → Bool → List ℕ → ℕ
 copyOf s second g = value 0 (map (λ p. getD g p 0) (positions s second))
 
--- a word written into a copy, and into both
-unfoldable pub copyWritten : ℕ → Bool → ℕ → List ℕ → List ℕ
-copyWritten s second w g = storeAt (positions s second) (lowBits 34 w) g
-
+-- a word written into both copies
 unfoldable pub infoWritten : ℕ → ℕ → List ℕ → List ℕ
-infoWritten s w g = copyWritten s true w (copyWritten s false w g)
+infoWritten s w g = storeAt (positions s true) (lowBits 34 w) (storeAt (positions s false) (lowBits 34 w) g)
 
 -- how many information modules of two squares differ, by the layout's kinds
 unfoldable pub infoFlips : List ℕ → List ℕ → List ℕ → ℕ

@@ -1,10 +1,13 @@
 -- What only inner functions use. Nobody has to believe it.
 use mathlib.Core.Path.{_≡_}
-use mathlib.Core.Bool.{Bool}
+use mathlib.Core.Bool.{Bool, cond}
 use mathlib.Core.List.{List, [], _∷_}
 use Prim.Native.Nat.{ℕ, zero, suc, _+_, _-_, _*_, _/_, _%_, _^_, _<_}
+use lib.Dec.{eqb}
+use lib.Bits.{bitXor}
 use lib.ListN.{getD, set}
-use Rattle.information.specs.Information.{infoPosition}
+use Rattle.bits.specs.Bits.{lowBits, storeAt}
+use Rattle.information.specs.Information.{infoPosition, positions}
 use Rattle.information.specs.declared.Best.{Best}
 
 -- by which bits word k of a version differs from its word 0: the same for every version, since the code is linear
@@ -13,11 +16,19 @@ differences =
     0x0 ∷ 0x7721C0 ∷ 0xA6CF80 ∷ 0xD1EE40 ∷ 0x1055BC0 ∷ 0x1727A00 ∷ 0x1A39440 ∷ 0x1D4B580 ∷ 0x20AB340 ∷ 0x27D9280 ∷ 0x2AC7CC0 ∷ 0x2DB5D00 ∷ 0x30FE880
     ∷ 0x378C940 ∷ 0x3A92700 ∷ 0x3DE06C0 ∷ []
 
+-- p, plus a where b is odd
+abbrev pub plusIfOdd : ℕ → ℕ → ℕ → ℕ
+plusIfOdd p a b = cond (eqb (b % 2) 1) (bitXor p a) p
+
 -- the word found so far is k, at distance d k
 pub record Found (d : ℕ → ℕ) (k : ℕ) (b : Best) : Type 0 where
   pub word-is : b .word ≡ k
   pub at : b .distance ≡ d k
   pub small : b .word < 16
+
+-- a word written into a copy
+abbrev pub copyWritten : ℕ → Bool → ℕ → List ℕ → List ℕ
+copyWritten s second w g = storeAt (positions s second) (lowBits 34 w) g
 
 -- module n of a copy in a square
 abbrev pub moduleOf : ℕ → Bool → List ℕ → ℕ → ℕ

@@ -7,8 +7,8 @@ ghost use lib.Dec.{ltb};
 ghost use lib.Bits.{bitXor};
 ghost use lib.Count.{ones};
 ghost use lib.ListN.{length, getD};
-ghost use Rattle.information.specs.Information.{timesX, plusIfOdd, gf16Mul, generatorTimes, remainder, wordOf, wordDistance, nearestWord, positionRow, positionColumn, infoPosition, copyOf, copyWritten, infoWritten, isInfo, infoOf, infoAnswer, nearestOf, nearestAnswer};
-ghost use Rattle.information.specs.Inner.{Found, ArmWritten, moduleOf, numberFrom, bitOf};
+ghost use Rattle.information.specs.Information.{timesX, gf16Mul, generatorTimes, remainder, wordOf, wordDistance, nearestWord, positionRow, positionColumn, infoPosition, copyOf, infoWritten, isInfo, infoOf, infoAnswer, nearestOf, nearestAnswer};
+ghost use Rattle.information.specs.Inner.{Found, ArmWritten, moduleOf, numberFrom, bitOf, plusIfOdd, copyWritten};
 use symbol::Version;
 
 // What operation Information word answers.

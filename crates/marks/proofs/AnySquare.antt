@@ -12,20 +12,22 @@ use Rattle.block_table.specs.Blocks.{Shape, shapesOf, totalSize, cut, dataParts
 use Rattle.block_table.specs.Inner.{Sound}
 use Rattle.block_table.proofs.Cuts.{Shaped, cut-shaped}
 use Rattle.block_table.proofs.Theorems.{shapes-total, shapes-sound}
-use Rattle.blocks.specs.Blockwise.{firstRefused, countOf, blocksOf, corrected, correctedData, blockAt, parityAt}
+use Rattle.blocks.specs.Blockwise.{firstRefused, countOf, blocksOf, corrected, blockAt, parityAt}
 use Rattle.blocks.proofs.Corrects.{blocks-shaped}
 use Rattle.blocks.proofs.Settle.{block-small, at-settled}
 use Rattle.blocks.proofs.Theorems as blocks
 use Rattle.segments.specs.Segments.{segmentsOf}
 use Rattle.segments.specs.Script.{Segment, payloadOf, scriptOf}
 use Rattle.segments.specs.FromData.{DataOutcome as Given, refusedData as refusedData, inBuffers, isBroken, fromData}
-use Rattle.marks.specs.Read.{Reading, refused, unless, levelIn, maskIn, distanceIn, streamFrom, blocksIn, readRefusal, knownRefusal}
+use Rattle.marks.specs.Read.{Reading, refused, unless, streamFrom, blocksIn, readRefusal, knownRefusal}
 use Rattle.marks.specs.Read.{told, bodyOf, withReceipt, readOf, readKnownOf}
 use Rattle.marks.specs.Promise.{InReach, EachInReach, setTo, correctionsAt}
 use Rattle.marks.proofs.Modules.{stream-length}
 use Rattle.marks.proofs.Refusals.{true-unless, first-none}
 use Rattle.marks.proofs.Marks.{Ranges, ranges}
 use Rattle.marks.proofs.Starts.{in-body, no-receipt, in-refusal, side-range}
+use Rattle.blocks.specs.Inner.{correctedData}
+use Rattle.marks.specs.Inner.{levelIn, maskIn, distanceIn}
 
 -- ---- Segments from data never answers 6
 
@@ -80,11 +82,11 @@ module _ (v l k d : ℕ) (sq p s : List ℕ) (low : 1 ≤ v) (high : v ≤ 84) (
   size = stream-length v k sq ∙ sym (shapes-total v l low high level)
 
   body-told : firstRefused (corrected bs stream) ≡ 0 → bodyOf v l k d sq p s ≡ told v l k d (countOf (corrected bs stream)) (fromData (correctedData bs stream) p s)
-  unfolding bodyOf
+  unfolding bodyOf blocksIn
   body-told e = simp (eq-eqb (firstRefused (corrected bs stream)) 0 e)
 
   body-refused : firstRefused (corrected bs stream) ≡ 6 → bodyOf v l k d sq p s ≡ refused 6 p s
-  unfolding bodyOf
+  unfolding bodyOf blocksIn
   body-refused e = simp e
 
   small : (j : ℕ) → j < length bs → length (blockAt (blocksIn v l k sq) j) ≤ 255

@@ -4,13 +4,12 @@ use Rattle.general.proofs.Names.{_≡_, refl, ap, Bool, true, false, cond, _&&_
 use Rattle.general.proofs.Names.{getD, replicate}
 use Rattle.bits.specs.Bits.{lowBits, wordBits}
 use Rattle.symbol.specs.Version.{isVersion}
-use Rattle.symbol.specs.Layout.{layoutOf, plotAll, corners, each, cornerAt, ring, edge, finderAt, finderRow, half, within, finders}
+use Rattle.symbol.specs.Layout.{layoutOf, plotAll, corners, cornerAt, ring, edge, finderAt, finderRow, half, within, finders}
 use Rattle.information.specs.Information.{isInfo, infoFlips}
 use Rattle.block_table.specs.Table.{blocks, totals}
-use Rattle.block_table.specs.Blocks.{hasBlocks, rowHolds, blockHolds, rowOf, rowAt, totalOf, shapesOf, shapes, batch, totalSize, totalData}
+use Rattle.block_table.specs.Blocks.{hasBlocks, rowHolds, blockHolds, rowOf, totalOf, shapesOf, shapes, batch, totalSize, totalData}
 use Rattle.symbol.specs.Layout.{dataModules}
-use Rattle.segments.specs.Script.{runCommand}
-use Rattle.script.specs.Writer.{isDigit, modeHas, allHave, numericWords, modeBits, encodings}
+use Rattle.script.specs.Writer.{isDigit, modeHas, numericWords, modeBits, encodings}
 use Rattle.script.specs.Check.{allowed, segmentAt, commands, commandsOf}
 use Rattle.corrector.proofs.Settle.{distance-self}
 use Rattle.marks.specs.Read.{Reading, firstRefusal, unless, readOf, readKnownOf}
@@ -18,6 +17,7 @@ use Rattle.marks.specs.Write.{roomOf, markOf, scriptRefusals, writeRefus
 use Rattle.marks.specs.Promise.{blockIn}
 use Rattle.marks.proofs.Marks.{Ranges, mark-below}
 use Rattle.marks.proofs.Theorems.{mark-is-read, mark-is-read-known}
+use Rattle.general.specs.Lists.{each}
 
 -- one command, numeric with a length of 1, and its digit
 abbrev script : List ℕ
@@ -33,11 +33,11 @@ abbrev mark : List ℕ
 mark = markOf 1 0 0 script payload
 
 blocked : hasBlocks 1 0 ≡ true
-unfolding hasBlocks rowHolds blockHolds shapesOf shapes batch totalSize rowOf rowAt totalOf dataModules blocks totals layoutOf plotAll corners each cornerAt ring edge finderAt finderRow half within finders
+unfolding hasBlocks rowHolds blockHolds shapesOf shapes batch totalSize rowOf totalOf dataModules blocks totals layoutOf plotAll corners each cornerAt ring edge finderAt finderRow half within finders
 blocked = refl
 
 accepted : writeRefusal 1 0 0 script payload before ≡ 0
-unfolding writeRefusal firstRefusal isInfo isVersion commands bind segmentAt allowed runCommand allHave modeHas isDigit encodings flatMap modeBits numericWords wordBits lowBits shapesOf shapes rowOf rowAt blocks batch totalData
+unfolding writeRefusal firstRefusal isInfo isVersion commands bind segmentAt allowed modeHas isDigit encodings flatMap modeBits numericWords wordBits lowBits shapesOf shapes rowOf blocks batch totalData
 accepted =
     ap
     (λ (b : Bool). firstRefusal (0 ∷ unless b 1 ∷ 0 ∷ scriptRefusals (commandsOf script payload) payload (roomOf 1 0)))

@@ -8,19 +8,21 @@ use Rattle.information.specs.Information.{isInfo, infoBits, wordAt, copyOf, inf
 use Rattle.information.proofs.Apart.{word-lt}
 use Rattle.information.proofs.Flips.{flips-distance, flips-nearest, write-then-first, write-then-second, info-length, info-bits}
 use Rattle.block_table.specs.Blocks.{shapesOf, hasBlocks}
-use Rattle.codewords.specs.Codewords.{maskBit, squareOf}
+use Rattle.codewords.specs.Codewords.{maskBit}
 use Rattle.codewords.proofs.Back.{length-square}
 use Rattle.blocks.specs.Blockwise.{streamOf}
 use Rattle.segments.specs.Script.{Segment}
-use Rattle.script.specs.Writer.{allHave, encodings}
-use Rattle.script.specs.Check.{commandsOf, scriptData}
-use Rattle.script.specs.Inner.{Fits}
-use Rattle.marks.specs.Read.{firstRefusal, unless, levelIn, maskIn, distanceIn, nearestIn}
+use Rattle.script.specs.Writer.{encodings}
+use Rattle.script.specs.Check.{commandsOf}
+use Rattle.script.specs.Inner.{Fits, allHave, scriptData}
+use Rattle.marks.specs.Read.{firstRefusal, unless, nearestIn}
 use Rattle.marks.specs.Write.{Writing, roomOf, scriptRefusals, writeRefusal, markOf, writeOf}
 use Rattle.marks.proofs.Refusals.{true-unless, first-none, first-one, both-true, true-both, leb-fact, eqb-fact}
 use Rattle.marks.proofs.Modules.{nearest-bits}
 use Rattle.codewords.proofs.Masks.{mask-bit-lt}
 use Rattle.codewords.proofs.Small.{Below, square-below}
+use Rattle.codewords.specs.Inner.{squareOf}
+use Rattle.marks.specs.Inner.{levelIn, maskIn, distanceIn}
 
 -- ---- version, level and mask in their ranges
 

@@ -4,22 +4,22 @@ use Rattle.symbol.specs.Version.{sideOf}
 use Rattle.symbol.specs.Layout.{layoutOf}
 use Rattle.information.specs.Information.{copyOf, nearestOf}
 use Rattle.block_table.specs.Blocks.{totalOf}
-use Rattle.codewords.specs.Codewords.{maskBit, codewordsOf, dataBits}
+use Rattle.codewords.specs.Codewords.{maskBit, dataBits}
 use Rattle.codewords.specs.Inner.{streamIn}
 use Rattle.codewords.proofs.Bits.{length-codewords}
 use Rattle.codewords.proofs.Interleave.{length-stream}
 use Rattle.codewords.proofs.Small.{Below}
-use Rattle.marks.specs.Read.{areModules, moduleBit, nearestIn, streamFrom}
+use Rattle.marks.specs.Read.{moduleBit, nearestIn, streamFrom}
 use Rattle.marks.proofs.Refusals.{both-true, leb-fact, true-both}
+use Rattle.bits.specs.Bits.{firstWords}
+use Rattle.marks.specs.Inner.{areModules}
 
 pub modules-below : (sq : List ℕ) → areModules sq ≡ true → Below 2 sq
-unfolding areModules
 modules-below [] e i = omega arith
 modules-below (m ∷ ms) e zero = omega (arith, leb-fact m 1 (both-true (leb m 1) (areModules ms) e .0))
 modules-below (m ∷ ms) e (suc i) = modules-below ms (both-true (leb m 1) (areModules ms) e .1) i
 
 pub below-modules : (sq : List ℕ) → Below 2 sq → areModules sq ≡ true
-unfolding areModules
 below-modules [] b = refl
 below-modules (m ∷ ms) b = true-both (leb m 1) (areModules ms) (one m (b 0)) (below-modules ms (λ i. b (suc i)))
   where
@@ -51,8 +51,8 @@ pub stream-length : (v mask : ℕ) (sq : List ℕ) → length (streamFrom v mask
 unfolding streamFrom
 stream-length v mask sq =
     let bs = dataBits (maskBit (sideOf v) mask) 0 (layoutOf v) (map moduleBit sq) in
-    length-stream (codewordsOf (totalOf v) bs) ∙ length-codewords (totalOf v) bs
+    length-stream (firstWords 8 (totalOf v) bs) ∙ length-codewords (totalOf v) bs
 
 -- the codewords in front of a buffer
-pub codewords-taken : (total : ℕ) (bs rest found : List ℕ) → found ≡ codewordsOf total bs ++ rest → take total found ≡ codewordsOf total bs
-codewords-taken total bs rest found e = ap (take total) e ∙ take-at (codewordsOf total bs) rest total (length-codewords total bs)
+pub codewords-taken : (total : ℕ) (bs rest found : List ℕ) → found ≡ firstWords 8 total bs ++ rest → take total found ≡ firstWords 8 total bs
+codewords-taken total bs rest found e = ap (take total) e ∙ take-at (firstWords 8 total bs) rest total (length-codewords total bs)

@@ -13,13 +13,13 @@ use Rattle.codewords.specs.Codewords.{maskBit}
 use Rattle.codewords.specs.Inner.{streamIn}
 use Rattle.codewords.proofs.Back.{written-stream}
 use Rattle.reed_solomon.specs.Block.{distance}
-use Rattle.blocks.specs.Blockwise.{firstRefused, countOf, corrected, correctedData, streamOf, differences, blockAt, parityAt}
+use Rattle.blocks.specs.Blockwise.{firstRefused, countOf, corrected, streamOf, differences, blockAt, parityAt}
 use Rattle.blocks.proofs.Theorems.{written-blocks, in-reach}
 use Rattle.segments.specs.FromData.{fromData}
-use Rattle.script.specs.Check.{commandsOf, scriptData}
+use Rattle.script.specs.Check.{commandsOf}
 use Rattle.script.proofs.Theorems.{encoded-data, round-trip}
 use Rattle.marks.specs.Receipt.{receiptOf}
-use Rattle.marks.specs.Read.{Reading, refused, firstRefusal, unless, areModules, levelIn, maskIn, distanceIn, streamFrom, blocksIn}
+use Rattle.marks.specs.Read.{Reading, refused, firstRefusal, unless, streamFrom, blocksIn}
 use Rattle.marks.specs.Read.{readRefusal, knownRefusal, told, bodyOf, withReceipt, readOf, readKnownOf}
 use Rattle.marks.specs.Write.{roomOf, markOf, writeOf}
 use Rattle.marks.specs.Promise.{blockCount, parityIn, changedAt, changed}
@@ -28,6 +28,9 @@ use Rattle.marks.proofs.Modules.{below-modules, stream-bits, stream-len
 use Rattle.codewords.proofs.Small.{Below}
 use Rattle.marks.proofs.Data.{data-below}
 use Rattle.marks.proofs.Marks.{Ranges, Written, written, mark-length, mark-below, info-is, side-is, side-version, level-is, mask-is, distance-le}
+use Rattle.script.specs.Inner.{scriptData}
+use Rattle.blocks.specs.Inner.{correctedData}
+use Rattle.marks.specs.Inner.{areModules, levelIn, maskIn, distanceIn}
 
 -- the data codewords are no more than the codewords
 pub data-le : (bs : List Shape) → totalData bs ≤ totalSize bs

@@ -14,10 +14,11 @@ use Rattle.symbol.specs.Layout.{dataModules}
 use Rattle.block_table.proofs.Rows.{total-small}
 use Rattle.block_table.proofs.Theorems.{row-holds}
 use Rattle.blocks.proofs.Theorems.{row-holds-own}
-use Rattle.marks.specs.Read.{Reading, readingOf, refused, withReceipt, levelIn, maskIn, nearestIn}
+use Rattle.marks.specs.Read.{Reading, readingOf, refused, withReceipt, nearestIn}
 use Rattle.marks.proofs.Refusals.{both-true, true-both, true-unless, false-unless, leb-fact, eqb-fact}
 use Rattle.marks.proofs.Marks.{version-is}
 use Rattle.marks.proofs.ReadBack.{data-le}
+use Rattle.marks.specs.Inner.{levelIn, maskIn}
 
 -- ---- the layout of a version, written into a buffer that is long enough
 

@@ -6,7 +6,7 @@ use Rattle.symbol.specs.Version.{sideOf, sideVersion}
 use Rattle.symbol.specs.Layout.{layoutOf}
 use Rattle.information.specs.Information.{infoFlips}
 use Rattle.marks.specs.Receipt.{receiptOf}
-use Rattle.marks.specs.Read.{Reading, refused, levelIn, maskIn, distanceIn, readRefusal, knownRefusal, bodyOf, readOf, readKnownOf}
+use Rattle.marks.specs.Read.{Reading, refused, nearestIn, readRefusal, knownRefusal, bodyOf, readOf, readKnownOf}
 use Rattle.marks.specs.Write.{writeOf}
 use Rattle.marks.specs.Promise.{blockCount, blockIn, parityIn, changedAt, changed, InReach, EachInReach, setTo, correctionsAt}
 use Rattle.reed_solomon.specs.Block.{distance}
@@ -30,7 +30,7 @@ module _ (v level mask : ℕ) (script payload before mark : List ℕ) (bytes : (
   pub mark-is-read : infoFlips (layoutOf v) mark square ≤ 8
       → readOf square (sideOf v) p s r ≡ record {
         number = 0;
-        receipt = receiptOf v level mask (changed v level mask square mark) (distanceIn v square) (length payload) (length script);
+        receipt = receiptOf v level mask (changed v level mask square mark) (nearestIn v square .distance) (length payload) (length script);
         payload = payload ++ drop (length payload) p;
         script = script ++ drop (length script) s;
       }
@@ -54,10 +54,13 @@ module _ (sq : List ℕ) (side : ℕ) (p s r : List ℕ) (receipt : length r ≡
   version = sideVersion side
 
   abbrev pub level : ℕ
-  level = levelIn (sideVersion side) sq
+  level = nearestIn (sideVersion side) sq .level
 
   abbrev pub mask : ℕ
-  mask = maskIn (sideVersion side) sq
+  mask = nearestIn (sideVersion side) sq .mask
+
+  abbrev pub flips : ℕ
+  flips = nearestIn (sideVersion side) sq .distance
 
   abbrev low : 1 ≤ version
   low = any.ranged sq side p s r receipt passes .0
@@ -65,38 +68,38 @@ module _ (sq : List ℕ) (side : ℕ) (p s r : List ℕ) (receipt : length r ≡
   abbrev high : version ≤ 84
   high = any.ranged sq side p s r receipt passes .1
 
-  abbrev body : readOf sq side p s r ≡ bodyOf version level mask (distanceIn version sq) sq p s
+  abbrev body : readOf sq side p s r ≡ bodyOf version level mask flips sq p s
   body = any.read-body sq side p s r receipt passes
 
   -- If some block has no codeword within floor(parity / 2) places, the answer is 6, and payload and script are left ..
   pub lost-is-six : (j : ℕ) → j < blockCount version level → ((w : List ℕ) → InReach version level mask sq j w → ⊥) → readOf sq side p s r ≡ refused 6 p s
-  lost-is-six j h e = body ∙ any.lost-six version level mask (distanceIn version sq) sq p s low high (level-range version sq) j h e
+  lost-is-six j h e = body ∙ any.lost-six version level mask flips sq p s low high (level-range version sq) j h e
 
   -- .. and 6 comes only then.
   pub six-is-lost : readOf sq side p s r .number ≡ 6
       → (j : ℕ) × (j < blockCount version level) × ((w : List ℕ) → InReach version level mask sq j w → ⊥)
   six-is-lost e =
-      any.six-lost version level mask (distanceIn version sq) sq p s low high (level-range version sq) (sym (ap (λ (x : Reading). x .number) body) ∙ e)
+      any.six-lost version level mask flips sq p s low high (level-range version sq) (sym (ap (λ (x : Reading). x .number) body) ∙ e)
 
   -- No block has two.
   pub no-block-has-two : (j : ℕ) → j < blockCount version level → (u w : List ℕ) → InReach version level mask sq j u → InReach version level mask sq j w → u ≡ w
-  no-block-has-two = any.no-two version level mask (distanceIn version sq) sq p s low high (level-range version sq)
+  no-block-has-two = any.no-two version level mask flips sq p s low high (level-range version sq)
 
   -- The corrections of a block are the places in which it differs from its codeword.
   pub corrections-are : (j : ℕ) → j < blockCount version level → (w : List ℕ) → InReach version level mask sq j w
       → correctionsAt version level mask sq j ≡ distance (blockIn version level mask sq j) w
-  corrections-are = any.corrections version level mask (distanceIn version sq) sq p s low high (level-range version sq)
+  corrections-are = any.corrections version level mask flips sq p s low high (level-range version sq)
 
   -- When each has one, each is set to it: payload and script, or the refusal, are what Segments from data gives for their data parts, and
   -- the count is the number of places in which the square's blocks differ from them ..
-  pub each-is-set : (ws : List (List ℕ)) → EachInReach version level mask sq ws → readOf sq side p s r ≡ setTo version level mask (distanceIn version sq) sq ws p s
-  each-is-set ws E = body ∙ any.each-told version level mask (distanceIn version sq) sq p s low high (level-range version sq) ws E
+  pub each-is-set : (ws : List (List ℕ)) → EachInReach version level mask sq ws → readOf sq side p s r ≡ setTo version level mask flips sq ws p s
+  each-is-set ws E = body ∙ any.each-told version level mask flips sq p s low high (level-range version sq) ws E
 
   -- .. and each has one wherever the answer is not 6.
   pub not-six-is-set : readOf sq side p s r .number ≢ 6
-      → (ws : List (List ℕ)) × EachInReach version level mask sq ws × (readOf sq side p s r ≡ setTo version level mask (distanceIn version sq) sq ws p s)
+      → (ws : List (List ℕ)) × EachInReach version level mask sq ws × (readOf sq side p s r ≡ setTo version level mask flips sq ws p s)
   not-six-is-set n =
-      let x = any.other-each version level mask (distanceIn version sq) sq p s low high (level-range version sq) (λ e. n (ap (λ (x : Reading). x .number) body ∙ e)) in
+      let x = any.other-each version level mask flips sq p s low high (level-range version sq) (λ e. n (ap (λ (x : Reading). x .number) body ∙ e)) in
       (x .0, x .1, each-is-set (x .0) (x .1))
 
 -- A square that Read a square accepts passes its first refusals, so that all of this holds for it.

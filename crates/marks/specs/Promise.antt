@@ -1,13 +1,13 @@
 -- SPECIFICATION 11, "A written mark is read back": the words in which the theorem (proofs/Theorems.antt) is stated.
 use mathlib.Core.Path.{_≡_}
-use mathlib.Core.List.{List}
+use mathlib.Core.List.{List, [], map}
 use Prim.Native.Nat.{ℕ, _<_}
 use lib.Dec.{T}
-use lib.ListN.{length}
+use lib.ListN.{length, getD}
 use Rattle.reed_solomon.specs.Block.{distance, inReach}
 use Rattle.corrector.specs.Correct.{correctOf}
 use Rattle.block_table.specs.Blocks.{shapesOf, dataParts}
-use Rattle.blocks.specs.Blockwise.{differences, blockAt, parityAt}
+use Rattle.blocks.specs.Blockwise.{differences}
 use Rattle.segments.specs.FromData.{fromData}
 use Rattle.marks.specs.Read.{Reading, blocksIn, told}
 
@@ -17,10 +17,10 @@ blockCount v level = length (shapesOf v level)
 
 -- block j of a square for a version, level and mask, and how many of its codewords are parity
 abbrev pub blockIn : ℕ → ℕ → ℕ → List ℕ → ℕ → List ℕ
-blockIn v level mask sq j = blockAt (blocksIn v level mask sq) j
+blockIn v level mask sq j = getD (blocksIn v level mask sq) j []
 
 abbrev pub parityIn : ℕ → ℕ → ℕ → ℕ
-parityIn v level j = parityAt (shapesOf v level) j
+parityIn v level j = getD (map (λ b. b .parity) (shapesOf v level)) j 0
 
 -- how many codewords of block j, and of all blocks, are changed from one square to another
 abbrev pub changedAt : ℕ → ℕ → ℕ → List ℕ → List ℕ → ℕ → ℕ
@@ -36,7 +36,7 @@ InReach v level mask sq j w = T (inReach 0x163 1 (parityIn v level j) (blockIn v
 -- ws has such a codeword for each block
 pub record EachInReach (v level mask : ℕ) (sq : List ℕ) (ws : List (List ℕ)) : Type 0 where
   pub number : length ws ≡ blockCount v level
-  pub each : (j : ℕ) → j < blockCount v level → InReach v level mask sq j (blockAt ws j)
+  pub each : (j : ℕ) → j < blockCount v level → InReach v level mask sq j (getD ws j [])
 
 -- what a reading gives that sets each block to its word of ws: the count is the number of places in which the blocks differ from them;
 -- payload and script, or the refusal, are what Segments from data gives for their data parts

@@ -5,15 +5,16 @@ use mathlib.Core.List.{List, [], _∷_, map}
 use Prim.Native.Nat.{ℕ, _*_}
 use lib.Dec.{leb, eqb}
 use lib.ListN.{length}
+use Rattle.general.specs.Lists.{all}
 use Rattle.symbol.specs.Version.{sideOf, isSide, sideVersion}
 use Rattle.symbol.specs.Layout.{layoutOf}
 use Rattle.information.specs.Information.{isInfo, copyOf, NearestAnswer, nearestOf}
-use Rattle.block_table.specs.Blocks.{totalOf, shapesOf, hasBlocks, cut}
-use Rattle.codewords.specs.Codewords.{maskBit, codewordsOf, dataBits, toStream}
-use Rattle.script.specs.Writer.{all}
-use Rattle.blocks.specs.Blockwise.{firstRefused, countOf, corrected, correctedData}
+use Rattle.block_table.specs.Blocks.{totalOf, shapesOf, hasBlocks, cut, dataParts}
+use Rattle.codewords.specs.Codewords.{maskBit, dataBits, toStream}
+use Rattle.blocks.specs.Blockwise.{outcomes, firstRefused, countOf, blocksOf}
 use Rattle.segments.specs.FromData.{DataOutcome, fromData}
 use Rattle.marks.specs.Receipt.{receiptOf, refusalReceipt}
+use Rattle.bits.specs.Bits.{firstWords}
 
 -- what a reading gives: the refusal number or 0, and what receipt, payload and script hold afterwards
 pub record Reading : Type 0 where
@@ -39,10 +40,6 @@ firstRefusal (n ∷ ns) = cond (eqb n 0) (firstRefusal ns) n
 abbrev pub unless : Bool → ℕ → ℕ
 unless test n = cond test 0 n
 
--- no byte is above 1
-unfoldable pub areModules : List ℕ → Bool
-areModules sq = all (λ m. leb m 1) sq
-
 -- a module as a bit: 1 is dark, all else is light
 abbrev pub moduleBit : ℕ → ℕ
 moduleBit m = cond (eqb m 1) 1 0
@@ -51,18 +48,9 @@ moduleBit m = cond (eqb m 1) 1 0
 unfoldable pub nearestIn : ℕ → List ℕ → NearestAnswer
 nearestIn v sq = nearestOf v (copyOf (sideOf v) false (map moduleBit sq)) (copyOf (sideOf v) true (map moduleBit sq))
 
-abbrev pub levelIn : ℕ → List ℕ → ℕ
-levelIn v sq = nearestIn v sq .level
-
-abbrev pub maskIn : ℕ → List ℕ → ℕ
-maskIn v sq = nearestIn v sq .mask
-
-abbrev pub distanceIn : ℕ → List ℕ → ℕ
-distanceIn v sq = nearestIn v sq .distance
-
 -- the stream of a square of version v under a mask
 unfoldable pub streamFrom : ℕ → ℕ → List ℕ → List ℕ
-streamFrom v mask sq = toStream (codewordsOf (totalOf v) (dataBits (maskBit (sideOf v) mask) 0 (layoutOf v) (map moduleBit sq)))
+streamFrom v mask sq = toStream (firstWords 8 (totalOf v) (dataBits (maskBit (sideOf v) mask) 0 (layoutOf v) (map moduleBit sq)))
 
 -- SPECIFICATION 11.3: the blocks of a square, for a version, level and mask
 unfoldable pub blocksIn : ℕ → ℕ → ℕ → List ℕ → List (List ℕ)
@@ -72,14 +60,14 @@ blocksIn v level mask sq = cut (shapesOf v level) (streamFrom v mask sq)
 unfoldable pub readRefusal : ℕ → List ℕ → ℕ
 readRefusal side sq =
     firstRefusal
-    (unless (isSide side) 1 ∷ unless (eqb (length sq) (side * side)) 2 ∷ unless (areModules sq) 3
-    ∷ unless (leb (distanceIn (sideVersion side) sq) 10) 4 ∷ unless (hasBlocks (sideVersion side) (levelIn (sideVersion side) sq)) 1 ∷ [])
+    (unless (isSide side) 1 ∷ unless (eqb (length sq) (side * side)) 2 ∷ unless (all (λ m. leb m 1) sq) 3
+    ∷ unless (leb (nearestIn (sideVersion side) sq .distance) 10) 4 ∷ unless (hasBlocks (sideVersion side) (nearestIn (sideVersion side) sq .level)) 1 ∷ [])
 
 -- the same without 4; the first 1 is for version, level and mask
 unfoldable pub knownRefusal : ℕ → ℕ → ℕ → List ℕ → ℕ
 knownRefusal v level mask sq =
     firstRefusal
-    (unless (isInfo v level mask) 1 ∷ unless (eqb (length sq) (sideOf v * sideOf v)) 2 ∷ unless (areModules sq) 3 ∷ unless (hasBlocks v level) 1 ∷ [])
+    (unless (isInfo v level mask) 1 ∷ unless (eqb (length sq) (sideOf v * sideOf v)) 2 ∷ unless (all (λ m. leb m 1) sq) 3 ∷ unless (hasBlocks v level) 1 ∷ [])
 
 -- what the segments of the corrected blocks give, with the count of their corrections
 unfoldable pub told : ℕ → ℕ → ℕ → ℕ → ℕ → DataOutcome → Reading
@@ -91,9 +79,9 @@ told v level mask distance count o =
 -- 6 if a block has no codeword in reach; then 7 to 10, and payload and script, as Segments from data
 unfoldable pub bodyOf : ℕ → ℕ → ℕ → ℕ → List ℕ → List ℕ → List ℕ → Reading
 bodyOf v level mask distance sq p s =
-    let os = corrected (shapesOf v level) (streamFrom v mask sq) in
+    let os = outcomes (shapesOf v level) (blocksIn v level mask sq) in
     cond (eqb (firstRefused os) 0)
-    (told v level mask distance (countOf os) (fromData (correctedData (shapesOf v level) (streamFrom v mask sq)) p s))
+    (told v level mask distance (countOf os) (fromData (dataParts (shapesOf v level) (blocksOf os)) p s))
     (refused (firstRefused os) p s)
 
 -- 2 if the receipt has not 12 bytes, and nothing is written at all
@@ -105,7 +93,7 @@ withReceipt r p s refusal body =
 unfoldable pub readOf : List ℕ → ℕ → List ℕ → List ℕ → List ℕ → Reading
 readOf sq side p s r =
     let v = sideVersion side in
-    withReceipt r p s (readRefusal side sq) (bodyOf v (levelIn v sq) (maskIn v sq) (distanceIn v sq) sq p s)
+    withReceipt r p s (readRefusal side sq) (bodyOf v (nearestIn v sq .level) (nearestIn v sq .mask) (nearestIn v sq .distance) sq p s)
 
 -- SPECIFICATION 10.10: Read with known version, level, mask; its receipt shows distance 0
 unfoldable pub readKnownOf : List ℕ → ℕ → ℕ → ℕ → List ℕ → List ℕ → List ℕ → Reading

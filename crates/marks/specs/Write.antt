@@ -1,19 +1,21 @@
 -- SPECIFICATION 10.11: Write a square.
 use mathlib.Core.Bool.{cond}
-use mathlib.Core.Option.{Option, none, some}
+use mathlib.Core.Option.{Option, none, some, Option·getD}
 use mathlib.Core.List.{List, [], _∷_}
 use Prim.Native.Nat.{ℕ, _*_}
 use lib.Dec.{ltb, leb, eqb}
 use lib.ListN.{length}
+use Rattle.general.specs.Lists.{all}
 use Rattle.symbol.specs.Version.{sideOf}
 use Rattle.symbol.specs.Layout.{layoutOf}
 use Rattle.information.specs.Information.{isInfo, infoBits, infoWritten}
 use Rattle.block_table.specs.Blocks.{shapesOf, hasBlocks, totalData}
-use Rattle.codewords.specs.Codewords.{maskBit, squareOf}
+use Rattle.bits.specs.Bits.{bitsOf}
+use Rattle.codewords.specs.Codewords.{maskBit, placed, fromStream}
 use Rattle.blocks.specs.Blockwise.{streamOf}
 use Rattle.segments.specs.Script.{Segment}
-use Rattle.script.specs.Writer.{allHave, encodings}
-use Rattle.script.specs.Check.{commandsOf, scriptData}
+use Rattle.script.specs.Writer.{has, encodings, dataBytes}
+use Rattle.script.specs.Check.{commandsOf}
 use Rattle.marks.specs.Read.{firstRefusal, unless}
 
 -- what writing gives: the refusal number or 0, and what the square holds afterwards
@@ -33,7 +35,7 @@ roomOf v level = totalData (shapesOf v level)
 -- a byte, pair or four bytes that its mode lacks; 8 payload empty; 13 more bits than 8 × data codewords
 abbrev pub scriptRefusals : Option (List Segment) → List ℕ → ℕ → List ℕ
 scriptRefusals none p room = 11 ∷ []
-scriptRefusals (some gs) p room = unless (allHave gs) 12 ∷ unless (ltb 0 (length p)) 8 ∷ unless (leb (length (encodings gs)) (8 * room)) 13 ∷ []
+scriptRefusals (some gs) p room = unless (all has gs) 12 ∷ unless (ltb 0 (length p)) 8 ∷ unless (leb (length (encodings gs)) (8 * room)) 13 ∷ []
 
 -- 1 version, level or mask outside its range, or by SPECIFICATION 7.4; 2 square not s × s; then script and payload
 unfoldable pub writeRefusal : ℕ → ℕ → ℕ → List ℕ → List ℕ → List ℕ → ℕ
@@ -45,8 +47,8 @@ writeRefusal v level mask s p sq =
 -- the mark: the bits of the script in the data codewords, blocks with their parity, the stream in the masked data modules, and the word
 unfoldable pub markOf : ℕ → ℕ → ℕ → List ℕ → List ℕ → List ℕ
 markOf v level mask s p =
-    infoWritten (sideOf v) (infoBits v level mask)
-    (squareOf (maskBit (sideOf v) mask) (layoutOf v) (streamOf (shapesOf v level) (scriptData (roomOf v level) (commandsOf s p))))
+    let stream = streamOf (shapesOf v level) (dataBytes (roomOf v level) (Option·getD (commandsOf s p) [])) in
+    infoWritten (sideOf v) (infoBits v level mask) (placed (maskBit (sideOf v) mask) 0 (layoutOf v) (bitsOf (fromStream stream)))
 
 -- a refusal leaves the square
 unfoldable pub writeOf : ℕ → ℕ → ℕ → List ℕ → List ℕ → List ℕ → Writing

@@ -4,19 +4,18 @@ use Rattle.general.proofs.Names.{_≡_, refl, sym, ap, ap₂, _∙_, subst, fun
 use Rattle.general.proofs.Names.{_≤_, _<_, arith, decLt, eq-eqb, eqb, length, take, drop, replicate, length-append, length-drop, take-append-drop}
 use Rattle.general.proofs.Names.{List·getD-append, List·getD-eq-default, ext-getD, getD-append-add, drop-append-seam, length-take-le, getD-take, getD-drop}
 use Rattle.field.specs.Field.{power}
-use Rattle.field.specs.Table.{each}
 use Rattle.field.proofs.Field.{Passes}
-use Rattle.field.proofs.Entries.{each-length, each-at}
 use Rattle.reed_solomon.specs.Sum.{seq, horner}
 use Rattle.reed_solomon.specs.Register.{stepped}
 use Rattle.reed_solomon.specs.Block.{distance, isCodeword, parityOf}
-use Rattle.general.specs.Each.{Each}
+use Rattle.general.specs.Each.{Each, table}
 use Rattle.reed_solomon.proofs.Search.{Bytes, Passing, passing-some}
 use Rattle.reed_solomon.proofs.Codeword.{eval-horner, zero-codeword, near-equal}
 use Rattle.reed_solomon.proofs.Massey.{zeros}
-use Rattle.parity.specs.Encode.{withParity, writtenOf}
-use Rattle.parity.specs.Inner.{Monic, Generator, Divided, copiedFrom}
+use Rattle.parity.specs.Encode.{writtenOf}
+use Rattle.parity.specs.Inner.{Monic, Generator, Divided, copiedFrom, withParity}
 use Rattle.parity.proofs.Remainder.{generator-start, generator-next, divided-start, divided-next, joined-root, copied-low, copied-high}
+use Rattle.general.proofs.Lists.{length-table, getD-table}
 
 -- ---- what follows the same data
 
@@ -119,16 +118,16 @@ module _ (poly : ℕ) (P : Passes poly) (first parity : ℕ) (ds : List ℕ) whe
   some-follows b =
       let g = some-generator parity in
       let r = some-rest (g .0) (g .1 .monic) (length ds + parity) (seq ds) b (length ds) (omega arith) in (
-        each parity (λ i. r .0 (length ds + i)),
-        rest-follows (length ds) refl (g .0) (r .0) (g .1) (r .1) (each parity (λ i. r .0 (length ds + i)))
-            (each-length parity (λ i. r .0 (length ds + i))) (each-at parity (λ i. r .0 (length ds + i))),
+        table parity (λ i. r .0 (length ds + i)),
+        rest-follows (length ds) refl (g .0) (r .0) (g .1) (r .1) (table parity (λ i. r .0 (length ds + i)))
+            (length-table parity (λ i. r .0 (length ds + i))) (getD-table parity (λ i. r .0 (length ds + i))),
       )
 
 -- ---- what is written: data that stay, and bytes that follow them
 
 pub written-by : (poly : ℕ) → Passes poly → (first k : ℕ) (block block′ : List ℕ) → Bytes block → length block ≤ 255 → k ≤ length block → take k block′ ≡ take k block
     → Follows poly first (length block - k) (take k block) (drop k block′) → block′ ≡ writtenOf poly first (length block - k) block
-unfolding writtenOf withParity
+unfolding writtenOf
 written-by poly P first k block block′ bytes small h stay F =
     sym (take-append-drop k block′) ∙ ap (λ (xs : List ℕ). xs ++ drop k block′) stay
     ∙ sym ((let e : length block - (length block - k) ≡ k = omega arith in

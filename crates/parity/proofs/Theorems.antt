@@ -5,8 +5,9 @@ use Rattle.field.specs.Field.{orderTest}
 use Rattle.field.proofs.Field.{passes}
 use Rattle.reed_solomon.specs.Block.{isCodeword, parityOf}
 use Rattle.reed_solomon.proofs.Search.{Bytes, found-passing}
-use Rattle.parity.specs.Encode.{dataPart, withParity, writtenOf}
+use Rattle.parity.specs.Encode.{dataPart, writtenOf}
 use Rattle.parity.proofs.Followed.{append-bytes, take-bytes, Follows, follows-one, follows-found, some-follows}
+use Rattle.parity.specs.Inner.{withParity}
 
 module _ (poly : ℕ) (test : T (orderTest poly)) (first parity : ℕ) (ds : List ℕ) where
   follows-of : (p : List ℕ) → parityOf poly first parity ds ≡ some p → Follows poly first parity ds p
@@ -34,7 +35,7 @@ module _ (poly : ℕ) (test : T (orderTest poly)) (first parity : ℕ) (ds : Lis
 pub written-codeword : (poly : ℕ) → T (orderTest poly) → (first parity : ℕ) (block : List ℕ) → Bytes block → parity ≤ length block → length block ≤ 255
     → T (isCodeword poly first parity (writtenOf poly first parity block)) × (length (writtenOf poly first parity block) ≡ length block)
     × (dataPart parity (writtenOf poly first parity block) ≡ dataPart parity block) × Bytes (writtenOf poly first parity block)
-unfolding writtenOf withParity
+unfolding writtenOf
 written-codeword poly test first parity block b h small =
     let ds = dataPart parity block in
     let k : length ds ≡ length block - parity = length-take-le (length block - parity) block (omega arith) in

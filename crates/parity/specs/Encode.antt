@@ -1,7 +1,7 @@
 -- SPECIFICATION 3.8 and 10.6: the parity of a block, for the writer. What the call answers, and what is then in the block.
 use mathlib.Core.Bool.{cond}
-use mathlib.Core.Option.{Option, none, some}
-use mathlib.Core.List.{List, _++_}
+use mathlib.Core.Option.{Option·getD}
+use mathlib.Core.List.{List, [], _++_}
 use Prim.Native.Nat.{ℕ, _-_}
 use lib.ListN.{length, take}
 use Rattle.reed_solomon.specs.Block.{parityOf, unfit}
@@ -17,14 +17,9 @@ pub record Encoding : Type 0 where
 abbrev pub dataPart : ℕ → List ℕ → List ℕ
 dataPart parity block = take (length block - parity) block
 
--- data followed by their parity; there always is one where they are fit
-unfoldable pub withParity : List ℕ → Option (List ℕ) → List ℕ
-withParity ds none = ds
-withParity ds (some p) = ds ++ p
-
--- the data of a block followed by their parity
+-- the data of a block followed by their parity; there always is one where they are fit
 unfoldable pub writtenOf : ℕ → ℕ → ℕ → List ℕ → List ℕ
-writtenOf poly first parity block = withParity (dataPart parity block) (parityOf poly first parity (dataPart parity block))
+writtenOf poly first parity block = dataPart parity block ++ Option·getD (parityOf poly first parity (dataPart parity block)) []
 
 -- 5, and the block untouched, as in Correct a block; else 0, and the parity written behind the data
 unfoldable pub encodeOf : ℕ → ℕ → ℕ → List ℕ → Encoding

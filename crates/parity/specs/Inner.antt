@@ -1,12 +1,17 @@
 -- What inner functions say of each other. Nobody has to believe it: the contract of the operation does not cite it.
 use mathlib.Core.Path.{_≡_}
 use mathlib.Core.Logic.{ite}
-use mathlib.Core.List.{List}
+use mathlib.Core.Option.{Option, Option·getD}
+use mathlib.Core.List.{List, [], _++_}
 use Prim.Native.Nat.{ℕ, suc, _+_, _-_, _<_}
 use native.Mathlib.Decide.{decLt}
 use Rattle.field.specs.Field.{power}
 use Rattle.reed_solomon.specs.Sum.{seq, horner}
 use Rattle.reed_solomon.specs.Register.{Tail}
+
+-- data followed by their parity
+abbrev pub withParity : List ℕ → Option (List ℕ) → List ℕ
+withParity ds p = ds ++ Option·getD p []
 
 -- a polynomial of degree n, highest coefficient first, which is 1; zeros behind it
 pub record Monic (n : ℕ) (g : ℕ → ℕ) : Type 0 where

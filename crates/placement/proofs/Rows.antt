@@ -7,7 +7,7 @@ use lib.Pow.{pow-pos}
 use Rattle.bits.specs.Bits.{lowBits, firstWords, groups}
 use Rattle.bits.proofs.Words.{length-low}
 use Rattle.bits.proofs.Bytes.{take-small}
-use Rattle.codewords.specs.Codewords.{maskAt, maskBit, codewordsOf, dataBits}
+use Rattle.codewords.specs.Codewords.{maskAt, maskBit, dataBits}
 use Rattle.masks.specs.Columns.{Row}
 use Rattle.placement.specs.Walk.{bitsFrom, Legible, Pending, Words, Walk, Masked, Aligned, rowBits, Goes}
 use Rattle.placement.specs.declared.Run.{Run}
@@ -131,7 +131,7 @@ unfolding lowBits
 rows-begun all out {r} n v b h =
     let e : length out - 0 ≡ length out = omega arith in
     walk-again {r = record { column = 0; n = 0; value = 0; bits = 0 }} n v b
-    (record { words = record { size = refl; few = omega arith; enough = omega arith; is = ap (λ (k : ℕ). codewordsOf k all) e } })
+    (record { words = record { size = refl; few = omega arith; enough = omega arith; is = ap (λ (k : ℕ). firstWords 8 k all) e } })
 
 -- row i of a square
 abbrev rowIn : ℕ → ℕ → List ℕ → List ℕ
@@ -161,7 +161,7 @@ module _ {total : ℕ} {all out out′ row : List ℕ} {r s : Run} (m : ℕ → 
       (omega (arith, part-length (i * side) side sq h, part-length (i * side) side ks (omega arith))))
 
 pub rows-done : {total : ℕ} {all out : List ℕ} {r : Run} (m : ℕ → ℕ) (ks sq : List ℕ) (i : ℕ) → length sq ≤ i → Pending r
-    → Walk total all out (bitsFrom m ks sq i) r → out ≡ codewordsOf total all
+    → Walk total all out (bitsFrom m ks sq i) r → out ≡ firstWords 8 total all
 unfolding firstWords groups
 rows-done {total} {all} {out} {r} m ks sq i h p k =
     let w = k .words in
@@ -171,9 +171,9 @@ rows-done {total} {all} {out} {r} m ks sq i h p k =
     let n : r .n ≡ total = omega arith in
     let e : total - r .n ≡ 0 = omega arith in
     sym (take-all (r .n) out (omega arith)) ∙ sym (append-nil (take (r .n) out))
-    ∙ sym (ap (λ (j : ℕ). take (r .n) out ++ codewordsOf j (lowBits (r .bits) (r .value) ++ bitsFrom m ks sq i)) e) ∙ w .is
+    ∙ sym (ap (λ (j : ℕ). take (r .n) out ++ firstWords 8 j (lowBits (r .bits) (r .value) ++ bitsFrom m ks sq i)) e) ∙ w .is
 
 -- The first total codewords in front of what stood behind them.
-pub first-codewords : {out′ : List ℕ} (out all : List ℕ) (total : ℕ) → total ≤ length out → out′ ≡ codewordsOf (length (take total out)) all
-    → out′ ++ drop total out ≡ codewordsOf total all ++ drop total out
-first-codewords out all total h e = ap (λ (o : List ℕ). o ++ drop total out) (e ∙ ap (λ (n : ℕ). codewordsOf n all) (length-take-le total out h))
+pub first-codewords : {out′ : List ℕ} (out all : List ℕ) (total : ℕ) → total ≤ length out → out′ ≡ firstWords 8 (length (take total out)) all
+    → out′ ++ drop total out ≡ firstWords 8 total all ++ drop total out
+first-codewords out all total h e = ap (λ (o : List ℕ). o ++ drop total out) (e ∙ ap (λ (n : ℕ). firstWords 8 n all) (length-take-le total out h))

@@ -7,7 +7,7 @@ use lib.Pow.{pow-pos, pow-add, shl-lt, shr-shr, split, high, low, field, mod-mod
 use Rattle.bits.specs.Bits.{lowBits, value, firstWords, groups}
 use Rattle.bits.proofs.Words.{length-low, low-back}
 use Rattle.bits.proofs.Bytes.{value-add, value-small, low-value}
-use Rattle.codewords.specs.Codewords.{codewordsOf, dataBits}
+use Rattle.codewords.specs.Codewords.{dataBits}
 use Rattle.placement.specs.Walk.{bitsFrom, byteOf, eightOf, run, behind, Gathered, Pending, Words, Walk, Stored, Pushed, Masked, unmaskedAt, Skipped}
 use Rattle.placement.specs.Walk.{rowBits, Goes}
 use Rattle.placement.specs.declared.Run.{Run}
@@ -130,8 +130,8 @@ module _ {total : ℕ} {all out : List ℕ} {n : ℕ} where
         subst (λ (o : List ℕ). Words total all o tail n′) (sym (k .1)) (subst (λ (i : ℕ). Words total all (set out n y) tail i) (sym (k .0)) (more h l)))
     | no h ↦ (let k = s .full (omega arith) in
         let z : total - n ≡ 0 = omega arith in
-        let is : take n out ++ codewordsOf (total - n) tail ≡ codewordsOf total all =
-        ap (λ (i : ℕ). take n out ++ codewordsOf i tail) z ∙ sym (ap (λ (i : ℕ). take n out ++ codewordsOf i (lowBits 8 y ++ tail)) z) ∙ w .is in
+        let is : take n out ++ firstWords 8 (total - n) tail ≡ firstWords 8 total all =
+        ap (λ (i : ℕ). take n out ++ firstWords 8 i tail) z ∙ sym (ap (λ (i : ℕ). take n out ++ firstWords 8 i (lowBits 8 y ++ tail)) z) ∙ w .is in
         subst (λ (o : List ℕ). Words total all o tail n′) (sym (k .1))
         (subst (λ (i : ℕ). Words total all out tail i) (sym (k .0)) (record { size = w .size; few = w .few; enough = omega arith; is = is })))
   ]
@@ -148,9 +148,9 @@ module _ {total : ℕ} {all out : List ℕ} {n : ℕ} where
             size = length-set out n y ∙ w .size;
             few = omega arith;
             enough = omega (arith, length-append (lowBits 8 y) tail, length-low 8 y);
-            is = ap (λ (u : List ℕ). u ++ codewordsOf (total - (n + 1)) tail) front ∙ append-assoc (take n out) (y ∷ []) (codewordsOf (total - (n + 1)) tail)
-                ∙ sym (ap (λ (i : ℕ). take n out ++ codewordsOf i (lowBits 8 y ++ tail)) k
-                ∙ ap₂ (λ (x : ℕ) (u : List ℕ). take n out ++ (x ∷ codewordsOf (total - (n + 1)) u)) first back) ∙ w .is;
+            is = ap (λ (u : List ℕ). u ++ firstWords 8 (total - (n + 1)) tail) front ∙ append-assoc (take n out) (y ∷ []) (firstWords 8 (total - (n + 1)) tail)
+                ∙ sym (ap (λ (i : ℕ). take n out ++ firstWords 8 i (lowBits 8 y ++ tail)) k
+                ∙ ap₂ (λ (x : ℕ) (u : List ℕ). take n out ++ (x ∷ firstWords 8 (total - (n + 1)) u)) first back) ∙ w .is;
           }
 
 -- Bits pushed behind pending ones.

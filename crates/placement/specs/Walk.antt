@@ -5,8 +5,8 @@ use mathlib.Core.List.{List, [], _∷_, _++_}
 use Prim.Native.Nat.{ℕ, zero, suc, _+_, _-_, _*_, _/_, _%_, _^_, _<_, _≤_}
 use lib.ListN.{length, getD, take, drop, set}
 use lib.Bits.{bitXor}
-use Rattle.bits.specs.Bits.{lowBits}
-use Rattle.codewords.specs.Codewords.{codewordsOf, dataBits}
+use Rattle.bits.specs.Bits.{lowBits, firstWords}
+use Rattle.codewords.specs.Codewords.{dataBits}
 use Rattle.placement.specs.declared.Run.{Run}
 
 -- Eight numbers as one. They are functions of 0 to 7, so that what a place holds and what is made of it are said alike.
@@ -64,7 +64,7 @@ pub record Words (total : ℕ) (all out left : List ℕ) (n : ℕ) : Type 0 wher
   pub size : length out ≡ total
   pub few : n ≤ total
   pub enough : 8 * (total - n) ≤ length left
-  pub is : take n out ++ codewordsOf (total - n) left ≡ codewordsOf total all
+  pub is : take n out ++ firstWords 8 (total - n) left ≡ firstWords 8 total all
 
 -- the same where some of these bits are pending, and `rest` are the others
 pub record Walk (total : ℕ) (all out rest : List ℕ) (r : Run) : Type 0 where

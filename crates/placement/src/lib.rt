@@ -4,8 +4,9 @@ ghost use mathlib.Core.Path.{_≡_};
 ghost use mathlib.Core.List.{_++_};
 ghost use Prim.Native.Nat.{ℕ, _+_, _*_, _^_, _≤_, _<_};
 ghost use lib.ListN.{length, drop};
-ghost use Rattle.codewords.specs.Codewords.{maskBit, codewordsOf, dataBits};
+ghost use Rattle.codewords.specs.Codewords.{maskBit, dataBits};
 ghost use Rattle.placement.specs.Walk.{Legible, fourOf, eightOf, behind, Gathered, Pending, Stored, Pushed, Masked, unmaskedAt, Aligned, Goes, Leads, NoData, Moves};
+ghost use Rattle.bits.specs.Bits.{firstWords};
 
 // Where a row is read: the column, the codewords so far, and the first bits of the next, which are the lowest of `value`.
 pub struct Run {
@@ -186,7 +187,7 @@ fn read_row(out: &mut [u8], kinds: &[u8], square: &[u8], row: &[u8], first: Run)
 fn read_rows(out: &mut [u8], kinds: &[u8], square: &[u8], side: usize, mask: usize)
     requires { ⌜ Legible (now kinds) (now square) × (8 ≤ side) × (side ≤ 189) × (length (now square) ≡ side * side)
         × (8 * length (now out) ≤ length (dataBits (maskBit side mask) 0 (now kinds) (now square))) ⌝ }
-    ensures { λ _. ⌜ now (out .exit) ≡ codewordsOf (length (now (out .entry))) (dataBits (maskBit side mask) 0 (now (kinds .entry)) (now (square .entry))) ⌝ }
+    ensures { λ _. ⌜ now (out .exit) ≡ firstWords 8 (length (now (out .entry))) (dataBits (maskBit side mask) 0 (now (kinds .entry)) (now (square .entry))) ⌝ }
 {
     let mut table = [0u16; 576];
     let mut row = [0u8; 192];
@@ -225,7 +226,7 @@ pub fn read_codewords(
 )
     requires { ⌜ Legible (now kinds) (now square) × (8 ≤ side) × (side ≤ 189) × (length (now square) ≡ side * side) ⌝ }
     requires { ⌜ (total ≤ length (now out)) × (8 * total ≤ length (dataBits (maskBit side mask) 0 (now kinds) (now square))) ⌝ }
-    ensures { λ _. ⌜ now (out .exit) ≡ codewordsOf total (dataBits (maskBit side mask) 0 (now (kinds .entry)) (now (square .entry))) ++ drop total
+    ensures { λ _. ⌜ now (out .exit) ≡ firstWords 8 total (dataBits (maskBit side mask) 0 (now (kinds .entry)) (now (square .entry))) ++ drop total
         (now (out .entry)) ⌝ }
 {
     read_rows(&mut out[..total], kinds, square, side, mask);

@@ -1,10 +1,11 @@
 -- The greatest byte of a square says whether all are modules. Assumes nothing.
 use Rattle.general.proofs.Names.{_≡_, refl, sym, ap, _∙_, inl, inr, _≢_, Bool, true, false, List, [], _∷_, ℕ, _+_, _*_, _≤_, _<_, arith, ℕ-discrete, decLt}
 use Rattle.general.proofs.Names.{eq-eqb, ne-eqb, eqb, length, getD, List·getD-eq-default}
-use Rattle.marks.specs.Read.{firstRefusal, unless, areModules}
+use Rattle.marks.specs.Read.{firstRefusal, unless}
 use Rattle.reader.specs.Inner.{Greater, Greatest}
 use Rattle.marks.proofs.Refusals.{unless-true, first-skips, first-takes}
 use Rattle.marks.proofs.Modules.{modules-below, below-modules}
+use Rattle.marks.specs.Inner.{areModules}
 
 -- the greatest of the first n bytes
 pub record Greatest-to (sq : List ℕ) (n r : ℕ) : Type 0 where

@@ -11,7 +11,7 @@ use Rattle.information.specs.declared.NearestInfo.the-variants.{Nearest, NoVers
 use Rattle.information.specs.Information.{isInfo, copyOf, NearestAnswer, nearestOf, nearestAnswer}
 use Rattle.block_table.specs.Blocks.{hasBlocks}
 use Rattle.marks.specs.Receipt.{refusalReceipt}
-use Rattle.marks.specs.Read.{Reading, readingOf, refused, firstRefusal, unless, areModules, distanceIn, readRefusal, knownRefusal, bodyOf}
+use Rattle.marks.specs.Read.{Reading, readingOf, refused, firstRefusal, unless, readRefusal, knownRefusal, bodyOf}
 use Rattle.marks.specs.Read.{withReceipt, readOf, readKnownOf, nearestIn}
 use Rattle.marks.proofs.Refusals.{true-unless, unless-true, unless-false, first-skips, first-takes, first-left, first-none, eqb-fact}
 use Rattle.marks.proofs.Modules.{modules-below, nearest-bits}
@@ -20,6 +20,7 @@ use Rattle.marks.proofs.Starts.{in-body, no-receipt, in-refusal, side-range, si
 use Rattle.receipts.specs.declared.Mark.{Mark}
 use Rattle.telling.specs.Inner.{Fitting, bodyOr1}
 use Rattle.reader.specs.Inner as near
+use Rattle.marks.specs.Inner.{areModules, distanceIn}
 
 -- ---- two refusals, and others behind them
 

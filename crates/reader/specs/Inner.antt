@@ -5,8 +5,8 @@ use mathlib.Core.List.{List}
 use Prim.Native.Nat.{ℕ, _*_, _<_, _≤_}
 use lib.ListN.{length, getD}
 use Rattle.symbol.specs.Version.{sideOf}
-use Rattle.marks.specs.Read.{levelIn, maskIn, distanceIn}
 use Rattle.receipts.specs.declared.Mark.{Mark}
+use Rattle.marks.specs.Inner.{levelIn, maskIn, distanceIn}
 
 -- the greater of two
 pub record Greater (a b r : ℕ) : Type 0 where

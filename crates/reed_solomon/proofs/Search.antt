@@ -1,7 +1,8 @@
 -- What a search over all words of a length finds. Assumes nothing.
 use Rattle.general.proofs.Names.{_≡_, refl, ap, _∙_, sym, subst, _⊎_, inl, inr, Bool, true, false, cond, Option, none, some, List, [], _∷_, _++_, map, ℕ}
 use Rattle.general.proofs.Names.{zero, suc, _<_, arith, le-of-suc-le-suc, eq-or-lt-of-le, T, length, getD}
-use Rattle.reed_solomon.specs.Block.{led, allWords, firstThat}
+use Rattle.reed_solomon.specs.Block.{allWords, firstThat}
+use Rattle.general.specs.Lists.{each}
 
 -- a list of bytes
 abbrev pub Bytes : List ℕ → Type 0
@@ -37,8 +38,12 @@ of-map b c [] h = absurd h
 of-map b c (w ∷ ws) (inl e) = (w, e, inl refl)
 of-map b c (w ∷ ws) (inr h) = let r = of-map b c ws h in (r .0, r .1, inr (r .2))
 
+-- each byte below n in front of each word
+abbrev led : ℕ → List (List ℕ) → List (List ℕ)
+led n ws = each n (λ b. map (λ w. b ∷ w) ws)
+
 in-led : (b n : ℕ) (c : List ℕ) (ws : List (List ℕ)) → b < n → In c ws → In (b ∷ c) (led n ws)
-unfolding led
+unfolding each
 in-led b zero c ws h i = absurd (omega arith)
 in-led b (suc n) c ws h i = elim (eq-or-lt-of-le (le-of-suc-le-suc h)) [
   | inl e ↦ in-right (b ∷ c) (led n ws) (map (λ w. n ∷ w) ws) (subst (λ (x : ℕ). In (x ∷ c) (map (λ w. n ∷ w) ws)) (sym e) (in-map n c ws i))
@@ -46,7 +51,7 @@ in-led b (suc n) c ws h i = elim (eq-or-lt-of-le (le-of-suc-le-suc h)) [
 ]
 
 of-led : (n : ℕ) (c : List ℕ) (ws : List (List ℕ)) → In c (led n ws) → (b : ℕ) × (d : List ℕ) × (c ≡ b ∷ d) × (b < n) × In d ws
-unfolding led
+unfolding each
 of-led zero c ws h = absurd h
 of-led (suc n) c ws h = elim (in-either c (led n ws) (map (λ w. n ∷ w) ws) h) [
   | inl a ↦ (let r = of-led n c ws a in (r .0, r .1, r .2, omega (arith, r .3), r .4))

@@ -7,6 +7,7 @@ use Prim.Native.Nat.{ℕ, zero, suc, _+_, _/_}
 use lib.Dec.{leb, ltb, eqb}
 use lib.ListN.{length, getD}
 use lib.Bits.{bitXor}
+use Rattle.general.specs.Lists.{each}
 use Rattle.field.specs.Field.{power, mul, below}
 
 -- the value at x of a block, first byte the highest coefficient, behind a value so far (reed_solomon.rs: `eval`)
@@ -27,15 +28,10 @@ distance [] ys = 0
 distance (x ∷ xs) [] = 0
 distance (x ∷ xs) (y ∷ ys) = cond (eqb x y) (distance xs ys) (suc (distance xs ys))
 
--- each byte below b in front of each of the words ws
-unfoldable pub led : ℕ → List (List ℕ) → List (List ℕ)
-led zero ws = []
-led (suc b) ws = led b ws ++ map (λ w. b ∷ w) ws
-
--- all words of n bytes
+-- all words of n bytes: each byte in front of each word that is shorter by one
 unfoldable pub allWords : ℕ → List (List ℕ)
 allWords zero = [] ∷ []
-allWords (suc n) = led 256 (allWords n)
+allWords (suc n) = each 256 (λ b. map (λ w. b ∷ w) (allWords n))
 
 -- the first of ws that passes a test
 unfoldable pub firstThat : (List ℕ → Bool) → List (List ℕ) → Option (List ℕ)

@@ -1,5 +1,5 @@
 -- Segments that are written are read back, with zero bits behind them.
-use Rattle.general.proofs.Names.{_≡_, refl, ap, _∙_, Bool, true, false, cond, List, [], _∷_, _++_, append-assoc, flatMap, ℕ, zero, suc, _+_, _*_, _^_, _<_}
+use Rattle.general.proofs.Names.{_≡_, refl, ap, _∙_, Bool, true, false, cond, List, [], _∷_, _++_, append-assoc, flatMap, ℕ, zero, suc, _+_, _*_, _^_, _<_, drop-append-seam}
 use Rattle.general.proofs.Names.{_≤_, le-of-suc-le-suc, arith, ne-eqb, lt-ltb, le-ltb, ltb-true, ltb, length, getD, drop, replicate, length-append, take-at}
 use Rattle.general.proofs.Names.{drop-at}
 use Rattle.bits.specs.Bits.{lowBits, value, words, wordBits}
@@ -8,11 +8,13 @@ use Rattle.segments.specs.Script.{Segment, run, eci}
 use Rattle.segments.specs.FromData.{isBroken}
 use Rattle.segments.specs.Segments.{Result, got, inBits, numericOf, textOf, bytesMode, regionOf, doubleByteOf, fourBytes, fourByteOf, eciValue}
 use Rattle.segments.specs.Segments.{eciOf, bytesOfMode, segmentOf, Parsed, following, parse}
-use Rattle.script.specs.Writer.{all, numericWords, textWords, regionWords, doubleWords, fourCode, same, inFour, eciBits, modeHas, modeBits}
-use Rattle.script.specs.Writer.{has, encodingOf, allHave, encodings}
+use Rattle.script.specs.Writer.{numericWords, textWords, regionWords, doubleWords, fourCode, same, inFour, eciBits, modeHas, modeBits}
+use Rattle.script.specs.Writer.{has, encodingOf, encodings}
 use Rattle.script.proofs.Tests.{both, same-is}
 use Rattle.script.proofs.Digits.{numeric-back, numeric-small}
 use Rattle.script.proofs.Characters.{text-back, text-small, region-back, region-small, double-back, double-small, bytes-back}
+use Rattle.script.specs.Inner.{allHave}
+use Rattle.general.specs.Lists.{all}
 
 -- ---- the modes in bits
 
@@ -92,11 +94,17 @@ module _ (bs rest : List ℕ) where
 
 -- ---- ECI
 
-field-back : (k w v : ℕ) (rest : List ℕ) → v < 2 ^ w → eciValue k w (lowBits w v ++ rest) ≡ got (eci v) (k + w)
+field-back : (ps : List ℕ) (w v : ℕ) (rest : List ℕ) → v < 2 ^ w → eciValue (length ps) w (ps ++ (lowBits w v ++ rest)) ≡ got (eci v) (length ps + w)
 unfolding eciValue
-field-back k w v rest h =
-    let l : w ≤ length (lowBits w v ++ rest) = omega (arith, length-append (lowBits w v) rest, length-low w v) in
-    rw (le-ltb (length (lowBits w v ++ rest)) w l, take-at (lowBits w v) rest w (length-low w v), low-back w v h)
+field-back ps w v rest h =
+    let l : length ps + w ≤ length (ps ++ (lowBits w v ++ rest)) =
+    omega (arith, length-append ps (lowBits w v ++ rest), length-append (lowBits w v) rest, length-low w v) in
+    rw (
+      le-ltb (length (ps ++ (lowBits w v ++ rest))) (length ps + w) l,
+      drop-append-seam ps (lowBits w v ++ rest),
+      take-at (lowBits w v) rest w (length-low w v),
+      low-back w v h,
+    )
 
 eci-back : (v : ℕ) (rest : List ℕ) → v ≤ 2097151 → eciOf (eciBits v ++ rest) ≡ got (eci v) (length (eciBits v))
 unfolding eciBits eciOf
@@ -105,9 +113,9 @@ eci-back v rest h = go (ltb v 128) refl (ltb v 16384) refl
     go : (a : Bool) → ltb v 128 ≡ a → (b : Bool) → ltb v 16384 ≡ b
         → eciOf (cond a (0 ∷ lowBits 7 v) (cond b (1 ∷ 0 ∷ lowBits 14 v) (1 ∷ 1 ∷ 0 ∷ lowBits 21 v)) ++ rest)
         ≡ got (eci v) (length (cond a (0 ∷ lowBits 7 v) (cond b (1 ∷ 0 ∷ lowBits 14 v) (1 ∷ 1 ∷ 0 ∷ lowBits 21 v))))
-    go true p b q = field-back 1 7 v rest (ltb-true v 128 p) ∙ rw length-low
-    go false p true q = field-back 2 14 v rest (ltb-true v 16384 q) ∙ rw length-low
-    go false p false q = field-back 3 21 v rest (omega arith) ∙ rw length-low
+    go true p b q = field-back (0 ∷ []) 7 v rest (ltb-true v 128 p) ∙ rw length-low
+    go false p true q = field-back (1 ∷ 0 ∷ []) 14 v rest (ltb-true v 16384 q) ∙ rw length-low
+    go false p false q = field-back (1 ∷ 1 ∷ 0 ∷ []) 21 v rest (omega arith) ∙ rw length-low
 
 -- ---- one segment and all of them
 
@@ -162,7 +170,7 @@ zeros (suc (suc (suc (suc z)))) (suc k) h =
 
 pub round : (k : ℕ) (gs : List Segment) (z : ℕ) → length gs < k → AllLegal gs → allHave gs ≡ true
     → Whole (parse k (encodings gs ++ replicate z 0)) gs
-unfolding encodings allHave flatMap
+unfolding encodings flatMap
 round zero gs z h l t = absurd (omega arith)
 round (suc k) [] z h l t = zeros z (suc k) (omega arith)
 round (suc k) (g ∷ gs) z h l t =

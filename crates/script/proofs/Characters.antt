@@ -2,10 +2,11 @@
 use Rattle.general.proofs.Names.{_≡_, refl, _∙_, Bool, true, false, not, cond, List, [], _∷_, _++_, ℕ, suc, _+_, _/_, _<_, _≤_, arith, ne-eqb, lt-ltb}
 use Rattle.general.proofs.Names.{length, getD}
 use Rattle.segments.specs.Segments.{got, before, charOf, textOf, highOf, lowOf, regionSize, regionOf, doubleByteOf, bytesRun}
-use Rattle.script.specs.Writer.{all, allPairs, codeOf, inSubset, inText, textWords, pairCode, inRegion, inRegions, regionWords, doubleCode}
+use Rattle.script.specs.Writer.{allPairs, codeOf, inSubset, inText, textWords, pairCode, inRegion, inRegions, regionWords, doubleCode}
 use Rattle.script.specs.Writer.{inDouble, doubleWords}
 use Rattle.script.specs.Lengths.{textSwitches, regionSwitches}
 use Rattle.script.proofs.Tests.{both, false-true, subset-has, other-subset, region-has, other-region, double-has, small-cons}
+use Rattle.general.specs.Lists.{all}
 
 -- ---- text
 

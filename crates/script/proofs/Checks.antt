@@ -3,18 +3,19 @@ use Rattle.general.proofs.Names.{_≡_, refl, ap, _∙_, subst, sym, Bool, true
 use Rattle.general.proofs.Names.{_-_, _*_, _/_, _%_, _<_, _≤_, add-zero, zero-add, add-assoc, arith, eq-eqb, ne-eqb, lt-ltb, le-ltb, lt-leb, le-leb}
 use Rattle.general.proofs.Names.{ltb-false, leb-true, ltb, eqb, leb, length, getD, take, drop, length-drop, getD-drop, drop-drop, length-take-le}
 use Rattle.bits.proofs.Tests.{never}
-use Rattle.segments.specs.Script.{Segment, run, eci, bytesOf, runCommand, commandOf}
+use Rattle.segments.specs.Script.{Segment, run, eci, bytesOf, commandOf}
 use Rattle.script.specs.declared.Command.{Command}
 use Rattle.script.specs.declared.Command.the-variants.{Run, Eci, Wrong}
 use Rattle.script.specs.declared.Check.the-variants.{Bits, Malformed, Lacking, Empty}
 use Rattle.script.specs.declared.Cost.{Cost}
 use Rattle.script.specs.declared.Cost.the-variants.{Takes, Lacks}
-use Rattle.script.specs.Writer.{modeHas, has, allHave}
+use Rattle.script.specs.Writer.{modeHas, has}
 use Rattle.script.specs.Lengths.{modeLength, eciLength, bitsOfSegment, bitsOfSegments}
 use Rattle.script.specs.Check.{allowed, segmentAt, commands, commandsOf}
 use Rattle.script.specs.Inner.{lengthOperand, valueOperand, runAt, eciAt, commandAt, commandSize, made, with, most, capped, checkedOf, checkOf, settled}
 use Rattle.script.specs.Characters.{costOf, Limited}
 use Rattle.script.proofs.Tests.{both}
+use Rattle.segments.specs.Positions.{runCommand}
 
 -- ---- the command at a place
 
@@ -146,7 +147,7 @@ capped-add x y = go (ltb x most) refl
 with-takes : (lacks : Bool) (t t′ b : ℕ) (g : Segment) (z : Option (List Segment)) (p : List ℕ) → has g ≡ true → bitsOfSegment g ≡ b
     → t′ ≡ capped (t + b)
     → settled lacks t (with g z) p ≡ settled lacks t′ z p
-unfolding allHave bitsOfSegments
+unfolding bitsOfSegments
 with-takes lacks t t′ b g none p h e f = refl
 with-takes lacks t t′ b g (some gs) p h e f =
     let k : capped (t′ + bitsOfSegments gs) ≡ capped (t + (b + bitsOfSegments gs)) = rw (f, capped-add (t + b) (bitsOfSegments gs), add-assoc t b (bitsOfSegments gs)) in
@@ -154,7 +155,6 @@ with-takes lacks t t′ b g (some gs) p h e f =
 
 with-lacks : (lacks : Bool) (t : ℕ) (g : Segment) (z : Option (List Segment)) (p : List ℕ) → has g ≡ false
     → settled lacks t (with g z) p ≡ settled true t z p
-unfolding allHave
 with-lacks lacks t g none p h = refl
 with-lacks true t g (some gs) p h = refl
 with-lacks false t g (some gs) p h = rw h
@@ -182,7 +182,7 @@ segment-made s p =
     go false false c d true false false = refl
 
 command-size : (mode n : ℕ) → length (runCommand mode n) ≡ commandSize mode
-unfolding runCommand commandSize
+unfolding commandSize
 command-size mode n = go (eqb mode 7)
   where
     go : (b : Bool) → length (cond b (7 ∷ []) (mode ∷ n / 256 ∷ n % 256 ∷ [])) ≡ cond b 1 3
@@ -323,11 +323,10 @@ module _ {s p : List ℕ} {i j : ℕ} {lacks : Bool} {t : ℕ} (d : Settles s p 
     end-lacks e = sym (all-read ∙ rw e)
 
     pub end-empty : lacks ≡ false → length p ≡ 0 → Empty ≡ checkOf s p
-    unfolding allHave
     end-empty e z = sym (all-read ∙ rw (e, eq-eqb (length p) 0 z))
 
     pub end-bits : lacks ≡ false → (length p ≡ 0 → ⊥) → t ≤ most → Bits t ≡ checkOf s p
-    unfolding allHave bitsOfSegments
+    unfolding bitsOfSegments
     end-bits e z m = sym (all-read ∙ rw (e, ne-eqb (length p) 0 z, add-zero) (ap Bits (go (ltb t most) refl)))
       where
         go : (b : Bool) → ltb t most ≡ b → cond b t most ≡ t

@@ -2,8 +2,9 @@
 use Rattle.general.proofs.Names.{_≡_, refl, _∙_, true, List, [], _∷_, _++_, append-nil, ℕ, _+_, _-_, _*_, _/_, _%_, _^_, _<_, _≤_, arith, lt-ltb, le-ltb}
 use Rattle.general.proofs.Names.{ltb-true, leb-true, ltb, leb, length, getD}
 use Rattle.segments.specs.Segments.{got, before, digits, groupsOf, numericOf}
-use Rattle.script.specs.Writer.{all, isDigit, numericWords}
+use Rattle.script.specs.Writer.{isDigit, numericWords}
 use Rattle.script.proofs.Tests.{both, small-cons}
+use Rattle.general.specs.Lists.{all}
 
 digit : (b : ℕ) → isDigit b ≡ true → (48 ≤ b) × (b < 58)
 unfolding isDigit

@@ -3,11 +3,12 @@ use Rattle.general.proofs.Names.{_≡_, refl, _∙_, Bool, true, false, cond, L
 use Rattle.bits.specs.Bits.{lowBits, wordBits}
 use Rattle.bits.proofs.Words.{length-low, length-words}
 use Rattle.segments.specs.Script.{Segment, run, eci}
-use Rattle.script.specs.Writer.{numericWords, textWords, regionWords, doubleWords, eciBits, modeHas, modeBits, has, encodingOf, allHave, encodings}
+use Rattle.script.specs.Writer.{numericWords, textWords, regionWords, doubleWords, eciBits, modeHas, modeBits, has, encodingOf, encodings}
 use Rattle.script.specs.Lengths.{modeLength, eciLength, bitsOfSegment, bitsOfSegments}
 use Rattle.script.proofs.Tests.{both}
 use Rattle.script.proofs.Digits.{numeric-length}
 use Rattle.script.proofs.Characters.{text-length, region-length, double-length}
+use Rattle.script.specs.Inner.{allHave}
 
 -- one mode before the others: x says that it is this one
 either : (x h k : Bool) (xs ys : List ℕ) (m n : ℕ) → cond x h k ≡ true → (h ≡ true → 4 + length xs ≡ m) → (k ≡ true → 4 + length ys ≡ n)
@@ -40,7 +41,7 @@ segment-length (run mode bs) h = rw (length-append (lowBits 4 mode) (modeBits mo
 segment-length (eci v) h = rw (length-append (lowBits 4 8) (eciBits v), length-low) (eci-length v)
 
 pub encodings-length : (gs : List Segment) → allHave gs ≡ true → length (encodings gs) ≡ bitsOfSegments gs
-unfolding encodings allHave bitsOfSegments flatMap
+unfolding encodings bitsOfSegments flatMap
 encodings-length [] h = refl
 encodings-length (g ∷ gs) h =
     let a = both (has g) (allHave gs) h in

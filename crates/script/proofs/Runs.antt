@@ -6,13 +6,14 @@ use Rattle.segments.specs.Segments.{fourBytes}
 use Rattle.script.specs.declared.Character.{Character}
 use Rattle.script.specs.declared.Character.the-variants.{Same, Other, Lacking}
 use Rattle.script.specs.declared.Cost.the-variants.{Takes, Lacks}
-use Rattle.script.specs.Writer.{all, allPairs, isDigit, codeOf, inSubset, inText, pairCode, inRegion, inRegions, doubleCode, inDouble}
+use Rattle.script.specs.Writer.{allPairs, isDigit, codeOf, inSubset, inText, pairCode, inRegion, inRegions, doubleCode, inDouble}
 use Rattle.script.specs.Writer.{textWords, regionWords, doubleWords, fourCode, same, inFour, modeHas}
 use Rattle.script.specs.Lengths.{textSwitches, regionSwitches, modeLength}
 use Rattle.script.specs.Characters.{wordsOf, hasAll, stepOf, widthOf, switchOf, endOf, textCharacter, regionCharacter, doubleCharacter}
 use Rattle.script.specs.Characters.{CharacterIs, beginsIn, charCost, costOf}
 use Rattle.script.proofs.Tests.{both, same-is}
 use Rattle.script.proofs.Characters.{text-length, region-length, double-length}
+use Rattle.general.specs.Lists.{all}
 
 -- ---- the character at the front
 

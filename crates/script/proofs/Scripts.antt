@@ -3,11 +3,12 @@ use Rattle.general.proofs.Names.{_≡_, refl, Bool, true, false, cond, _&&_, Op
 use Rattle.general.proofs.Names.{_/_, _%_, _<_, _≤_, arith, eqb-true, eqb-false, ltb-false, ltb-true, leb-true, eq-eqb, ne-eqb, ltb, eqb, leb, length, getD}
 use Rattle.general.proofs.Names.{take, drop, take-append-drop, getD-drop, length-take-le}
 use Rattle.bits.proofs.Tests.{never}
-use Rattle.segments.specs.Script.{Segment, run, eci, bytesOf, runCommand, commandOf, payloadOf, scriptOf}
+use Rattle.segments.specs.Script.{Segment, run, eci, bytesOf, commandOf, payloadOf, scriptOf}
 use Rattle.script.specs.Check.{allowed, taking, segmentAt, commands}
 use Rattle.script.specs.Inner.{lengthOperand, valueOperand, with}
 use Rattle.script.proofs.Tests.{both}
 use Rattle.script.proofs.Back.{Legal, AllLegal}
+use Rattle.segments.specs.Positions.{runCommand}
 
 -- ---- the segment at the front
 
@@ -73,7 +74,6 @@ module _ (s p : List ℕ) (b : (i : ℕ) → getD s i 0 < 256) (l : 0 < length s
 
   front-run : (1 ≤ mode) × (mode ≤ 6) → (x : Bool) → ltb (length s) 3 ≡ x → (y : Bool) → allowed mode (lengthOperand s) ≡ y
       → Front s p (cond x none (cond y (taking mode (lengthOperand s) p) none))
-  unfolding runCommand
   front-run m true e y f = tt
   front-run m false e false f = tt
   front-run m false e true f =
@@ -87,7 +87,7 @@ module _ (s p : List ℕ) (b : (i : ℕ) → getD s i 0 < 256) (l : 0 < length s
   front-eci e false f false g = (front-4 s (ltb-false (length s) 4 f) b e, refl, ltb-false 2097151 (valueOperand s) g)
 
   front : Front s p (segmentAt s p)
-  unfolding segmentAt runCommand
+  unfolding segmentAt
   front = go (eqb mode 7) refl (eqb mode 8) refl (leb 1 mode && leb mode 6) refl
     where
       go : (x : Bool) → eqb mode 7 ≡ x → (y : Bool) → eqb mode 8 ≡ y → (z : Bool) → (leb 1 mode && leb mode 6) ≡ z

@@ -4,10 +4,10 @@ use Rattle.general.proofs.Names.{ltb, leb, length, getD, drop}
 use Rattle.segments.specs.Script.{Segment}
 use Rattle.segments.specs.Segments.{segmentsOf}
 use Rattle.segments.specs.FromData.{fromData}
-use Rattle.script.specs.Writer.{allHave, encodings, dataBytes}
+use Rattle.script.specs.Writer.{encodings, dataBytes}
 use Rattle.script.specs.Lengths.{bitsOfSegments}
-use Rattle.script.specs.Check.{commandsOf, scriptData}
-use Rattle.script.specs.Inner.{most, capped, Fits}
+use Rattle.script.specs.Check.{commandsOf}
+use Rattle.script.specs.Inner.{most, capped, Fits, allHave, scriptData}
 use Rattle.script.proofs.Back.{AllLegal, Whole, round}
 use Rattle.script.proofs.Lengths.{encodings-length}
 use Rattle.script.proofs.Data.{data-bits, data-length, count-bits}

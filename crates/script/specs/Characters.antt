@@ -9,9 +9,10 @@ use Rattle.script.specs.declared.Character.{Character}
 use Rattle.script.specs.declared.Character.the-variants.{Same, Other, Lacking}
 use Rattle.script.specs.declared.Cost.{Cost}
 use Rattle.script.specs.declared.Cost.the-variants.{Takes, Lacks}
-use Rattle.script.specs.Writer.{all, allPairs, codeOf, inSubset, inText, pairCode, inRegion, inRegions, doubleCode, inDouble, textWords}
+use Rattle.script.specs.Writer.{allPairs, codeOf, inSubset, inText, pairCode, inRegion, inRegions, doubleCode, inDouble, textWords}
 use Rattle.script.specs.Writer.{regionWords, doubleWords, modeHas}
 use Rattle.script.specs.Lengths.{modeLength}
+use Rattle.general.specs.Lists.{all}
 
 -- the modes 2, 4, 5 and 6: words of one width, one for each byte or pair, a switch before some, and an end
 unfoldable pub wordsOf : ℕ → Bool → List ℕ → List ℕ

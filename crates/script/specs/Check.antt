@@ -1,12 +1,11 @@
 -- SPECIFICATION 10.8: the segments that the commands of a script make of a payload.
 use mathlib.Core.Bool.{Bool, true, cond, _&&_}
-use mathlib.Core.Option.{Option, none, some, Option·map, Option·getD, bind}
+use mathlib.Core.Option.{Option, none, some, Option·map, bind}
 use mathlib.Core.List.{List, [], _∷_}
 use Prim.Native.Nat.{ℕ, zero, suc, _+_, _*_, _%_}
 use lib.Dec.{ltb, eqb, leb}
 use lib.ListN.{length, getD, take, drop}
 use Rattle.segments.specs.Script.{Segment, run, eci, bytesOf, commandOf}
-use Rattle.script.specs.Writer.{dataBytes}
 
 -- n payload bytes are allowed in a mode: no numeric segment is empty, a bytes segment has at most 8,191, modes 4 to 6 an even number
 unfoldable pub allowed : ℕ → ℕ → Bool
@@ -41,7 +40,3 @@ commands (suc k) s p =
 -- the segments that the commands of a script make of a payload
 abbrev pub commandsOf : List ℕ → List ℕ → Option (List Segment)
 commandsOf s p = commands (length s + 1) s p
-
--- the n data bytes of these segments; where there are none, nothing is written
-abbrev pub scriptData : ℕ → Option (List Segment) → List ℕ
-scriptData n gs = dataBytes n (Option·getD gs [])

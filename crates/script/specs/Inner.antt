@@ -2,8 +2,8 @@
 -- has to believe anything here.
 use mathlib.Core.Path.{_≡_}
 use mathlib.Core.Bool.{Bool, true, cond, not, _&&_}
-use mathlib.Core.Option.{Option, none, some, Option·map}
-use mathlib.Core.List.{List, _∷_}
+use mathlib.Core.Option.{Option, none, some, Option·map, Option·getD}
+use mathlib.Core.List.{List, [], _∷_}
 use Prim.Native.Nat.{ℕ, _+_, _*_, _<_, _≤_}
 use lib.Dec.{ltb, eqb, leb}
 use lib.ListN.{length, getD}
@@ -12,9 +12,18 @@ use Rattle.script.specs.declared.Command.{Command}
 use Rattle.script.specs.declared.Command.the-variants.{Run, Eci, Wrong}
 use Rattle.script.specs.declared.Check.{Check}
 use Rattle.script.specs.declared.Check.the-variants.{Bits, Malformed, Lacking, Empty}
-use Rattle.script.specs.Writer.{allHave, encodings}
+use Rattle.general.specs.Lists.{all}
+use Rattle.script.specs.Writer.{has, encodings, dataBytes}
 use Rattle.script.specs.Lengths.{bitsOfSegments}
 use Rattle.script.specs.Check.{allowed, taking, commandsOf}
+
+-- each of some segments has its bytes
+abbrev pub allHave : List Segment → Bool
+allHave gs = all has gs
+
+-- the n data bytes of segments; where there are none, nothing is written
+abbrev pub scriptData : ℕ → Option (List Segment) → List ℕ
+scriptData n gs = dataBytes n (Option·getD gs [])
 
 -- the operands behind the first byte of a script, big-endian: a length in 2 bytes, a value in 3
 abbrev pub lengthOperand : List ℕ → ℕ

@@ -1,16 +1,13 @@
 -- SPECIFICATION 9: each command in its mode, switches only where the next character needs one, shortest ECI; all later bits 0.
 use mathlib.Core.Bool.{Bool, true, false, cond, not, _&&_, _||_}
-use mathlib.Core.List.{List, [], _∷_, _++_, foldr, flatMap}
+use mathlib.Core.List.{List, [], _∷_, _++_, flatMap}
 use Prim.Native.Nat.{ℕ, _+_, _-_, _*_}
 use lib.Dec.{ltb, eqb, leb}
 use lib.ListN.{length, getD, replicate}
+use Rattle.general.specs.Lists.{all}
 use Rattle.bits.specs.Bits.{lowBits, wordBits, words}
 use Rattle.segments.specs.Script.{Segment, run, eci}
 use Rattle.segments.specs.Segments.{charOf, highOf, lowOf, regionSize, firstByte, secondByte, fourBytes}
-
--- every one passes a test
-abbrev pub all : (ℕ → Bool) → List ℕ → Bool
-all test bs = foldr (λ b r. test b && r) true bs
 
 -- every pair passes a test; a byte left alone does not
 abbrev pub allPairs : (ℕ → ℕ → Bool) → List ℕ → Bool
@@ -129,6 +126,7 @@ modeBits mode bs =
     (cond (eqb mode 5) (wordBits 12 (regionWords false bs))
     (cond (eqb mode 6) (wordBits 15 (doubleWords bs)) (lowBits 21 (fourCode bs)))))))
 
+-- the mode of a segment has its bytes
 abbrev pub has : Segment → Bool
 has (run mode bs) = modeHas mode bs
 has (eci v) = true
@@ -137,10 +135,6 @@ has (eci v) = true
 abbrev pub encodingOf : Segment → List ℕ
 encodingOf (run mode bs) = lowBits 4 mode ++ modeBits mode bs
 encodingOf (eci v) = lowBits 4 8 ++ eciBits v
-
--- each of some segments has its bytes
-unfoldable pub allHave : List Segment → Bool
-allHave gs = foldr (λ g r. has g && r) true gs
 
 unfoldable pub encodings : List Segment → List ℕ
 encodings gs = flatMap encodingOf gs

@@ -4,7 +4,8 @@ ghost use mathlib.Core.Bool.{false, _&&_};
 ghost use Prim.Native.Nat.{_+_, _-_, _*_, _/_, _<_, _≤_};
 ghost use lib.Dec.{ltb};
 ghost use lib.ListN.{length};
-ghost use Rattle.script.specs.Writer.{all, isDigit, codeOf, inSubset, pairCode, inRegion, doubleCode, inDouble, fourCode, inFour};
+ghost use Rattle.script.specs.Writer.{isDigit, codeOf, inSubset, pairCode, inRegion, doubleCode, inDouble, fourCode, inFour};
+ghost use Rattle.general.specs.Lists.{all};
 
 // The value of a byte in a subset of the text mode, where it has one.
 pub fn code(first: bool, b: usize) -> usize

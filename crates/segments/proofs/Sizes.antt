@@ -1,5 +1,5 @@
 -- How long payload and script can be: a segment gives at most 3 payload bytes for 10 bits, and a script byte for 3 bits.
-use Rattle.general.proofs.Names.{_≡_, refl, ap, Bool, true, false, cond, not, List, [], _∷_, flatMap, ℕ, zero, suc, _+_, _-_, _*_, _/_, _^_, _<_, _≤_}
+use Rattle.general.proofs.Names.{_≡_, refl, ap, Bool, true, false, cond, not, List, [], _∷_, flatMap, ℕ, zero, suc, _+_, _-_, _*_, _/_, _^_, _<_, _≤_, getD, drop}
 use Rattle.general.proofs.Names.{mul-suc, zero-add, arith, ltb-false, ltb, eqb, length, getD, take, drop, length-append, length-drop, getD-drop}
 use lib.Pow.{pow-pos}
 use Rattle.bits.specs.Bits.{value, firstWords, words, groups}
@@ -180,23 +180,23 @@ abbrev pub SegmentSized : List ℕ → Result Segment → Type 0
 SegmentSized bs (failed bad) = Unit {0}
 SegmentSized bs (got g u) = (10 * length (bytesOf g) ≤ 3 * u) × (3 * length (commandOf g) ≤ 4 + u) × (u ≤ length bs)
 
-field-sized : (k w : ℕ) (bs cs : List ℕ) → 8 ≤ k + w → length bs ≡ k + length cs → SegmentSized bs (eciValue k w cs)
+field-sized : (k w : ℕ) (bs : List ℕ) → 8 ≤ k + w → SegmentSized bs (eciValue k w bs)
 unfolding eciValue
-field-sized k w bs cs h l = go (ltb (length cs) w) refl
+field-sized k w bs h = go (ltb (length bs) (k + w)) refl
   where
-    go : (b : Bool) → ltb (length cs) w ≡ b → SegmentSized bs (cond b (failed cut) (got (eci (value 0 (take w cs))) (k + w)))
+    go : (b : Bool) → ltb (length bs) (k + w) ≡ b → SegmentSized bs (cond b (failed cut) (got (eci (value 0 (take w (drop k bs)))) (k + w)))
     go true e = tt
-    go false e = let m = ltb-false (length cs) w e in (omega arith, omega arith, omega arith)
+    go false e = let m = ltb-false (length bs) (k + w) e in (omega arith, omega arith, omega arith)
 
 eci-sized : (bs : List ℕ) → SegmentSized bs (eciOf bs)
 unfolding eciOf
-eci-sized [] = tt
-eci-sized (zero ∷ bs) = field-sized 1 7 (zero ∷ bs) bs (omega arith) (omega arith)
-eci-sized (suc a ∷ []) = tt
-eci-sized (suc a ∷ zero ∷ bs) = field-sized 2 14 (suc a ∷ zero ∷ bs) bs (omega arith) (omega arith)
-eci-sized (suc a ∷ suc b ∷ []) = tt
-eci-sized (suc a ∷ suc b ∷ zero ∷ bs) = field-sized 3 21 (suc a ∷ suc b ∷ zero ∷ bs) bs (omega arith) (omega arith)
-eci-sized (suc a ∷ suc b ∷ suc c ∷ bs) = tt
+eci-sized bs =
+    either (eqb (getD bs 0 0) 0) _ _ (field-sized 1 7 bs (omega arith))
+    (either (eqb (getD bs 1 0) 0) _ _ (field-sized 2 14 bs (omega arith)) (either (eqb (getD bs 2 0) 0) _ _ (field-sized 3 21 bs (omega arith)) tt))
+  where
+    either : (b : Bool) (x y : Result Segment) → SegmentSized bs x → SegmentSized bs y → SegmentSized bs (cond b x y)
+    either true x y p q = p
+    either false x y p q = q
 
 pub segment-sized : (mode : ℕ) (bs : List ℕ) → Small bs → SegmentSized bs (segmentOf mode bs)
 unfolding segmentOf

@@ -9,10 +9,10 @@ use Rattle.segments.specs.declared.Count.{Count}
 use Rattle.segments.specs.declared.Count.the-variants.{Done}
 use Rattle.segments.specs.declared.Step.{Step}
 use Rattle.segments.specs.declared.Step.the-variants.{On}
-use Rattle.segments.specs.Script.{Segment, run, eci, bytesOf, runCommand, commandOf, payloadOf, scriptOf}
+use Rattle.segments.specs.Script.{Segment, run, eci, bytesOf, commandOf, payloadOf, scriptOf}
 use Rattle.segments.specs.Segments.{Fault, cut, lacking, Result, failed, got, andThen, eciOf, bytesOfMode, segmentOf, Ending, endMark, fewBits}
 use Rattle.segments.specs.Segments.{broken, Parsed, following, parse, segmentsOf}
-use Rattle.segments.specs.Positions.{stopped, behind, counted, stepped, Left, Inside, numericAt, textAt, bytesAt, regionAt, doubleByteAt}
+use Rattle.segments.specs.Positions.{stopped, behind, counted, stepped, Left, Inside, numericAt, textAt, bytesAt, regionAt, doubleByteAt, runCommand}
 use Rattle.segments.specs.Positions.{fourByteAt, runAt, EciLeft, Stepped, Reached, ParsesTo, Parses}
 use Rattle.segments.proofs.Turns.{behind-bits}
 
@@ -77,7 +77,6 @@ module _ (s : List ℕ) (i n : ℕ) (o : List ℕ) (mode : ℕ) where
 -- ---- one segment
 
 pub command-length : (mode n : ℕ) → length (runCommand mode n) ≤ 3
-unfolding runCommand
 command-length mode n = go (eqb mode 7)
   where
     go : (b : Bool) → length (cond {A = List ℕ} b (7 ∷ []) (mode ∷ n / 256 ∷ n % 256 ∷ [])) ≤ 3

@@ -1,7 +1,7 @@
 -- What the contracts of inner functions say: positions and buffers of one pass over the data. Nobody has to believe anything here.
 use mathlib.Core.Path.{_≡_}
 use mathlib.Core.Bool.{Bool, cond, not}
-use mathlib.Core.List.{List}
+use mathlib.Core.List.{List, [], _∷_}
 use Prim.Native.Nat.{ℕ, _+_, _-_, _*_, _/_, _%_, _≤_, _<_}
 use lib.Dec.{eqb}
 use lib.ListN.{length, drop}
@@ -16,6 +16,10 @@ use Rattle.segments.specs.declared.Step.the-variants.{On, Cut as StepCut
 use Rattle.segments.specs.Script.{Segment, run, eci, bytesOf, commandOf, payloadOf, scriptOf}
 use Rattle.segments.specs.Segments.{Fault, cut, lacking, Result, failed, got, groupsOf, numericOf, textOf, bytesRun, bytesMode, regionOf}
 use Rattle.segments.specs.Segments.{doubleByteOf, fourByteOf, bytesOfMode, Ending, endMark, fewBits, broken, Parsed}
+
+-- the command of n payload bytes in a mode
+abbrev pub runCommand : ℕ → ℕ → List ℕ
+runCommand mode n = cond (eqb mode 7) (7 ∷ []) (mode ∷ n / 256 ∷ n % 256 ∷ [])
 
 -- where a mode's function stops: at a fault, or at a position with n bytes stored in a buffer
 pub data State : Type 0 where

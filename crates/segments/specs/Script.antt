@@ -15,13 +15,9 @@ abbrev pub bytesOf : Segment → List ℕ
 bytesOf (run mode bs) = bs
 bytesOf (eci v) = []
 
--- the command of n payload bytes in a mode: 7 stands alone, 1 to 6 have a 2-byte length in payload bytes
-unfoldable pub runCommand : ℕ → ℕ → List ℕ
-runCommand mode n = cond (eqb mode 7) (7 ∷ []) (mode ∷ n / 256 ∷ n % 256 ∷ [])
-
--- the command of a segment; 8 has a 3-byte value
+-- the command of a segment: 7 stands alone, 1 to 6 have a 2-byte length in payload bytes, 8 has a 3-byte value
 abbrev pub commandOf : Segment → List ℕ
-commandOf (run mode bs) = runCommand mode (length bs)
+commandOf (run mode bs) = cond (eqb mode 7) (7 ∷ []) (mode ∷ length bs / 256 ∷ length bs % 256 ∷ [])
 commandOf (eci v) = 8 ∷ v / 65536 ∷ v / 256 % 256 ∷ v % 256 ∷ []
 
 -- the payload of segments

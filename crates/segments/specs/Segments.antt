@@ -3,7 +3,7 @@ use mathlib.Core.Bool.{Bool, true, false, cond, not}
 use mathlib.Core.List.{List, [], _∷_, _++_}
 use Prim.Native.Nat.{ℕ, zero, suc, _+_, _-_, _*_, _/_, _%_, _^_}
 use lib.Dec.{ltb, eqb}
-use lib.ListN.{length, take, drop}
+use lib.ListN.{length, take, drop, getD}
 use Rattle.bits.specs.Bits.{bitsOf, value, words}
 use Rattle.segments.specs.Script.{Segment, run, eci}
 
@@ -115,16 +115,13 @@ fourByteOf bs =
 
 -- the value in the w bits behind a prefix of k bits
 unfoldable pub eciValue : ℕ → ℕ → List ℕ → Result Segment
-eciValue k w bs = cond (ltb (length bs) w) (failed cut) (got (eci (value 0 (take w bs))) (k + w))
+eciValue k w bs = cond (ltb (length bs) (k + w)) (failed cut) (got (eci (value 0 (take w (drop k bs)))) (k + w))
 
+-- by the first bit that is 0; bits that are cut off count as 0, and the value is cut then
 unfoldable pub eciOf : List ℕ → Result Segment
-eciOf [] = failed cut
-eciOf (zero ∷ bs) = eciValue 1 7 bs
-eciOf (suc _ ∷ []) = failed cut
-eciOf (suc _ ∷ zero ∷ bs) = eciValue 2 14 bs
-eciOf (suc _ ∷ suc _ ∷ []) = failed cut
-eciOf (suc _ ∷ suc _ ∷ zero ∷ bs) = eciValue 3 21 bs
-eciOf (suc _ ∷ suc _ ∷ suc _ ∷ bs) = failed lacking
+eciOf bs =
+    cond (eqb (getD bs 0 0) 0) (eciValue 1 7 bs)
+    (cond (eqb (getD bs 1 0) 0) (eciValue 2 14 bs) (cond (eqb (getD bs 2 0) 0) (eciValue 3 21 bs) (failed lacking)))
 
 -- ---- one segment, and all of them (8.2)
 

@@ -10,7 +10,7 @@ use bits::Word;
 // The value in the w bits behind an ECI's prefix of k bits.
 fn eci_field(s: &[u8], from: usize, k: usize, w: usize) -> Count
     requires { ⌜ (length (now s) ≤ 4096) × (from + k ≤ 8 * length (now s)) × (0 < w) × (w ≤ 21) ⌝ }
-    ensures { λ r. ⌜ EciLeft (now (s .entry)) from (eciValue k w (drop (from + k) (bitsOf (now (s .entry))))) r ⌝ }
+    ensures { λ r. ⌜ EciLeft (now (s .entry)) from (eciValue k w (drop from (bitsOf (now (s .entry))))) r ⌝ }
 {
     let got = bits::read_bits(s, from + k, w);
     let Word::Value(v) = got else {

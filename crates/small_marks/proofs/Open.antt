@@ -3,10 +3,9 @@ use Rattle.general.proofs.Names.{_≡_, ap, sym, subst, _∙_, _≢_, _⊎_, in
 use Rattle.general.proofs.Names.{getD, lt-ltb}
 use lib.Arith.{digits-lt}
 use Rattle.symbol.specs.Version.{sideOf}
-use Rattle.symbol.specs.Layout.{finders, edge, ring, half, within, finderRow, finderAt, cornerAt, each, corners, plotAll, layoutOf}
+use Rattle.symbol.specs.Layout.{finders, edge, ring, half, within, finderRow, finderAt, cornerAt, corners, plotAll, layoutOf}
 use Rattle.symbol.specs.Inner.{cornerKind}
 use Rattle.general.proofs.Finite.{upTo, every}
-use Rattle.symbol.proofs.Places.{getD-table}
 use Rattle.symbol.proofs.CornerRows.{edge-mid, in-finder, in-separator, in-information, in-data-row, in-data-column, row-kind, near-upper, near-lower}
 use Rattle.symbol.proofs.Theorems.{layout-length}
 use Rattle.block_table.specs.Table.{totals}
@@ -18,6 +17,8 @@ use Rattle.small_marks.specs.Open.{Spans, Open, Margin, whole, ends}
 use Rattle.placement.specs.declared.Run.{Run}
 use Rattle.placement.proofs.Walk.{from-misses}
 use Rattle.placement.proofs.Rows.{part, part-length, part-at, row-inside, row-mask, bits-none, row-turn}
+use Rattle.general.specs.Lists.{each}
+use Rattle.general.proofs.Lists.{getD-table}
 
 -- a finder, its separator and its information have no data
 corner-kind : (s r c : ℕ) → edge s r < 9 → edge s c < 9 → cornerAt s r c ≢ 0

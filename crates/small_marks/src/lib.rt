@@ -4,10 +4,10 @@ ghost use mathlib.Core.Path.{_≡_};
 ghost use mathlib.Core.List.{_++_};
 ghost use Prim.Native.Nat.{ℕ, _+_, _*_, _%_, _^_, _≤_, _<_};
 ghost use lib.ListN.{length, getD, drop};
-ghost use Rattle.bits.specs.Bits.{lowBits, value};
+ghost use Rattle.bits.specs.Bits.{lowBits, value, firstWords};
 ghost use Rattle.symbol.specs.Version.{sideOf};
 ghost use Rattle.symbol.specs.Layout.{layoutOf};
-ghost use Rattle.codewords.specs.Codewords.{maskBit, codewordsOf, dataBits};
+ghost use Rattle.codewords.specs.Codewords.{maskBit, dataBits};
 ghost use Rattle.placement.specs.Walk.{run, Pending, Masked, unmaskedAt};
 ghost use Rattle.small_marks.specs.Open.{Spans, Margin};
 use placement::Run;
@@ -61,7 +61,7 @@ fn read_open_rows(out: &mut [u8], square: &[u8], version: usize, mask: usize)
     requires { ⌜ (1 ≤ version) × (version ≤ 3) × (mask ≤ 3) × (length (now square) ≡ sideOf version * sideOf version)
         × ((i : ℕ) → getD (now square) i 0 < 2) × (8 * length (now out) ≤ length
         (dataBits (maskBit (sideOf version) mask) 0 (layoutOf version) (now square))) ⌝ }
-    ensures { λ _. ⌜ now (out .exit) ≡ codewordsOf (length (now (out .entry)))
+    ensures { λ _. ⌜ now (out .exit) ≡ firstWords 8 (length (now (out .entry)))
         (dataBits (maskBit (sideOf version) mask) 0 (layoutOf version) (now (square .entry))) ⌝ }
 {
     let side = 2 * version + 21;
@@ -94,7 +94,7 @@ pub fn read_open(out: &mut [u8], total: usize, square: &[u8], version: usize, ma
     requires { ⌜ (1 ≤ version) × (version ≤ 3) × (mask ≤ 3) × (length (now square) ≡ sideOf version * sideOf version)
         × ((i : ℕ) → getD (now square) i 0 < 2) ⌝ }
     requires { ⌜ (total ≤ length (now out)) × (8 * total ≤ length (dataBits (maskBit (sideOf version) mask) 0 (layoutOf version) (now square))) ⌝ }
-    ensures { λ _. ⌜ now (out .exit) ≡ codewordsOf total (dataBits (maskBit (sideOf version) mask) 0 (layoutOf version) (now (square .entry))) ++ drop
+    ensures { λ _. ⌜ now (out .exit) ≡ firstWords 8 total (dataBits (maskBit (sideOf version) mask) 0 (layoutOf version) (now (square .entry))) ++ drop
         total (now (out .entry)) ⌝ }
 {
     read_open_rows(&mut out[..total], square, version, mask);

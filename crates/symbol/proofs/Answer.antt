@@ -5,8 +5,8 @@ use Rattle.symbol.specs.Version.{sideOf, isVersion}
 use Rattle.symbol.specs.Layout.{Plot, plotAll, corners, alignment, layoutOf, layoutRefusal, layoutWritten}
 use Rattle.symbol.specs.Inner.{Plotted, Stored, drawn, cornerKind}
 use Rattle.symbol.proofs.FirstPlot.{first, all-length, all-at, all-beyond}
-use Rattle.symbol.proofs.Places.{length-table}
 use Rattle.symbol.proofs.Stored.{stored-all}
+use Rattle.general.proofs.Lists.{length-table}
 
 -- two lists of one length before the same list
 tail-same : (a b r : List ℕ) (i : ℕ) → length a ≡ length b → length a ≤ i → getD (a ++ r) i 0 ≡ getD (b ++ r) i 0

@@ -2,9 +2,10 @@
 use Rattle.general.proofs.Names.{_≡_, refl, sym, ap, _∙_, Bool, true, false, cond, _&&_, List, [], _∷_, _++_, ℕ, zero, suc, _*_, _<_, _≤_, ℕ-discrete}
 use Rattle.general.proofs.Names.{arith, eqb, ltb, length, getD, set, length-set, getD-set-same, getD-set-other, eq-eqb, ne-eqb}
 use lib.IntN.{ℤ, pos, _+ℤ_, _-ℤ_}
-use Rattle.symbol.specs.Layout.{Plot, plot, placeAt, plotOne, plotAll, each, lineModule}
+use Rattle.symbol.specs.Layout.{Plot, plot, placeAt, plotOne, plotAll, lineModule}
 use Rattle.symbol.specs.Inner.{drawn}
 use Rattle.symbol.proofs.Plots.{plot-out, plot-kept, plot-set}
+use Rattle.general.specs.Lists.{each}
 
 drawn-data : {a : ℕ} (k : ℕ) → a ≡ 0 → drawn a k ≡ k
 unfolding drawn

@@ -3,11 +3,13 @@ use Rattle.general.proofs.Names.{sym, subst, Bool, true, false, cond, not, _&&_
 use Rattle.general.proofs.Names.{decLt, ltb, eqb, getD, set, List·getD-eq-default}
 use lib.IntN.{ℤ, pos, _+ℤ_, _-ℤ_}
 use Rattle.symbol.specs.Version.{sideOf}
-use Rattle.symbol.specs.Layout.{Plot, plot, placeAt, plotOne, plotAll, each, when, light, dark, odd, ring, finderAt, cornerAt, corners, threeAt}
+use Rattle.symbol.specs.Layout.{Plot, plot, placeAt, plotOne, plotAll, when, light, dark, odd, ring, finderAt, cornerAt, corners, threeAt}
 use Rattle.symbol.specs.Layout.{assistant, rowEnds, columnEnds, lineModule, lineLeft, lineDown, crossing, crossings, alignment, layoutOf, mOf, rowLine}
 use Rattle.symbol.specs.Layout.{columnLine, stepOf}
-use Rattle.symbol.specs.Inner.{cornerKind, table}
-use Rattle.symbol.proofs.Places.{length-table, getD-table}
+use Rattle.symbol.specs.Inner.{cornerKind}
+use Rattle.general.specs.Each.{table}
+use Rattle.general.specs.Lists.{each}
+use Rattle.general.proofs.Lists.{length-table, getD-table}
 
 -- each plot of a list has a kind up to 3
 data Low : List Plot → Type 0 where

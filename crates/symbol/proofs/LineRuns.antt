@@ -2,10 +2,11 @@
 use Rattle.general.proofs.Names.{_≡_, sym, ap, _∙_, List, ℕ, _+_, _-_, _*_, _<_, _≤_, decLt, add-one, suc-mul, arith, length, getD, ext-getD}
 use lib.Arith.{digits-lt}
 use lib.IntN.{ℤ, pos, _+ℤ_, _-ℤ_}
-use Rattle.symbol.specs.Layout.{Plot, placeAt, plotAll, lineModule, lineLeft, each}
+use Rattle.symbol.specs.Layout.{Plot, placeAt, plotAll, lineModule, lineLeft}
 use Rattle.symbol.specs.Inner.{Stored, Plotted, drawn}
 use Rattle.symbol.proofs.Coordinates.{square-le, place-left, place-below, whole-in, take-off, difference, negative}
 use Rattle.symbol.proofs.FirstPlot.{first, all-length, all-beyond, all-at, each-none, each-one, module-dark, module-light, module-off, drawn-zero}
+use Rattle.general.specs.Lists.{each}
 
 module _ (s c r : ℕ) (ci : c < s) (ri : r < s) where
   next-row : (r + 1) * s ≡ r * s + s

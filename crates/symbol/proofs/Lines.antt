@@ -4,8 +4,8 @@ use Rattle.general.proofs.Names.{leb, eqb, leb→le, eqb→eq, List, length, lt
 use lib.IntN.{pos, _-ℤ_}
 use Rattle.symbol.specs.Version.{sideOf}
 use Rattle.symbol.specs.declared.Spacing.{Spacing}
-use Rattle.symbol.specs.Layout.{ks, rs, ms, kOf, rOf, mOf, stepOf, lineOf, columnLine}
-use Rattle.symbol.specs.Inner.{Spaced, Roomy}
+use Rattle.symbol.specs.Layout.{ks, rs, ms, mOf, stepOf, lineOf, columnLine}
+use Rattle.symbol.specs.Inner.{Spaced, Roomy, kOf, rOf}
 use Rattle.symbol.proofs.Coordinates.{difference}
 use Rattle.general.proofs.Finite.{upTo, every}
 
@@ -22,7 +22,7 @@ pub record Table (v : ℕ) : Type 0 where
   pub last : mOf v * kOf v + rOf v ≡ sideOf v
 
 pub tabled : (v : ℕ) → 4 ≤ v → v ≤ 84 → Table v
-unfolding kOf rOf mOf ks rs ms
+unfolding mOf ks rs ms
 tabled v lo hi =
     record {
       k-pos = leb→le 1 (kOf v) (tested (λ n. leb 1 (kOf n)) tt v lo hi);

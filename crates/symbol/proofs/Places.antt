@@ -1,25 +1,12 @@
 -- The kinds of a layout: its length, and that a place of the corners that is no data module keeps its kind.
-use Rattle.general.proofs.Names.{_≡_, refl, sym, ap, _∙_, Bool, true, false, cond, [], _∷_, _++_, ℕ, zero, suc, _+_, _*_, _/_, _%_, _<_, not-suc-le-zero}
-use Rattle.general.proofs.Names.{arith, ltb, eqb, length, getD, length-append, List·getD-append, getD-at, eqb-true, eqb-false}
+use Rattle.general.proofs.Names.{_≡_, sym, ap, _∙_, cond, [], ℕ, _+_, _*_, _/_, _%_, _<_}
+use Rattle.general.proofs.Names.{arith, ltb, length, getD}
 use lib.Arith.{digits-div, digits-mod, digits-lt}
 use Rattle.symbol.specs.Version.{sideOf}
-use Rattle.symbol.specs.Layout.{each, cornerAt, corners, alignment, layoutOf}
-use Rattle.symbol.specs.Inner.{table, cornerKind}
+use Rattle.symbol.specs.Layout.{cornerAt, corners, alignment, layoutOf}
+use Rattle.symbol.specs.Inner.{cornerKind}
 use Rattle.symbol.proofs.FirstPlot.{drawn-kept, all-length, all-at}
-
-pub length-table : (n : ℕ) (f : ℕ → ℕ) → length (table n f) ≡ n
-unfolding each
-length-table zero f = refl
-length-table (suc n) f = length-append (table n f) (f n ∷ []) ∙ (let h : length (table n f) ≡ n = length-table n f in omega arith)
-
-pub getD-table : (n : ℕ) (f : ℕ → ℕ) (i : ℕ) → i < n → getD (table n f) i 0 ≡ f i
-unfolding each
-getD-table zero f i h = absurd (not-suc-le-zero h)
-getD-table (suc n) f i h = by (eqb i n) refl (getD-table n f i)
-  where
-    by : (t : Bool) → eqb i n ≡ t → (i < n → getD (table n f) i 0 ≡ f i) → getD (table n f ++ (f n ∷ [])) i 0 ≡ f i
-    by true e ih = let d : i ≡ n = eqb-true i n e in rw d (getD-at (table n f) (f n) [] 0 n (length-table n f))
-    by false e ih = let l : i < n = omega (arith, eqb-false i n e) in List·getD-append (table n f) (f n ∷ []) 0 i (omega (arith, length-table n f)) ∙ ih l
+use Rattle.general.proofs.Lists.{length-table, getD-table}
 
 pub layout-length : (v : ℕ) → length (layoutOf v) ≡ sideOf v * sideOf v
 unfolding layoutOf corners

@@ -6,8 +6,8 @@ use mir.Syntax.{w64}
 use mir.Val.{SFits, toZ, ofZ}
 use mir.Facts.{toZ-ofZ}
 use Rattle.symbol.specs.Layout.{when, odd, assistant, lineLeft, lineDown, placeAt, crossing, columnLine, rowLine, stepOf, Plot, plot, plotOne, plotAll}
-use Rattle.symbol.specs.Layout.{each}
 use Rattle.symbol.specs.Inner.{Plotted}
+use Rattle.general.specs.Lists.{each}
 
 pub plotAll-append : (s : ℕ) (ps qs : List Plot) (g : List ℕ) → plotAll s (ps ++ qs) g ≡ plotAll s qs (plotAll s ps g)
 unfolding plotAll

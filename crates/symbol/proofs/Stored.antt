@@ -2,8 +2,9 @@
 use Rattle.general.proofs.Names.{_≡_, refl, sym, ap, _∙_, List, _++_, ℕ, _+_, _-_, _<_, _≤_, arith, decLt, ℕ-discrete, length, getD, set, drop}
 use Rattle.general.proofs.Names.{length-append, length-drop, length-set, List·getD-append, getD-set-same, getD-set-other, getD-append-add, getD-drop}
 use Rattle.general.proofs.Names.{ext-getD}
-use Rattle.symbol.specs.Inner.{Stored, table}
-use Rattle.symbol.proofs.Places.{length-table, getD-table}
+use Rattle.symbol.specs.Inner.{Stored}
+use Rattle.general.specs.Each.{table}
+use Rattle.general.proofs.Lists.{length-table, getD-table}
 
 pub stored-none : (f : ℕ → ℕ) (from : ℕ) (g : List ℕ) → Stored f from from g g
 stored-none f from g = record { size = refl; here = λ i a b. absurd (omega arith); before = λ i h. refl; after = λ i h. refl }

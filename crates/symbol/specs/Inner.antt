@@ -1,20 +1,24 @@
 -- Records that only the contracts of inner functions cite. Nobody has to believe them: they say where a loop or a call stands.
 use mathlib.Core.Path.{_≡_}
 use mathlib.Core.Bool.{cond}
-use mathlib.Core.List.{List, [], _∷_}
-use Prim.Native.Nat.{ℕ, _+_, _*_, _/_, _%_, _<_, _≤_}
+use mathlib.Core.List.{List}
+use Prim.Native.Nat.{ℕ, _+_, _-_, _*_, _/_, _%_, _<_, _≤_}
 use lib.Bits.{bitAnd}
 use lib.Dec.{eqb}
 use lib.IntN.{ℤ, pos, natAbs}
 use lib.ListN.{length, getD}
 use Rattle.symbol.specs.Version.{sideOf}
-use Rattle.symbol.specs.Layout.{cornerAt, each, Plot, plotAll, kOf, rOf, mOf}
+use Rattle.symbol.specs.Layout.{cornerAt, Plot, plotAll, ks, rs, mOf}
 use Rattle.symbol.specs.declared.Spacing.{Spacing}
 
--- f 0, f 1, .. f (n − 1), and the kind of place i of the corners
-abbrev pub table : ℕ → (ℕ → ℕ) → List ℕ
-table n f = each n (λ i. f i ∷ [])
+-- k and r of a version
+abbrev pub kOf : ℕ → ℕ
+kOf v = getD ks (v - 1) 0
 
+abbrev pub rOf : ℕ → ℕ
+rOf v = getD rs (v - 1) 0
+
+-- the kind of place i of the corners
 abbrev pub cornerKind : ℕ → ℕ → ℕ
 cornerKind s i = cornerAt s (i / s) (i % s)
 

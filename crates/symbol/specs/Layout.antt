@@ -6,6 +6,7 @@ use Prim.Native.Nat.{ℕ, zero, suc, _+_, _-_, _*_, _/_, _%_, _^_}
 use lib.Dec.{ltb, eqb}
 use lib.IntN.{ℤ, pos, negsuc, _+ℤ_, _-ℤ_}
 use lib.ListN.{getD, set, length, drop}
+use Rattle.general.specs.Lists.{each}
 use Rattle.symbol.specs.Version.{sideOf, isVersion}
 use Rattle.symbol.specs.declared.LayoutAnswer.{LayoutAnswer}
 use Rattle.symbol.specs.declared.LayoutAnswer.the-variants.{Filled, NoVersion, TooShort}
@@ -59,11 +60,6 @@ finderAt s r c = light + finderRow s (half c) r / 2 ^ (6 - within s c) % 2
 unfoldable pub cornerAt : ℕ → ℕ → ℕ → ℕ
 cornerAt s r c = cond (ltb (ring s r c) 7) (finderAt s r c) (cond (eqb (ring s r c) 7) light (cond (eqb (ring s r c) 8) information data-kind))
 
--- f 0, f 1, .. f (n − 1), one behind the other
-unfoldable pub each : {A : Type 0} → ℕ → (ℕ → List A) → List A
-each zero f = []
-each (suc n) f = each n f ++ f n
-
 -- row by row
 unfoldable pub corners : ℕ → List ℕ
 corners s = each (s * s) (λ i. cornerAt s (i / s) (i % s) ∷ [])
@@ -116,18 +112,12 @@ ms =
     5 ∷ 5 ∷ 5 ∷ 5 ∷ 5 ∷ 5 ∷ 6 ∷ 6 ∷ 6 ∷ 6 ∷ 6 ∷ 6 ∷ 6 ∷ 6 ∷ 6 ∷ 7 ∷ 7 ∷ 7 ∷ 7 ∷ 7 ∷ 7 ∷
     7 ∷ 7 ∷ 8 ∷ 8 ∷ 8 ∷ 8 ∷ 8 ∷ 8 ∷ 8 ∷ 8 ∷ 8 ∷ 9 ∷ 9 ∷ 9 ∷ 9 ∷ 9 ∷ 9 ∷ 9 ∷ 9 ∷ 10 ∷ 10 ∷ []
 
-unfoldable pub kOf : ℕ → ℕ
-kOf v = getD ks (v - 1) 0
-
-unfoldable pub rOf : ℕ → ℕ
-rOf v = getD rs (v - 1) 0
-
 unfoldable pub mOf : ℕ → ℕ
 mOf v = getD ms (v - 1) 0
 
 -- step n is k if n < m, else r − 1
 unfoldable pub stepOf : ℕ → ℕ → ℕ
-stepOf v n = cond (ltb n (mOf v)) (kOf v) (rOf v - 1)
+stepOf v n = cond (ltb n (mOf v)) (getD ks (v - 1) 0) (getD rs (v - 1) 0 - 1)
 
 -- line n lies n steps in: lines 0 to m + 1 are inside, and the last is s − 1
 unfoldable pub lineOf : ℕ → ℕ → ℕ

@@ -2,8 +2,9 @@
 ghost use mathlib.Core.Path.{_≡_};
 ghost use Prim.Native.Nat.{_+_, _-_, _*_, _%_, _≤_, _<_};
 ghost use Rattle.symbol.specs.Version as version;
-ghost use Rattle.symbol.specs.Layout.{edge, each, stepOf, mOf, lineOf, rowLine, columnLine, assistant, rowEnds, columnEnds, crossing, crossings, alignment};
+ghost use Rattle.symbol.specs.Layout.{edge, stepOf, mOf, lineOf, rowLine, columnLine, assistant, rowEnds, columnEnds, crossing, crossings, alignment};
 ghost use Rattle.symbol.specs.Inner.{Plotted, Spaced, Roomy, Inside};
+ghost use Rattle.general.specs.Lists.{each};
 use crate::Spacing;
 use crate::Version;
 use crate::patterns::assistant_if_odd;

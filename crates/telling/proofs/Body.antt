@@ -9,18 +9,18 @@ use Rattle.block_table.specs.Blocks.{totalOf, rowOf, Shape, shapes, shapesOf, t
 use Rattle.symbol.specs.Layout.{dataModules}
 use Rattle.block_table.specs.Inner.{Sound}
 use Rattle.block_table.proofs.Theorems.{shapes-sound}
-use Rattle.codewords.specs.Codewords.{maskBit, dataBits, codewordsOf, toStream}
+use Rattle.codewords.specs.Codewords.{maskBit, dataBits, toStream}
 use Rattle.placement.specs.Walk.{Legible}
 use Rattle.small_marks.proofs.Open.{open-enough}
 use Rattle.codewords.proofs.Placement.{data-front, length-data}
 use Rattle.blocks.specs.declared.Blocks.{Blocks}
 use Rattle.blocks.specs.declared.Blocks.the-variants.{Corrected, Refused}
-use Rattle.blocks.specs.Blockwise.{corrected, firstRefused, countOf, blocksOf, correctedData, numberOf, correctionsOf}
+use Rattle.blocks.specs.Blockwise.{corrected, firstRefused, countOf, blocksOf, numberOf, correctionsOf}
 use Rattle.blocks.proofs.Corrects.{count-le}
 use Rattle.blocks.proofs.Theorems.{data-left}
 use Rattle.segments.specs.FromData.{DataOutcome, fromData}
 use Rattle.marks.specs.Receipt.{receiptOf, refusalReceipt}
-use Rattle.marks.specs.Read.{Reading, readingOf, refused, streamFrom, told, bodyOf}
+use Rattle.marks.specs.Read.{Reading, readingOf, refused, streamFrom, told, bodyOf, blocksIn}
 use Rattle.marks.proofs.Modules.{stream-bits, stream-length}
 use Rattle.marks.proofs.Starts.{layout-front, has-blocks, no-blocks, row-total, row-small}
 use Rattle.receipts.specs.declared.Mark.{Mark}
@@ -28,6 +28,8 @@ use Rattle.receipts.specs.declared.Told.{Told}
 use Rattle.receipts.specs.Inner.{receiptIn, Small, Refuses, Tells}
 use Rattle.receipts.proofs.Receipts.{in-accepted, in-refused}
 use Rattle.telling.specs.Inner.{Fitting, Ranged, Drawn, Streamed, Body, readingIn, bodyOr1}
+use Rattle.bits.specs.Bits.{firstWords}
+use Rattle.blocks.specs.Inner.{correctedData}
 
 -- ---- what is told, as a reading
 
@@ -92,12 +94,12 @@ module _ (m : Mark) (sq ks : List ℕ) (F : Fitting m sq) (D : Drawn (m .version
   enough-bits f total e h = omega (arith, length-data f 0 ks sq, ap dataModules front-is)
 
   pub stream-is : (side total : ℕ) (st rest : List ℕ) → side ≡ sideOf v → total ≡ totalOf v
-      → st ≡ toStream (codewordsOf total (dataBits (maskBit side (m .mask)) 0 ks sq)) ++ rest → Streamed m sq st
+      → st ≡ toStream (firstWords 8 total (dataBits (maskBit side (m .mask)) 0 ks sq)) ++ rest → Streamed m sq st
   stream-is side total st rest e f g = record {
     rest = rest;
     is = g
-        ∙ (λ i. toStream (codewordsOf (f i) (dataBits (maskBit (e i) (m .mask)) 0 ks sq)) ++ rest)
-        ∙ ap (λ (bs : List ℕ). toStream (codewordsOf (totalOf v) bs) ++ rest) (bits-are (maskBit (sideOf v) (m .mask)))
+        ∙ (λ i. toStream (firstWords 8 (f i) (dataBits (maskBit (e i) (m .mask)) 0 ks sq)) ++ rest)
+        ∙ ap (λ (bs : List ℕ). toStream (firstWords 8 (totalOf v) bs) ++ rest) (bits-are (maskBit (sideOf v) (m .mask)))
         ∙ ap (λ (l : List ℕ). l ++ rest) (sym (stream-bits v sq (F .bits) (m .mask)));
   }
 
@@ -169,7 +171,7 @@ module _ (m : Mark) (R : Ranged m) (row : List ℕ) (e : row ≡ rowOf (m .versi
         (refused (firstRefused (corrected cs stream)) p s)
 
     reading-is : reading bs ≡ bodyOf (m .version) (m .level) (m .mask) (m .distance) sq p s
-    unfolding bodyOf shapesOf
+    unfolding bodyOf blocksIn shapesOf
     reading-is = ap (λ (r : List ℕ). reading (shapes r)) e
 
     refused-is : (r : Blocks) (t : Told) → r ≡ Refused → numberOf r ≡ firstRefused (corrected bs (take (totalSize bs) st)) → Refuses 6 t

@@ -5,12 +5,14 @@ use Rattle.symbol.specs.Version.{sideOf}
 use Rattle.symbol.specs.Layout.{layoutOf}
 use Rattle.information.specs.Information.{infoBits, infoWritten}
 use Rattle.block_table.specs.Blocks.{totalOf, rowOf, Shape, shapes, shapesOf, totalSize, totalData}
-use Rattle.codewords.specs.Codewords.{maskBit, placed, fromStream, squareOf}
+use Rattle.codewords.specs.Codewords.{maskBit, placed, fromStream}
 use Rattle.blocks.specs.Blockwise.{streamOf}
-use Rattle.script.specs.Check.{commandsOf, scriptData}
+use Rattle.script.specs.Check.{commandsOf}
 use Rattle.marks.specs.Write.{roomOf, markOf}
 use Rattle.writer.specs.declared.Mark.{Mark}
 use Rattle.writer.specs.Inner.{Ranged, Ready}
+use Rattle.codewords.specs.Inner.{squareOf}
+use Rattle.script.specs.Inner.{scriptData}
 
 -- a buffer that kept its length and got xs in place of its first n bytes begins with xs
 front : (n : ℕ) (xs s s′ : List ℕ) → n ≤ length s → length s′ ≡ length s → s′ ≡ xs ++ drop n s → take n s′ ≡ xs
@@ -41,7 +43,6 @@ module _ (m : Mark) (ks : List ℕ) (R : Ready m ks) (stream found found′ sq s
   pub stream-placed : total ≤ length found → length found′ ≡ length found → found′ ≡ fromStream (take total stream) ++ drop total found
       → length sq ≡ sideOf (m .version) * sideOf (m .version) → sq′ ≡ placed (maskBit side (m .mask)) 0 (take (length sq) ks) (bitsOf (take total found′))
       → sq′ ≡ squareOf (maskBit (sideOf (m .version)) (m .mask)) (layoutOf (m .version)) (take (totalOf (m .version)) stream)
-  unfolding squareOf
   stream-placed h k e n f =
       let a : take (length sq) ks ≡ layoutOf (m .version) = ap (λ (x : ℕ). take x ks) n ∙ R .kinds in
       let b : take total found′ ≡ fromStream (take (totalOf (m .version)) stream) =

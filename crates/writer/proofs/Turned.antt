@@ -9,10 +9,10 @@ use Rattle.symbol.specs.Layout.{dataModules}
 use Rattle.segments.specs.Script.{Segment}
 use Rattle.script.specs.declared.Check.{Check}
 use Rattle.script.specs.declared.Check.the-variants.{Bits, Malformed, Lacking, Empty}
-use Rattle.script.specs.Writer.{allHave, encodings}
+use Rattle.script.specs.Writer.{encodings}
 use Rattle.script.specs.Lengths.{bitsOfSegments}
 use Rattle.script.specs.Check.{commandsOf}
-use Rattle.script.specs.Inner.{capped, checkedOf, checkOf}
+use Rattle.script.specs.Inner.{capped, checkedOf, checkOf, allHave}
 use Rattle.script.proofs.Scripts.{positive}
 use Rattle.script.proofs.Theorems.{bits-by-formulas, capped-fits}
 use Rattle.marks.specs.Read.{firstRefusal, unless}

@@ -8,13 +8,14 @@ ghost use lib.ListN.{length, take};
 ghost use Rattle.symbol.specs.Version.{sideOf};
 ghost use Rattle.symbol.specs.Layout.{layoutOf};
 ghost use Rattle.block_table.specs.Blocks.{totalOf, shapes, totalSize, totalData, rowHolds};
-ghost use Rattle.codewords.specs.Codewords.{maskBit, squareOf};
+ghost use Rattle.codewords.specs.Codewords.{maskBit};
 ghost use Rattle.blocks.specs.Blockwise.{streamOf};
-ghost use Rattle.script.specs.Check.{commandsOf, scriptData};
-ghost use Rattle.script.specs.Inner.{Fits};
+ghost use Rattle.script.specs.Check.{commandsOf};
+ghost use Rattle.script.specs.Inner.{Fits, scriptData};
 ghost use Rattle.marks.specs.Read.{unless};
 ghost use Rattle.marks.specs.Write.{roomOf, writeRefusal, markOf, writingOf, writeOf};
 ghost use Rattle.writer.specs.Inner.{Ranged, Row, Ready, placeRefusal, scriptRefusal};
+ghost use Rattle.codewords.specs.Inner.{squareOf};
 use symbol::Version;
 
 // What a mark is written with: its version, level and mask, and the word of these three.

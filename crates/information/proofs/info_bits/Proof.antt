@@ -1,6 +1,6 @@
 -- `info_bits` meets its contract. Assumes nothing.
 use Rattle.general.proofs.Names.{ap, sym, _∙_, _≤_, arith, needs, not-true, not-false}
-use Rattle.information.specs.Information.{wordOf, infoData, infoBits, infoOf}
+use Rattle.information.specs.Information.{wordOf, infoBits, infoOf}
 use Rattle.information.proofs.info_bits.Tie as tie
 
 returns : tie.Need-returns
@@ -11,7 +11,7 @@ within : (c : tie.Else1) → (c .before .before .args .version ≤ 84) × (c .be
 within c = c .before .is-info .ensures .1 (not-false _ (c .if1 .left))
 
 returns-2 : tie.Need-returns-2
-unfolding infoOf infoBits infoData
+unfolding infoOf infoBits
 returns-2 c =
     simp (sym (c .before .before .before .is-info .ensures .0) ∙ not-false _ (c .before .before .if1 .left))
     (λ i. record { number = 0; word = (c .word-of .ensures ∙ ap wordOf (c .before .wide .ensures)) i })

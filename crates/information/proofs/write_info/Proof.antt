@@ -1,7 +1,8 @@
 -- `write_info` meets its contract. Assumes nothing.
 use Rattle.general.proofs.Names.{ℕ, ap, _∙_, true, List, needs}
-use Rattle.information.specs.Information.{copyWritten, infoWritten}
+use Rattle.information.specs.Information.{infoWritten}
 use Rattle.information.proofs.write_info.Tie as tie
+use Rattle.information.specs.Inner.{copyWritten}
 
 returns : tie.Need-returns
 unfolding infoWritten

@@ -1,18 +1,15 @@
 -- `put_command` meets its contract. Assumes nothing.
 use Rattle.general.proofs.Names.{refl, [], _∷_, _+_, _/_, _%_, arith, eq-eqb, ne-eqb, needs}
-use Rattle.segments.specs.Script.{runCommand}
 use Rattle.segments.proofs.Stores.{one-more}
 use Rattle.segments.proofs.put_command.Tie as tie
 
 returns : tie.Need-returns
-unfolding runCommand
 returns c =
     let p = c .before .before in
     let a = p .before .before .before .before .args in
     rw (eq-eqb (a .mode) 7 (p .before .before .if1 .taken)) (refl, p .put .ensures)
 
 returns-2 : tie.Need-returns-2
-unfolding runCommand
 returns-2 c =
     let before = c .before .before .before .before .before .before in
     let put-pair = c .before .before .put-pair in

@@ -1,8 +1,9 @@
 -- `all_digits` meets its contract. Assumes nothing.
 use Rattle.general.proofs.Names.{_≡_, refl, sym, _∙_, _&&_, _≤_, _-_, arith, needs, ltb, length, drop}
-use Rattle.script.specs.Writer.{all, isDigit}
+use Rattle.script.specs.Writer.{isDigit}
 use Rattle.script.proofs.Runs.{digits-next, digits-end}
 use Rattle.script.proofs.values.all_digits.Tie as tie
+use Rattle.general.specs.Lists.{all}
 
 abbrev Inv-loop : tie.InvT-loop
 Inv-loop run top₀ j₀ top j = (j ≤ length run) × (all isDigit run ≡ (ltb top 10 && all isDigit (drop j run)))

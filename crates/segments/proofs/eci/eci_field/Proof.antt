@@ -8,7 +8,7 @@ returns : tie.Need-returns
 returns c =
     let b = c .before .before in
     let a = b .before .before .args in
-    field-cut (a .s .now) (a .from) (a .k) (a .w)
+    field-cut (a .s .now) (a .from) (a .k) (a .w) (omega arith)
     (word-few (a .w) (a .from + a .k) (a .s .now) (b .read-bits .result) (b .read-bits .ensures) (c .enum-told .given .1))
 
 returns-2 : tie.Need-returns-2

@@ -12,13 +12,13 @@ returns-2 : tie.Need-returns-2
 returns-2 c =
     let b = c .before .before in
     let a = b .before .before .before .args in
-    rw (eci-one (a .s .now) (a .from) (omega arith) (sym (b .bit .ensures) ∙ c .before .if2 .taken)) (c .eci-field .ensures)
+    rw (eci-one (a .s .now) (a .from) (sym (b .bit .ensures) ∙ c .before .if2 .taken)) (c .eci-field .ensures)
 
 returns-3 : tie.Need-returns-3
 returns-3 c =
     let b = c .before .before in
     let a = b .before .before .before .args in
-    rw (eci-one-cut (a .s .now) (a .from) (omega arith) (λ e. c .before .if2 .left (b .bit .ensures ∙ e)) (omega arith)) refl
+    rw (eci-one-cut (a .s .now) (a .from) (λ e. c .before .if2 .left (b .bit .ensures ∙ e)) (omega arith)) refl
 
 returns-4 : tie.Need-returns-4
 returns-4 c =
@@ -26,7 +26,7 @@ returns-4 c =
     let b = before in
     let d = c .before .before in
     let a = b .before .before .before .args in
-    rw (eci-two (a .s .now) (a .from) (omega arith) (λ e. d .before .before .if2 .left (b .bit .ensures ∙ e)) (omega arith)
+    rw (eci-two (a .s .now) (a .from) (λ e. d .before .before .if2 .left (b .bit .ensures ∙ e))
     (sym (d .bit2 .ensures) ∙ c .before .if4 .taken))
     (c .eci-field2 .ensures)
 
@@ -35,7 +35,7 @@ returns-5 c =
     let d = c .before .before in
     let b = d .before .before .before in
     let a = b .before .before .before .args in
-    rw (eci-two-cut (a .s .now) (a .from) (omega arith) (λ e. d .before .before .if2 .left (b .bit .ensures ∙ e)) (omega arith)
+    rw (eci-two-cut (a .s .now) (a .from) (λ e. d .before .before .if2 .left (b .bit .ensures ∙ e))
     (λ e. c .before .if4 .left (d .bit2 .ensures ∙ e)) (omega arith)) refl
 
 returns-6 : tie.Need-returns-6
@@ -44,8 +44,8 @@ returns-6 c =
     let d = g .before .before .before in
     let b = d .before .before .before in
     let a = b .before .before .before .args in
-    rw (eci-three (a .s .now) (a .from) (omega arith) (λ e. d .before .before .if2 .left (b .bit .ensures ∙ e)) (omega arith)
-    (λ e. g .before .before .if4 .left (d .bit2 .ensures ∙ e)) (omega arith) (sym (g .bit3 .ensures) ∙ c .before .if6 .taken))
+    rw (eci-three (a .s .now) (a .from) (λ e. d .before .before .if2 .left (b .bit .ensures ∙ e))
+    (λ e. g .before .before .if4 .left (d .bit2 .ensures ∙ e)) (sym (g .bit3 .ensures) ∙ c .before .if6 .taken))
     (c .eci-field3 .ensures)
 
 returns-7 : tie.Need-returns-7
@@ -54,8 +54,8 @@ returns-7 c =
     let d = g .before .before .before in
     let b = d .before .before .before in
     let a = b .before .before .before .args in
-    rw (eci-lacks (a .s .now) (a .from) (omega arith) (λ e. d .before .before .if2 .left (b .bit .ensures ∙ e)) (omega arith)
-    (λ e. g .before .before .if4 .left (d .bit2 .ensures ∙ e)) (omega arith) (λ e. c .if6 .left (g .bit3 .ensures ∙ e))) refl
+    rw (eci-lacks (a .s .now) (a .from) (λ e. d .before .before .if2 .left (b .bit .ensures ∙ e))
+    (λ e. g .before .before .if4 .left (d .bit2 .ensures ∙ e)) (λ e. c .if6 .left (g .bit3 .ensures ∙ e))) refl
 
 pub eci-value-spec : {M : Type 1} → Rattle.segments.proofs.eci.eci_value.Statement.statement M
 eci-value-spec =

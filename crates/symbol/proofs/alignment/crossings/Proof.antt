@@ -1,9 +1,10 @@
 -- `crossings` meets its contract.
 use Rattle.general.proofs.Names.{_+_, _-_, arith, needs}
-use Rattle.symbol.specs.Layout.{mOf, each, crossing, crossings}
+use Rattle.symbol.specs.Layout.{mOf, crossing, crossings}
 use Rattle.symbol.proofs.Lines.{roomy}
 use Rattle.symbol.proofs.Plots.{Turned, begun, again, ended}
 use Rattle.symbol.proofs.alignment.crossings.Tie as tie
+use Rattle.general.specs.Lists.{each}
 
 abbrev Inv-loop : tie.InvT-loop
 Inv-loop grid₀ p lines n₀ grid n =

@@ -1,0 +1,13 @@
+-- Lists by a rule: words in which definitions of several crates are written.
+use mathlib.Core.Bool.{Bool, true, _&&_}
+use mathlib.Core.List.{List, [], _++_, foldr}
+use Prim.Native.Nat.{ℕ, zero, suc}
+
+-- f 0, f 1, .. f (n − 1), one behind the other
+unfoldable pub each : {A : Type 0} → ℕ → (ℕ → List A) → List A
+each zero f = []
+each (suc n) f = each n f ++ f n
+
+-- every element passes a test
+abbrev pub all : {A : Type 0} → (A → Bool) → List A → Bool
+all test xs = foldr (λ x r. test x && r) true xs
