@@ -35,9 +35,6 @@ module _ (poly : ℕ) (P : Passes poly) (first parity : ℕ) (w : List ℕ) (sma
     abbrev R : ℕ → ℕ
     R k = locatorAt poly f l (degree (length w) k)
 
-    R-lt : (k : ℕ) → R k < 256
-    R-lt k = horner-lt poly P (seq f) (locator poly (length w) k) (suc l) (F .bytes)
-
     -- a block that differs only at roots differs in at most l places
     pub few : (v : List ℕ) → ((k : ℕ) → k < length w → seq w k ≢ seq v k → R k ≡ 0) → distance w v ≤ l
     few v z =
@@ -92,7 +89,7 @@ module _ (poly : ℕ) (P : Passes poly) (first parity : ℕ) (w : List ℕ) (sma
       root-at k h d =
           omega (
             arith,
-            R-lt k,
+            horner-lt poly P (seq f) (locator poly (length w) k) (suc l) (F .bytes),
             null-div poly P (R k) (err k) (ap (λ (x : ℕ). x % 256) (mul-comm poly P (R k) (err k)) ∙ null-at k h) (λ z. d (omega (arith, err-lt k))),
           )
 

@@ -1,7 +1,7 @@
 -- Polynomials by Horner's rule, highest coefficient first: as sums, divided by x + a, how many roots they have, and what they make of the
 -- syndromes of a word. Assumes nothing.
-use Rattle.general.proofs.Names.{_≡_, refl, sym, ap, ap₂, _∙_, subst, _≢_, ℕ, zero, suc, _+_, _-_, _*_, _%_, _≤_, _<_, zero-le, arith, ℕ-discrete, eq-eqb, ne-eqb}
-use Rattle.general.proofs.Names.{xor-self, xor-zero-r}
+use Rattle.general.proofs.Names.{_≡_, refl, sym, ap, ap₂, _∙_, subst, _≢_, ℕ, zero, suc, _+_, _-_, _*_, _%_, _≤_, _<_, zero-le, arith}
+use Rattle.general.proofs.Names.{ℕ-discrete, eq-eqb, ne-eqb, xor-self, xor-zero-r}
 use Rattle.field.specs.Field.{raised, power, mul}
 use Rattle.field.proofs.Xor.{xor-assoc, xor-swap}
 use Rattle.field.proofs.Field.{Passes, mul-lt, mul-comm, mul-assoc, mul-one, mul-power, sum-lt}

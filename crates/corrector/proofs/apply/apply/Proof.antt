@@ -21,15 +21,13 @@ add-requires : tie.Need-add-requires
 add-requires c κs =
     let errors = c .before .before .before .before .before .before .before .before .before .before .before in
     let located = errors .before .before .before .before .before .before .before .before in
-    let start = located .before .before .before .before in
-    omega (arith, errors .magnitudes .ensures .size, located .roots .ensures .size)
+    omega (arith, errors .magnitudes .ensures .size, located .roots .ensures .size, located .before .before .before .before .pre .1 .0 .2)
 
 zeros-requires-2 : tie.Need-zeros-requires-2
 zeros-requires-2 c κs =
     let errors = c .before .before .before .before .before .before .before .before .before .before .before .before .before .before .before in
     let located = errors .before .before .before .before .before .before .before .before in
-    let start = located .before .before .before .before in
-    omega (arith, errors .magnitudes .ensures .size, located .roots .ensures .size)
+    omega (arith, errors .magnitudes .ensures .size, located .roots .ensures .size, located .before .before .before .before .pre .1 .0 .2)
 
 returns-2 : tie.Need-returns-2
 returns-2 c =
@@ -41,7 +39,8 @@ returns-2 c =
     let bytes = located .before .before .before .slice-known in
     applied-fixed _ (the-field _ (start .pre .0)) _ _ _ (start .pre .1 .0 .2) (λ i. omega (arith, bytes .given i)) _ (start .pre .1 .1 .1)
     _ _ _ (located .roots .ensures) _ _ (errors .magnitudes .ensures) (left .take-off-all .ensures)
-    (sym (test .if2 .taken) ∙ test .before .clean .ensures) _ (c .before .before .before .before .add .ensures) _ (c .zeros2 .ensures .0)
+    (sym (test .if2 .taken) ∙ test .before .clean .ensures) _ (λ i. omega (arith, c .before .before .slice-known4 .given i))
+    (c .before .before .before .before .add .ensures) _ (c .zeros2 .ensures .0)
 
 returns-3 : tie.Need-returns-3
 returns-3 c =
