@@ -8,7 +8,9 @@ ghost use Rattle.reed_solomon.specs.Block.{nearest};
 ghost use Rattle.reed_solomon.specs.Inner.{Syndromes};
 ghost use Rattle.remainder.specs.Words.{tabled, Prepared, Remains};
 ghost use Rattle.corrector.specs.Correct.{correctOf, outcome, settled};
-use reed_solomon::errors;
+
+pub mod apply;
+
 use reed_solomon::locator;
 use reed_solomon::syndromes;
 use remainder::Register;
@@ -20,8 +22,7 @@ pub enum Correction {
     OutOfReach,
 }
 
-// The block set to its codeword in reach where its syndromes s are not all zero (reed_solomon.rs: `solve`). Nothing is written before it is
-// known that the errors found leave no syndrome. A locator with too few roots has no errors, which is told sooner than they are found.
+// The block set to its codeword in reach where its syndromes s are not all zero (reed_solomon.rs: `solve`).
 fn repair(
     field: &[u16; 1280],
     first: usize,
@@ -34,22 +35,14 @@ fn repair(
     requires { ⌜ Syndromes (polyOf (now field)) first parity (now block) (now s) ⌝ }
     ensures { λ r. ⌜ outcome r (now (block .exit)) ≡ settled (now (block .entry)) (nearest (polyOf (now (field .entry))) first parity (now (block .entry))) ⌝ }
 {
-    let n = block.len();
     let mut f = [0u8; 256];
     let l = locator::locator(field, s, parity, &mut f);
     if parity < l + l {
         return Correction::OutOfReach;
     }
-    let mut e = [0u8; 256];
-    errors::roots(field, &f, l, &mut e, n);
-    if errors::zeros(&e, n) < l {
-        return Correction::OutOfReach;
-    }
-    errors::magnitudes(field, first, s, &f, l, &mut e, n);
-    errors::take_off_all(field, first, s, parity, &e, n);
-    if syndromes::clean(s, parity) {
-        errors::add(block, &e);
-        return Correction::Corrected(l);
+    let fix = apply::apply(field, first, block, parity, s, &f, l);
+    if fix.done {
+        return Correction::Corrected(fix.count);
     }
     Correction::OutOfReach
 }

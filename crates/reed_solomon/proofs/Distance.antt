@@ -1,11 +1,9 @@
 -- The number of places in which two blocks differ, and which places these are. Assumes nothing.
-use Rattle.general.proofs.Names.{_≡_, refl, sym, ap, _∙_, subst, _≢_, Bool, true, false, cond, List, [], _∷_, ℕ, zero, suc, _+_, _-_, _≤_, _<_, zero-le}
-use Rattle.general.proofs.Names.{arith, add-one, add-zero, ℕ-discrete, eq-eqb, ne-eqb, T, eqb, eqb→eq, eqb-refl, length, getD}
-use Rattle.field.proofs.Field.{Passes}
-use Rattle.reed_solomon.specs.Sum.{seq, horner, degree, locator}
-use Rattle.reed_solomon.proofs.Sum.{Null}
+use Rattle.general.proofs.Names.{_≡_, refl, sym, ap, ap₂, _∙_, subst, _≢_, Bool, true, false, cond, List, [], _∷_, ℕ, zero, suc, _+_, _-_, _≤_, _<_, zero-le}
+use Rattle.general.proofs.Names.{arith, add-one, add-zero, ℕ-discrete, eq-eqb, ne-eqb, T, eqb, eqb→eq, eqb-refl, length, getD, bitXor, xor-self, xor-zero-r}
+use Rattle.reed_solomon.specs.Sum.{_⊕_, seq, degree}
+use Rattle.reed_solomon.proofs.Sum.{add-cancel}
 use Rattle.reed_solomon.proofs.Peel.{Out}
-use Rattle.reed_solomon.proofs.Horner.{Roots}
 use Rattle.reed_solomon.specs.Block.{distance}
 use Rattle.reed_solomon.specs.Inner.{zerosOf}
 
@@ -49,17 +47,6 @@ places-out i (x ∷ xs) (y ∷ ys) e (suc k) o =
     (let m : i + suc k ≡ suc i + k = omega arith in
     subst (λ (m : ℕ). Out m (places (suc i) xs ys)) m (also-out (eqb x y) i (i + suc k) (places (suc i) xs ys) o))
 
--- no place below the first is among them
-also-above : (t : Bool) (i m : ℕ) (l : List ℕ) → m < i → Out m l → Out m (orAlso t i l)
-also-above true i m l h o = o
-also-above false i m l h o = ((λ e. omega arith), o)
-
-places-above : (i m : ℕ) (xs ys : List ℕ) → m < i → Out m (places i xs ys)
-unfolding places
-places-above i m [] ys h = tt
-places-above i m (x ∷ xs) [] h = tt
-places-above i m (x ∷ xs) (y ∷ ys) h = also-above (eqb x y) i m (places (suc i) xs ys) h (places-above (suc i) m xs ys (omega arith))
-
 tick-triangle : (p q r : Bool) (a b c : ℕ) → (T p → T q → T r) → a ≤ b + c → cond r a (suc a) ≤ cond p b (suc b) + cond q c (suc c)
 tick-triangle true true true a b c f h = h
 tick-triangle true true false a b c f h = absurd (f tt tt)
@@ -81,49 +68,47 @@ triangle (w ∷ ws) (u ∷ us) (v ∷ vs) e f =
 
 -- ---- how many of the first n are zero
 
-pub zeros-more : (e : List ℕ) (n : ℕ) → seq e n ≡ 0 → zerosOf (n + 1) e ≡ zerosOf n e + 1
+pub zeros-more : (f : ℕ → ℕ) (n : ℕ) → f n ≡ 0 → zerosOf (n + 1) f ≡ zerosOf n f + 1
 unfolding zerosOf
-zeros-more e n z = simp (add-one, eq-eqb (seq e n) 0 z)
+zeros-more f n z = simp (add-one, eq-eqb (f n) 0 z)
 
-pub zeros-same : (e : List ℕ) (n : ℕ) → seq e n ≢ 0 → zerosOf (n + 1) e ≡ zerosOf n e
+pub zeros-same : (f : ℕ → ℕ) (n : ℕ) → f n ≢ 0 → zerosOf (n + 1) f ≡ zerosOf n f
 unfolding zerosOf
-zeros-same e n d = simp (add-one, ne-eqb (seq e n) 0 d, add-zero)
+zeros-same f n d = simp (add-one, ne-eqb (f n) 0 d, add-zero)
 
--- no fewer than two blocks differ in, if e is zero at the degree of each place in which they do
-pub differ-zeros : (e xs ys : List ℕ) → ((k : ℕ) → k < length xs → seq xs k ≢ seq ys k → seq e (degree (length xs) k) ≡ 0)
-    → distance xs ys ≤ zerosOf (length xs) e
+pub zeros-ext : (n : ℕ) (f g : ℕ → ℕ) → ((d : ℕ) → d < n → f d ≡ g d) → zerosOf n f ≡ zerosOf n g
+unfolding zerosOf
+zeros-ext zero f g e = refl
+zeros-ext (suc n) f g e = ap₂ (λ (a b : ℕ). a + cond (eqb b 0) 1 0) (zeros-ext n f g (λ d h. e d (omega arith))) (e n (omega arith))
+
+-- no fewer than two blocks differ in, if f is zero at the degree of each place in which they do
+pub differ-zeros : (f : ℕ → ℕ) (xs ys : List ℕ) → ((k : ℕ) → k < length xs → seq xs k ≢ seq ys k → f (degree (length xs) k) ≡ 0)
+    → distance xs ys ≤ zerosOf (length xs) f
 unfolding distance zerosOf degree
-differ-zeros e [] ys z = zero-le
-differ-zeros e (x ∷ xs) [] z = zero-le
-differ-zeros e (x ∷ xs) (y ∷ ys) z =
+differ-zeros f [] ys z = zero-le
+differ-zeros f (x ∷ xs) [] z = zero-le
+differ-zeros f (x ∷ xs) (y ∷ ys) z =
     let head : length xs ≡ suc (length xs) - 1 = omega arith in
     let tail : (k : ℕ) → length xs - suc k ≡ suc (length xs) - suc (suc k) = λ k. omega arith in
-    let t = differ-zeros e xs ys (λ k h d. ap (seq e) (tail k) ∙ z (suc k) (omega arith) d) in
+    let t = differ-zeros f xs ys (λ k h d. ap f (tail k) ∙ z (suc k) (omega arith) d) in
     elim (ℕ-discrete x y) [
       | yes q ↦ simp (eq-eqb x y q) (omega (arith, t))
-      | no d ↦ simp (ne-eqb x y d, eq-eqb (seq e (length xs)) 0 (ap (seq e) head ∙ z 0 (omega arith) d)) (omega (arith, t))
+      | no d ↦ simp (ne-eqb x y d, eq-eqb (f (length xs)) 0 (ap f head ∙ z 0 (omega arith) d)) (omega (arith, t))
     ]
 
--- ---- a polynomial that is zero wherever the two differ has these places as roots
-module _ (poly : ℕ) (P : Passes poly) (first n : ℕ) (small : n ≤ 255) (f : ℕ → ℕ) (m : ℕ) where
-  abbrev Zero : ℕ → Type 0
-  Zero k = Null (horner poly f (locator poly n k) m)
-
-  also-roots : (t : Bool) (i : ℕ) (l : List ℕ) → i < n → Out i l → ((T t → ⊥) → Zero i) → Roots poly P first n small f m l → Roots poly P first n small f m (orAlso t i l)
-  unfolding Roots
-  also-roots true i l h o z r = r
-  also-roots false i l h o z r = (h, o, z (λ t. t), r)
-
-  places-roots : (i : ℕ) (xs ys : List ℕ) → i + length xs ≤ n → ((k : ℕ) → k < length xs → getD xs k 0 ≢ getD ys k 0 → Zero (i + k))
-      → Roots poly P first n small f m (places i xs ys)
-  unfolding places Roots
-  places-roots i [] ys h z = tt
-  places-roots i (x ∷ xs) [] h z = tt
-  places-roots i (x ∷ xs) (y ∷ ys) h z =
-      also-roots (eqb x y) i (places (suc i) xs ys) (omega arith) (places-above (suc i) i xs ys (omega arith))
-      (λ t. (let e : i + 0 ≡ i = omega arith in subst Zero e (z 0 (omega arith) (λ q. t (subst (λ (v : ℕ). T (eqb x v)) q (eqb-refl x))))))
-      (places-roots (suc i) xs ys (omega arith)
-      (λ k l d. let e : i + suc k ≡ suc i + k = omega arith in subst Zero e (z (suc k) (omega arith) d)))
-
-  pub differ-roots : (xs ys : List ℕ) → length xs ≤ n → ((k : ℕ) → k < length xs → getD xs k 0 ≢ getD ys k 0 → Zero k) → Roots poly P first n small f m (places 0 xs ys)
-  differ-roots xs ys h z = places-roots 0 xs ys (omega arith) (λ k l d. let e : k ≡ 0 + k = omega arith in subst Zero e (z k l d))
+-- as many as two blocks agree in, if f is what has to be added to one to give the other
+pub agree-zeros : (f : ℕ → ℕ) (xs ys : List ℕ) → length xs ≡ length ys → ((k : ℕ) → k < length xs → seq ys k ≡ seq xs k ⊕ f (degree (length xs) k))
+    → distance xs ys + zerosOf (length xs) f ≡ length xs
+unfolding distance zerosOf degree
+agree-zeros f [] ys h z = refl
+agree-zeros f (x ∷ xs) [] h z = absurd (omega arith)
+agree-zeros f (x ∷ xs) (y ∷ ys) h z =
+    let head : suc (length xs) - 1 ≡ length xs = omega arith in
+    let tail : (k : ℕ) → suc (length xs) - suc (suc k) ≡ length xs - suc k = λ k. omega arith in
+    let e : y ≡ x ⊕ f (length xs) = z 0 (omega arith) ∙ ap (λ (d : ℕ). x ⊕ f d) head in
+    let t = agree-zeros f xs ys (omega arith) (λ k l. z (suc k) (omega arith) ∙ ap (λ (d : ℕ). seq xs k ⊕ f d) (tail k)) in
+    elim (ℕ-discrete (f (length xs)) 0) [
+      | yes q ↦ simp (eq-eqb (f (length xs)) 0 q, eq-eqb x y (sym (e ∙ ap (bitXor x) q ∙ xor-zero-r x))) (omega (arith, t))
+      | no d ↦ simp (ne-eqb (f (length xs)) 0 d, ne-eqb x y (λ q. d (sym (add-cancel x (f (length xs))) ∙ ap (bitXor x) (sym e ∙ sym q) ∙ xor-self x)))
+          (omega (arith, t))
+    ]

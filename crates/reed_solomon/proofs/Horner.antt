@@ -1,7 +1,7 @@
 -- Polynomials by Horner's rule, highest coefficient first: as sums, divided by x + a, how many roots they have, and what they make of the
 -- syndromes of a word. Assumes nothing.
-use Rattle.general.proofs.Names.{_≡_, refl, sym, ap, ap₂, _∙_, subst, List, [], _∷_, ℕ, zero, suc, _+_, _-_, _*_, _%_, _≤_, _<_, arith, length, xor-self}
-use Rattle.general.proofs.Names.{xor-zero-r}
+use Rattle.general.proofs.Names.{_≡_, refl, sym, ap, ap₂, _∙_, subst, _≢_, ℕ, zero, suc, _+_, _-_, _*_, _%_, _≤_, _<_, zero-le, arith}
+use Rattle.general.proofs.Names.{ℕ-discrete, eq-eqb, ne-eqb, xor-self, xor-zero-r}
 use Rattle.field.specs.Field.{raised, power, mul}
 use Rattle.field.proofs.Xor.{xor-assoc, xor-swap}
 use Rattle.field.proofs.Field.{Passes, mul-lt, mul-comm, mul-assoc, mul-one, mul-power, sum-lt}
@@ -9,8 +9,9 @@ use Rattle.field.proofs.Field.{mul-sum as sum-mul}
 use Rattle.field.proofs.Entries.{mul-left-zero, mul-right-zero}
 use Rattle.reed_solomon.specs.Sum.{_⊕_, sum, horner, degree, locator, weight, syndrome}
 use Rattle.reed_solomon.specs.Register.{discrepancy, Tail}
+use Rattle.reed_solomon.specs.Inner.{zerosOf}
 use Rattle.reed_solomon.proofs.Sum.{Null, null-add, sum-ext, sum-swap, sum-scale, mul-add, mul-left, add-cancel}
-use Rattle.reed_solomon.proofs.Peel.{Out, null-div, apart}
+use Rattle.reed_solomon.proofs.Peel.{null-div, apart}
 
 -- f divided by x + a
 abbrev pub quotient : ℕ → (ℕ → ℕ) → ℕ → ℕ → ℕ
@@ -83,6 +84,35 @@ module _ (poly : ℕ) (P : Passes poly) where
   quotient-law f y a (suc n) =
       step-law y a (horner poly (quotient poly f a) y n) (horner poly f a (suc n)) (horner poly f y (suc n)) (f (suc n)) (quotient-law f y a n)
 
+  -- a second root is a root of the quotient by the first
+  pub quotient-root : (f : ℕ → ℕ) (a b m : ℕ) → a < 255 → b < 255 → a ≢ b → Null (horner poly f (power poly a) (suc m))
+      → Null (horner poly f (power poly b) (suc m)) → Null (horner poly (quotient poly f (power poly b)) (power poly a) m)
+  quotient-root f a b m ha hb d za zb =
+      let x = power poly a in
+      let y = power poly b in
+      null-div poly P (horner poly (quotient poly f y) x m) (x ⊕ y)
+      (subst Null (sym (quotient-law f x y m) ∙ mul-comm poly P (x ⊕ y) (horner poly (quotient poly f y) x m))
+      (null-add (horner poly f x (suc m)) (horner poly f y (suc m)) za zb))
+      (apart poly P a b ha hb d)
+
+  -- fewer roots than coefficients: z is zero at exponents of roots alone
+  pub few-zeros : (n m : ℕ) (f z : ℕ → ℕ) → n ≤ 255 → ¬ Null (f 0) → ((d : ℕ) → d < n → z d ≡ 0 → Null (horner poly f (power poly d) (suc m)))
+      → zerosOf n z ≤ m
+  unfolding zerosOf
+  few-zeros zero m f z h u r = zero-le
+  few-zeros (suc n) zero f z h u r = elim (ℕ-discrete (z n) 0) [
+    | no e ↦ simp (ne-eqb (z n) 0 e) (omega (arith, few-zeros n 0 f z (omega arith) u (λ d l. r d (omega arith))))
+    | yes e ↦ absurd (u (subst Null (horner-one f (power poly n)) (r n (omega arith) e)))
+  ]
+  few-zeros (suc n) (suc m) f z h u r = elim (ℕ-discrete (z n) 0) [
+    | no e ↦ simp (ne-eqb (z n) 0 e) (omega (arith, few-zeros n (suc m) f z (omega arith) u (λ d l. r d (omega arith))))
+    | yes e ↦ simp (eq-eqb (z n) 0 e) (omega (
+      arith,
+      few-zeros n m (quotient poly f (power poly n)) z (omega arith) (λ y. u (subst Null (horner-one f (power poly n)) y))
+          (λ d l q. quotient-root f d n (suc m) (omega arith) (omega arith) (λ a. omega arith) (r d (omega arith) q) (r n (omega arith) e)),
+    ))
+  ]
+
   -- times x + a
   rooted-step : (f : ℕ → ℕ) (a y n : ℕ) → horner poly (rooted poly a f) y (suc n) ≡ horner poly f y (suc n) ⊕ a ⊗ horner poly f y n
   unfolding horner rooted
@@ -153,32 +183,3 @@ module _ (poly : ℕ) (P : Passes poly) where
       where
         index : (i : ℕ) → i < suc l → x - i ≡ x - l + degree (suc l) i
         index i o = omega arith
-
-    module _ (small : n ≤ 255) where
-      -- places, no two the same, at whose locators the polynomial of m coefficients is zero
-      unfoldable pub Roots : (ℕ → ℕ) → ℕ → List ℕ → Type 0
-      Roots f m [] = Unit {0}
-      Roots f m (k ∷ ks) = (k < n) × Out k ks × Null (horner poly f (X k) m) × Roots f m ks
-
-      divided : (f : ℕ → ℕ) (a m : ℕ) (ks : List ℕ) → a < n → Out a ks → Null (horner poly f (X a) (suc m)) → Roots f (suc m) ks → Roots (quotient poly f (X a)) m ks
-      unfolding Roots
-      divided f a m [] h o z r = tt
-      divided f a m (k ∷ ks) h o z r = (
-        r .0,
-        r .1,
-        null-div poly P (horner poly (quotient poly f (X a)) (X k) m) (X k ⊕ X a)
-            (subst Null
-            (sym (quotient-law f (X k) (X a) m) ∙ mul-comm poly P (X k ⊕ X a) (horner poly (quotient poly f (X a)) (X k) m))
-            (null-add (horner poly f (X k) (suc m)) (horner poly f (X a) (suc m)) (r .2) z))
-            (apart poly P first n small k a (r .0) h (λ e. o .0 (sym e))),
-        divided f a m ks h (o .1) z (r .3),
-      )
-
-      -- fewer roots than coefficients
-      pub few-roots : (m : ℕ) (f : ℕ → ℕ) (ks : List ℕ) → ¬ Null (f 0) → Roots f (suc m) ks → length ks ≤ m
-      unfolding Roots
-      few-roots m f [] d r = omega arith
-      few-roots zero f (k ∷ ks) d r = absurd (d (subst Null (horner-one f (X k)) (r .2)))
-      few-roots (suc m) f (k ∷ ks) d r =
-          let l = few-roots m (quotient poly f (X k)) ks (λ z. d (subst Null (horner-one f (X k)) z)) (divided f k (suc m) ks (r .0) (r .1) (r .2) (r .3)) in
-          omega arith

@@ -10,6 +10,7 @@ pub mod Distance
 pub mod Codeword
 pub mod Nearest
 pub mod Decode
+pub mod Locates
 pub mod Clean
 pub mod Massey
 pub mod Values

@@ -191,6 +191,7 @@ register-end poly s r n f g l rg b G h k =
     let e : r ≡ n = omega arith in
     record {
       makes = subst (λ (m : ℕ). Makes poly (seq s) m (seq f) l) e (G .state .f-makes);
+      tail = G .state .f-tail;
       unit = G .unit;
       bytes = G .bytes;
       size = G .size-f;

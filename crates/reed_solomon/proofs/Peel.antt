@@ -34,6 +34,12 @@ module _ (poly : ℕ) (P : Passes poly) where
   pub power-alive : (i : ℕ) → ¬ Null (power poly i)
   power-alive i z = omega (arith, power-lt poly P i, power-pos poly P i)
 
+  -- two powers below the order are two numbers
+  pub apart : (a b : ℕ) → a < 255 → b < 255 → a ≢ b → ¬ Null (power poly a ⊕ power poly b)
+  apart a b ha hb d z =
+      let s = sum-lt (power poly a) (power poly b) (power-lt poly P a) (power-lt poly P b) in
+      d (power-inj poly P a b ha hb (add-zero-eq (power poly a) (power poly b) (omega arith)))
+
   module _ (first n : ℕ) where
     abbrev X : ℕ → ℕ
     X = locator poly n
@@ -97,12 +103,9 @@ module _ (poly : ℕ) (P : Passes poly) where
 
     module _ (small : n ≤ 255) where
       -- two places have two locators
-      pub apart : (i k : ℕ) → i < n → k < n → i ≢ k → ¬ Null (X i ⊕ X k)
+      places-apart : (i k : ℕ) → i < n → k < n → i ≢ k → ¬ Null (X i ⊕ X k)
       unfolding degree
-      apart i k hi hk d z =
-          let s = sum-lt (X i) (X k) (power-lt poly P (n - suc i)) (power-lt poly P (n - suc k)) in
-          let e : n - suc i ≡ n - suc k = power-inj poly P (n - suc i) (n - suc k) (omega arith) (omega arith) (add-zero-eq (X i) (X k) (omega arith)) in
-          d (omega arith)
+      places-apart i k hi hk d = apart (n - suc i) (n - suc k) (omega arith) (omega arith) (λ e. d (omega arith))
 
       pub only-zero : (ks : List ℕ) (b p : ℕ) (c : ℕ → ℕ) → length ks ≤ p → ((i : ℕ) → i < n → Out i ks → Null (c i))
           → ((j : ℕ) → b ≤ j → j < b + p → S c j ≡ 0) → (i : ℕ) → i < n → Null (c i)
@@ -117,7 +120,7 @@ module _ (poly : ℕ) (P : Passes poly) where
             (λ j lo hi. peeled-syndrome k c j
             ∙ ap₂ (λ (x y : ℕ). x ⊕ X k ⊗ y) (s (suc j) (omega arith) (omega arith)) (s j lo (omega arith))
             ∙ mul-right-zero poly (X k)) in
-            let others : (i : ℕ) → i < n → i ≢ k → Null (c i) = λ i l d. null-div (c i) (X i ⊕ X k) (rest i l) (apart i k l g d) in
+            let others : (i : ℕ) → i < n → i ≢ k → Null (c i) = λ i l d. null-div (c i) (X i ⊕ X k) (rest i l) (places-apart i k l g d) in
             elim (ℕ-discrete i k) [
               | yes e ↦ subst (λ (x : ℕ). Null (c x)) (sym e) (last-one c b k g others (s b (omega arith) (omega arith)))
               | no d ↦ others i l d

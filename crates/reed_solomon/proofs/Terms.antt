@@ -6,7 +6,7 @@ use Rattle.field.proofs.Field.{Passes, mul-assoc, mul-one, mul-power}
 use Rattle.reed_solomon.specs.Sum.{_⊕_, seq, sum, degree}
 use Rattle.reed_solomon.proofs.Sum.{sum-ext, sum-next}
 use Rattle.reed_solomon.proofs.Horner.{horner-sum, horner-lt}
-use Rattle.reed_solomon.specs.Inner.{Reduced, shifted, carried, Sums, Terms, locatorAt, Located}
+use Rattle.reed_solomon.specs.Inner.{Reduced, shifted, carried, Sums, Terms, locatorAt, ValuesAt}
 use Rattle.general.specs.Each.{Each}
 use Rattle.general.proofs.Each.{each-next}
 use Rattle.reed_solomon.proofs.Values.{reduced-power}
@@ -90,5 +90,5 @@ module _ (poly : ℕ) (P : Passes poly) (f : List ℕ) (l : ℕ) (bytes : Bytes 
       more : (k : ℕ) (s : List ℕ) → Each F (d + k + 1) e₀ s → Each F (d + (k + 1)) e₀ s
       more k s E = let q : d + k + 1 ≡ d + (k + 1) = omega arith in subst (λ (n : ℕ). Each F n e₀ s) q E
 
-  pub values-end : (d n : ℕ) (e₀ e : List ℕ) → Each (λ k x. locatorAt poly f l k) d e₀ e → n ≤ d → length e₀ ≡ 256 → Located poly f l n e
+  pub values-end : (d n : ℕ) (e₀ e : List ℕ) → Each (λ k x. locatorAt poly f l k) d e₀ e → n ≤ d → length e₀ ≡ 256 → ValuesAt poly f l n e
   values-end d n e₀ e E h z = record { size = E .size ∙ z; are = λ k u. E .done k (omega arith) }

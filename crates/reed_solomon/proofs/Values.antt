@@ -1,5 +1,5 @@
 -- The syndromes of a block, byte by byte. Assumes nothing.
-use Rattle.general.proofs.Names.{_≡_, refl, sym, ap, _∙_, List, [], _∷_, _++_, inl, inr, ℕ, suc, _+_, _*_, _≤_, _<_, arith, decLt, length, drop}
+use Rattle.general.proofs.Names.{_≡_, refl, sym, ap, _∙_, List, [], _∷_, _++_, ℕ, suc, _+_, _*_, _≤_, _<_, arith, decLt, length, drop}
 use Rattle.general.proofs.Names.{drop-of-length-le, drop-cons}
 use Rattle.field.specs.Field.{power, mul}
 use Rattle.field.proofs.Field.{Passes, mul-assoc, mul-power, power-period}
@@ -17,10 +17,7 @@ use Rattle.reed_solomon.proofs.Codeword.{eval-append, eval-horner}
 -- ---- several bytes a time: products that do not wait for each other
 
 pub reduced-power : (poly : ℕ) → Passes poly → (n r : ℕ) → Reduced n r → power poly r ≡ power poly n
-reduced-power poly P n r R = elim (R .is) [
-  | inl e ↦ ap (power poly) (sym e)
-  | inr e ↦ sym (power-period poly P 1 r) ∙ (let q : 255 * 1 + r ≡ n = omega arith in ap (power poly) q)
-]
+reduced-power poly P n r R = sym (power-period poly P (R .times) r) ∙ ap (power poly) (sym (R .is))
 
 module _ (poly : ℕ) (P : Passes poly) (n : ℕ) where
   pub two-at-once : (r a b x u v : ℕ) → Reduced (n + n) r → u ≡ mul poly x (power poly r) → v ≡ mul poly a (power poly n)

@@ -1,14 +1,13 @@
 -- What inner functions say of each other. Nobody has to believe it: the contracts of the operations do not cite it.
 use mathlib.Core.Path.{_≡_}
-use mathlib.Core.Logic.{_⊎_}
 use mathlib.Core.Bool.{Bool, cond}
 use mathlib.Core.List.{List}
 use Prim.Native.Nat.{ℕ, zero, suc, _+_, _-_, _*_, _%_, _≤_, _<_}
 use lib.Dec.{eqb}
 use lib.ListN.{length}
 use Rattle.field.specs.Field.{power, mul, below}
-use Rattle.reed_solomon.specs.Sum.{_⊕_, seq, sum, horner, degree}
-use Rattle.reed_solomon.specs.Register.{Makes, moved, State}
+use Rattle.reed_solomon.specs.Sum.{_⊕_, seq, sum, horner, degree, syndrome}
+use Rattle.reed_solomon.specs.Register.{Makes, Tail, moved, State}
 use Rattle.reed_solomon.specs.Block.{evalFrom, eval}
 
 -- ---- syndromes
@@ -17,9 +16,10 @@ use Rattle.reed_solomon.specs.Block.{evalFrom, eval}
 abbrev pub advanced : ℕ → ℕ → List ℕ → ℕ → ℕ → ℕ
 advanced poly first bytes j x = evalFrom poly (power poly (first + j)) x bytes
 
--- r is n, or less by 255
+-- r is n, or less by a multiple of 255
 pub record Reduced (n r : ℕ) : Type 0 where
-  pub is : (n ≡ r) ⊎ (n ≡ 255 + r)
+  pub times : ℕ
+  pub is : n ≡ 255 * times + r
 
 -- s holds the syndromes of a block
 pub record Syndromes (poly first parity : ℕ) (block s : List ℕ) : Type 0 where
@@ -55,6 +55,7 @@ pub record Register (poly : ℕ) (s : List ℕ) (r : ℕ) (f g : List ℕ) (l rg
 -- the shortest register that makes the first n values of s
 pub record Shortest (poly : ℕ) (s : List ℕ) (n : ℕ) (f : List ℕ) (l : ℕ) : Type 0 where
   pub makes : Makes poly (seq s) n (seq f) l
+  pub tail : Tail (seq f) l
   pub unit : seq f 0 ≡ 1
   pub bytes : (i : ℕ) → seq f i < 256
   pub size : length f ≡ 256
@@ -88,14 +89,24 @@ abbrev pub locatorAt : ℕ → List ℕ → ℕ → ℕ → ℕ
 locatorAt poly f l d = horner poly (seq f) (power poly d) (suc l)
 
 -- the values of the locator f of length l at the degrees below n
-pub record Located (poly : ℕ) (f : List ℕ) (l n : ℕ) (e : List ℕ) : Type 0 where
+pub record ValuesAt (poly : ℕ) (f : List ℕ) (l n : ℕ) (e : List ℕ) : Type 0 where
   pub size : length e ≡ 256
   pub are : (d : ℕ) → d < n → seq e d ≡ locatorAt poly f l d
 
--- how many of the first n are zero
-unfoldable pub zerosOf : ℕ → List ℕ → ℕ
-zerosOf zero e = 0
-zerosOf (suc n) e = zerosOf n e + cond (eqb (seq e n) 0) 1 0
+-- how many of the first n values of f are zero
+unfoldable pub zerosOf : ℕ → (ℕ → ℕ) → ℕ
+zerosOf zero f = 0
+zerosOf (suc n) f = zerosOf n f + cond (eqb (f n) 0) 1 0
+
+-- s are the syndromes of the errors err of n places, and h of length l locates them: it is zero at each, and has as many zeros as its length
+pub record Locates (poly first parity n : ℕ) (err : ℕ → ℕ) (s h : List ℕ) (l : ℕ) : Type 0 where
+  pub of : (j : ℕ) → j < parity → seq s j ≡ syndrome poly first n err j
+  pub err-lt : (i : ℕ) → err i < 256
+  pub unit : seq h 0 ≡ 1
+  pub bytes : (i : ℕ) → seq h i < 256
+  pub within : l ≤ parity
+  pub root : (k : ℕ) → k < n → (err k ≡ 0 → ⊥) → locatorAt poly h l (degree n k) ≡ 0
+  pub many : l ≤ zerosOf n (locatorAt poly h l)
 
 -- ---- the errors
 

@@ -6,33 +6,47 @@ ghost use lib.ListN.{length, set};
 ghost use Rattle.field.specs.Field.{mul};
 ghost use Rattle.field.specs.Table.{Field, polyOf};
 ghost use Rattle.reed_solomon.specs.Sum.{_⊕_, seq};
-ghost use Rattle.reed_solomon.specs.Inner.{Reduced, shifted, carried, Sums, Located, zerosOf, stepped, SteppedTwo, numerator, denominator, Magnitude, ErrorAt, Errors, without, withoutAll, repaired};
+ghost use Rattle.reed_solomon.specs.Inner.{Reduced, shifted, carried, Sums, ValuesAt, zerosOf, stepped, SteppedTwo, numerator, denominator, Magnitude, ErrorAt, Errors, without, withoutAll, repaired};
 ghost use Rattle.general.specs.Each.{Each};
 use crate::syndromes::Four;
 use crate::syndromes::reduced;
 
 // Up to four times an exponent of a locator of length l, reduced to what the table has. Of a short locator none is above 254: the compiler
-// then makes a loop over its terms without this test.
+// then makes a loop over its terms without these tests.
 fn folded(n: usize, l: usize) -> usize
-    requires { ⌜ (n ≤ 4 * l) × (l ≤ 127) ⌝ }
+    requires { ⌜ (n ≤ 4 * l) × (l ≤ 255) ⌝ }
     ensures { λ r. ⌜ (r ≤ 255) × Reduced n r ⌝ }
 {
     if l < 64 {
         return n;
     }
-    reduced(n)
+    if l < 128 {
+        return reduced(n);
+    }
+    n % 255
+}
+
+// The same for twice an exponent, which is above 254 of a long locator alone.
+fn doubled(n: usize, l: usize) -> usize
+    requires { ⌜ (n ≤ l) × (l ≤ 255) ⌝ }
+    ensures { λ r. ⌜ (r ≤ 255) × Reduced (2 * n) r ⌝ }
+{
+    if l < 128 {
+        return 2 * n;
+    }
+    reduced(2 * n)
 }
 
 // The sums v of four places with a term t more of a locator of length l, which from each place to the next is multiplied by α^n. All four go
 // out from the same logarithm, so that none waits for another.
 fn add_term(field: &[u16; 1280], v: Four, t: u8, n: usize, l: usize) -> Four
     requires { ⌜ Field (now field) ⌝ }
-    requires { ⌜ (n ≤ l) × (l ≤ 127) ⌝ }
+    requires { ⌜ (n ≤ l) × (l ≤ 255) ⌝ }
     ensures { λ r. ⌜ (r .a ≡ v .a ⊕ t) × (r .b ≡ v .b ⊕ shifted (polyOf (now (field .entry))) n 1 t)
         × (r .c ≡ v .c ⊕ shifted (polyOf (now (field .entry))) n 2 t) × (r .d ≡ v .d ⊕ shifted (polyOf (now (field .entry))) n 3 t) ⌝ }
 {
     let b = field::raised(field, t, n);
-    let c = field::raised(field, t, 2 * n);
+    let c = field::raised(field, t, doubled(n, l));
     let d = field::raised(field, t, folded(3 * n, l));
     Four {
         a: v.a ^ t,
@@ -45,7 +59,7 @@ fn add_term(field: &[u16; 1280], v: Four, t: u8, n: usize, l: usize) -> Four
 // The values at four places of a locator of length l with these terms at the first of them, and the terms four places further.
 fn step(field: &[u16; 1280], terms: &mut [u8], l: usize) -> Four
     requires { ⌜ Field (now field) ⌝ }
-    requires { ⌜ (l ≤ 127) × (l < length (now terms)) ⌝ }
+    requires { ⌜ (l ≤ 255) × (l < length (now terms)) ⌝ }
     ensures { λ v. ⌜ Sums (polyOf (now (field .entry))) l (now (terms .entry)) (suc l) (v .a) (v .b) (v .c) (v .d)
         × Each (carried (polyOf (now (field .entry))) l 4) (suc l) (now (terms .entry)) (now (terms .exit)) ⌝ }
 {
@@ -78,8 +92,8 @@ fn put(e: &mut [u8], d: usize, v: Four)
 // The values of the locator f of length l at the degrees below n. Those behind n, up to a multiple of four, are set too.
 pub fn roots(field: &[u16; 1280], f: &[u8; 256], l: usize, e: &mut [u8], n: usize)
     requires { ⌜ Field (now field) ⌝ }
-    requires { ⌜ (l ≤ 127) × (length (now f) ≡ 256) × ((i : ℕ) → seq (now f) i < 256) × (n ≤ 256) × (length (now e) ≡ 256) ⌝ }
-    ensures { λ _. ⌜ Located (polyOf (now (field .entry))) (now (f .entry)) l n (now (e .exit)) ⌝ }
+    requires { ⌜ (l ≤ 255) × (length (now f) ≡ 256) × ((i : ℕ) → seq (now f) i < 256) × (n ≤ 256) × (length (now e) ≡ 256) ⌝ }
+    ensures { λ _. ⌜ ValuesAt (polyOf (now (field .entry))) (now (f .entry)) l n (now (e .exit)) ⌝ }
 {
     let mut terms = *f;
     let mut d = 0;
@@ -93,7 +107,7 @@ pub fn roots(field: &[u16; 1280], f: &[u8; 256], l: usize, e: &mut [u8], n: usiz
 // How many of the first n are zero.
 pub fn zeros(e: &[u8], n: usize) -> usize
     requires { ⌜ n ≤ length (now e) ⌝ }
-    ensures { λ r. ⌜ r ≡ zerosOf n (now (e .entry)) ⌝ }
+    ensures { λ r. ⌜ (r ≡ zerosOf n (seq (now (e .entry)))) × (r ≤ n) ⌝ }
 {
     let mut count = 0;
     let mut d = 0;

@@ -9,7 +9,7 @@ ghost use Rattle.reed_solomon.specs.Inner.{added, copied, Register, Shor
 ghost use Rattle.general.specs.Each.{Each};
 
 // By how much the register f of length l misses s at r.
-fn discrepancy(field: &[u16; 1280], s: &[u8], f: &[u8], l: usize, r: usize) -> u8
+pub fn discrepancy(field: &[u16; 1280], s: &[u8], f: &[u8], l: usize, r: usize) -> u8
     requires { ⌜ Field (now field) ⌝ }
     requires { ⌜ (l ≤ r) × (r < length (now s)) × (l < length (now f)) ⌝ }
     ensures { λ d. ⌜ d ≡ discrepancy (polyOf (now (field .entry))) (seq (now (s .entry))) (seq (now (f .entry))) l r ⌝ }
@@ -37,7 +37,7 @@ pub fn add_moved(field: &[u16; 1280], f: &mut [u8], g: &[u8], q: u8, m: usize, t
 }
 
 // The first n bytes of src into those of dst.
-fn copy(dst: &mut [u8], src: &[u8], n: usize)
+pub fn copy(dst: &mut [u8], src: &[u8], n: usize)
     requires { ⌜ (n ≤ length (now dst)) × (n ≤ length (now src)) ⌝ }
     ensures { λ _. ⌜ Each (copied (now (src .entry))) n (now (dst .entry)) (now (dst .exit)) ⌝ }
 {
