@@ -10,6 +10,9 @@ use table::BLOCKS;
 use table::FIRST_BLOCKS;
 use table::TOTAL_CODEWORDS;
 
+// The most codewords that a version has in all: those of version 84.
+pub const MAX_CODEWORDS: usize = 3886;
+
 // A version's codewords in all.
 pub fn total_codewords(version: usize) -> usize
     requires { ⌜ (1 ≤ version) × (version ≤ 84) ⌝ }

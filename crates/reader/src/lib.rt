@@ -170,7 +170,7 @@ pub fn read_square(
         let mut kinds = [0u8; 10201];
         return read_square_in(&mut kinds, square, side, payload, script, receipt);
     }
-    let mut kinds = [0u8; 35721];
+    let mut kinds = [0u8; Version::MAX_SQUARE];
     read_square_in(&mut kinds, square, side, payload, script, receipt)
 }
 
@@ -201,6 +201,6 @@ pub fn read_known(
         let mut kinds = [0u8; 10201];
         return read_known_in(&mut kinds, square, m, payload, script, receipt);
     }
-    let mut kinds = [0u8; 35721];
+    let mut kinds = [0u8; Version::MAX_SQUARE];
     read_known_in(&mut kinds, square, m, payload, script, receipt)
 }

@@ -167,6 +167,6 @@ pub fn tell_segments(
         let mut data = [0u8; 155];
         return tell_data(stream, &mut data, spare, row, count, payload, script);
     }
-    let mut data = [0u8; 3886];
+    let mut data = [0u8; segments::MAX_DATA];
     tell_data(stream, &mut data, spare, row, count, payload, script)
 }

@@ -3,6 +3,7 @@
 ghost use Prim.Native.Nat.{_<_, _≤_};
 use libc::STDIN_FILENO;
 use libc::STDOUT_FILENO;
+use symbol::Version;
 
 // Module i of modules that stand 8 to a byte, high bit first.
 fn module(packed: &[u8], i: usize) -> u8 {
@@ -68,7 +69,7 @@ fn area(side: usize) -> usize
 fn record(packed: &[u8], side: usize)
     requires { ⌜ side ≤ 189 ⌝ }
 {
-    let mut buffer = [0u8; 35721];
+    let mut buffer = [0u8; Version::MAX_SQUARE];
     unpack(&mut buffer, packed);
     first(&buffer, area(side), side);
 }
@@ -77,7 +78,7 @@ fn all(records: &[u8]) {
     let mut i: usize = 0;
     while i < records.len() {
         let side = bits::wide(records[i]);
-        if 189 < side {
+        if Version::MAX_SIDE < side {
             return;
         }
         let from = i + 1;

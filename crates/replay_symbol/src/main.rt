@@ -77,7 +77,7 @@ fn layout_front(version: usize, out: &mut [u8], length: usize) {
 }
 
 fn layout(version: usize, length: usize) {
-    let mut out = [7u8; 35721];
+    let mut out = [7u8; Version::MAX_SQUARE];
     layout_front(version, &mut out, length);
 }
 

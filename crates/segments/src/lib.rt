@@ -41,7 +41,7 @@ pub const FOUR_BYTE: usize = 7;
 
 pub const ECI: usize = 8;
 
-// The most data that a symbol has, in bytes.
+// The most data that are decoded, in bytes. No version has more codewords, and none as many of them for data (SPECIFICATION 7.6).
 pub const MAX_DATA: usize = 3886;
 
 // Two numbers: a position with the payload bytes there or with an ECI's value, or the lengths of payload and script.

@@ -34,6 +34,9 @@ impl Version {
 
     pub const MAX_SIDE: usize = 189;
 
+    // The modules of the largest square.
+    pub const MAX_SQUARE: usize = Version::MAX_SIDE * Version::MAX_SIDE;
+
     pub fn from_side(side: usize) -> FromSide
         ensures { λ r. ⌜ (version.sideNumber r ≡ sideRefusal side) × (versionOf r ≡ sideVersion side) ⌝ }
     {

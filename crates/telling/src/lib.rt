@@ -22,7 +22,7 @@ fn read_stream(stream: &mut [u8], kinds: &[u8], square: &[u8], m: Mark)
 {
     let side = Version { number: m.version }.side();
     let total = block_table::total_codewords(m.version);
-    let mut found = [0u8; 3886];
+    let mut found = [0u8; block_table::MAX_CODEWORDS];
     placement::read_codewords(&mut found, total, kinds, square, side, m.mask);
     codewords::to_stream(stream, &found, total);
 }
@@ -80,7 +80,7 @@ fn tell_blocks(
         read_stream(&mut stream, kinds, square, m);
         return tell_stream(&mut stream, kinds, m, payload, script);
     }
-    let mut stream = [0u8; 3886];
+    let mut stream = [0u8; block_table::MAX_CODEWORDS];
     read_stream(&mut stream, kinds, square, m);
     tell_stream(&mut stream, kinds, m, payload, script)
 }

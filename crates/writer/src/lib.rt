@@ -134,8 +134,8 @@ fn write_mark(square: &mut [u8], kinds: &[u8], m: Mark, row: &[u8], script: &[u8
         );
         return;
     }
-    let mut stream = [0u8; 3886];
-    let mut spare = [0u8; 3886];
+    let mut stream = [0u8; block_table::MAX_CODEWORDS];
+    let mut spare = [0u8; block_table::MAX_CODEWORDS];
     write_mark_in(
         square,
         kinds,
@@ -209,6 +209,6 @@ pub fn write_square(
         let mut kinds = [0u8; 1681];
         return write_in(&mut kinds, version, level, mask, script, payload, square);
     }
-    let mut kinds = [0u8; 35721];
+    let mut kinds = [0u8; Version::MAX_SQUARE];
     write_in(&mut kinds, version, level, mask, script, payload, square)
 }
