@@ -33,7 +33,6 @@ module _ {w : ℕ} {s : List ℕ} {i : ℕ} {ws t : List ℕ} {a : ℕ} where
       → Doing w s i ws t′ r us
   unfolding wordBits flatMap
   word-done {u} {us} {t′} {r} d q =
-      let k : a + (w * length us + w) ≡ i + w * length ws = rw mul-suc at (d .place) in
       let b : r ≡ a + w = q .behind ∙ rw length-low in
       record {
         place = rw b (omega arith);
@@ -48,7 +47,6 @@ module _ {w : ℕ} {s : List ℕ} {i : ℕ} {ws t : List ℕ} {a : ℕ} where
       → Written t a (lowBits w u ++ lowBits w v) r t′ → Doing w s i ws t′ r us
   unfolding wordBits flatMap
   two-done {u} {v} {us} {t′} {r} d q =
-      let k : a + (w * length us + w + w) ≡ i + w * length ws = rw (mul-suc, mul-suc) at (d .place) in
       let b : r ≡ a + (w + w) = q .behind ∙ rw (length-append, length-low, length-low) in
       record {
         place = rw b (omega arith);
@@ -94,9 +92,7 @@ three-digits run j h =
 
 pub six-digits : (run : List ℕ) (j : ℕ) → j + 6 ≤ length run
     → numericWords (drop j run) ≡ groupAt run j ∷ groupAt run (j + 3) ∷ numericWords (drop (j + 6) run)
-six-digits run j h =
-    let e : j + 3 + 3 ≡ j + 6 = omega arith in
-    three-digits run j (omega arith) ∙ rw (three-digits run (j + 3) (omega arith), e)
+six-digits run j h = let e : j + 3 + 3 ≡ j + 6 = omega arith in three-digits run j (omega arith) ∙ rw (three-digits run (j + 3) (omega arith), e)
 
 pub one-digit : (run : List ℕ) (j : ℕ) → j + 1 ≡ length run → numericWords (drop j run) ≡ (getD run j 0 - 48) ∷ 1021 ∷ []
 unfolding numericWords

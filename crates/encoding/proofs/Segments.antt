@@ -65,7 +65,6 @@ module _ {s p : List ℕ} {n : ℕ} {t : List ℕ} {i j a : ℕ} {c : Command} (
   -- what is left, with one turn to come
   here : commands (suc (d .fuel - 1)) (drop i s) (drop j p) ≡ some (d .rest)
   here =
-      let m = d .enough in
       let z : suc (d .fuel - 1) ≡ d .fuel = omega arith in
       rw z (d .left)
 

@@ -81,8 +81,9 @@ pub fn in_region(one: bool, a: usize, b: usize) -> bool
 {
     let c = pair_code(one, a, b);
     if c < segments::region_size(one) {
-        if segments::high_byte(one, c) == a {
-            return segments::low_byte(one, c) == b;
+        let pair = segments::pair_of(one, c);
+        if pair.high == a {
+            return pair.low == b;
         }
     }
     false

@@ -94,7 +94,6 @@ module _ (s : List ℕ) (i n m : ℕ) (o c : List ℕ) (mode : ℕ) (h : m + 4 �
       go (failed bad) k = not-done bad (sym k ∙ q)
       go (got (run x bs) u) k = absurd k
       go (got (eci v′) u) k =
-          let k0 = k .0 in
           let ea : a ≡ i + u = cc in
           let ev : v ≡ v′ = cc in
           (rw (ea, add-zero), refl, rw ev at w, k .1, omega arith, omega arith)
@@ -127,7 +126,6 @@ module _ (s : List ℕ) (i n m : ℕ) (o c : List ℕ) (mode : ℕ) (h : m + 4 �
         go : (z : Result (List ℕ)) → Left (behind 1 i n o z) r x → Stepped s i n m o c (andThen z (λ cs u. got (run mode cs) u)) (On a k (m + used)) x y
         go (failed bad) g = not-done bad (sym g ∙ q)
         go (got bs u) g =
-            let g0 = g .0 in
             let ea : a ≡ i + 1 * u = cc in
             let ea′ : a ≡ i + u = ea ∙ ap (λ (z : ℕ). i + z) (one-mul u) in
             let ek : k ≡ n + length bs = cc in
@@ -155,7 +153,6 @@ step-room : (s : List ℕ) (i n m : ℕ) (o c : List ℕ) (z : Result Segment) (
     → Stepped s i n m o c z r x y → r ≡ On a k j → (i ≤ a) × (a ≤ 8 * length s) × (k ≤ a) × (j ≤ a)
 step-room s i n m o c (failed bad) r a k j x y p e = not-on bad (sym p ∙ e)
 step-room s i n m o c (got g u) r a k j x y p e =
-    let p0 = p .0 in
     let ea : a ≡ i + u = cc in
     let ek : k ≡ n + length (bytesOf g) = cc in
     let ej : j ≡ m + length (commandOf g) = cc in
@@ -193,7 +190,6 @@ module _ {s o₀ c₀ : List ℕ} {i n m : ℕ} {o c : List ℕ} (d : Parsing s 
   -- what is left, with one turn to come
   turn : (r : Count) (x y : List ℕ) → Parses n m o c (parse (suc (d .fuel - 1)) bits) r x y → Parses 0 0 o₀ c₀ (segmentsOf s) r x y
   turn r x y h =
-      let l = d .enough in
       let e : suc (d .fuel - 1) ≡ d .fuel = omega arith in
       d .rest r x y (rw e at h)
 
@@ -242,7 +238,6 @@ module _ {s o₀ c₀ : List ℕ} {i n m : ℕ} {o c : List ℕ} (d : Parsing s 
                 → Parses n m o c (following z behind-it) r x′ y′
             here (failed bad) r x′ y′ q f = not-on bad (sym q ∙ e)
             here (got b u) r x′ y′ q f =
-                let q0 = q .0 in
                 let ea : a ≡ i + 4 + u = cc in
                 let ek : k ≡ n + length (bytesOf b) = cc in
                 let ej : j ≡ m + length (commandOf b) = cc in

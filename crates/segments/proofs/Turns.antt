@@ -197,7 +197,6 @@ module _ (s : List ℕ) (i n : ℕ) (o : List ℕ) where
 pub bytes-length : (s : List ℕ) (i n : ℕ) (o : List ℕ) (k : ℕ) → WordAt 13 i k s → bytesAt s i n o ≡ bytesRunAt s (i + 13) n o k
 unfolding bytesMode
 bytes-length s i n o k r =
-    let m = r .room in
     rw (le-ltb (length (drop i (bitsOf s))) 13 (omega (arith, length-left s i)), ← (r .is), drop-drop 13 i (bitsOf s))
     (go (bytesRun k (words 8 (drop (i + 13) (bitsOf s)))))
   where
@@ -211,13 +210,11 @@ module _ (s : List ℕ) (i n : ℕ) (o : List ℕ) (w : ℕ) (r : WordAt 21 i w 
   pub four-lacks : 1587600 ≤ w → fourByteAt s i n o ≡ stopped lacking
   unfolding fourByteOf
   four-lacks l =
-      let m = r .room in
       rw (le-ltb (length (drop i (bitsOf s))) 21 (omega (arith, length-left s i)), ← (r .is), le-ltb w 1587600 l)
 
   pub four-end : w < 1587600 → fourByteAt s i n o ≡ at (i + 21) (n + 4) (sets o n (fourBytes w))
   unfolding fourByteOf fourBytes
   four-end l =
-      let m = r .room in
       rw (le-ltb (length (drop i (bitsOf s))) 21 (omega (arith, length-left s i)), ← (r .is), lt-ltb w 1587600 l)
 
 -- an answer behind a later place

@@ -112,38 +112,39 @@ pub fn region_size(one: bool) -> usize
     if one { 4074 } else { 3008 }
 }
 
-// The first byte of a value in a region.
-pub fn high_byte(one: bool, w: usize) -> usize
-    requires { ⌜ w < regionSize one ⌝ }
-    ensures { λ r. ⌜ (r < 256) × (r ≡ highOf one w) ⌝ }
-{
-    if one {
-        if w < 3760 {
-            return 0xB0 + w / 94;
-        }
-        if w < 4042 {
-            return 0xA1 + (w - 3760) / 94;
-        }
-        return 0xA8;
-    }
-    0xD8 + w / 94
+// The two bytes of a character.
+pub struct Pair {
+    pub high: usize,
+    pub low: usize,
 }
 
-// The second byte of a value in a region.
-pub fn low_byte(one: bool, w: usize) -> usize
+// The bytes of a value in a region.
+pub fn pair_of(one: bool, w: usize) -> Pair
     requires { ⌜ w < regionSize one ⌝ }
-    ensures { λ r. ⌜ (r < 256) × (r ≡ lowOf one w) ⌝ }
+    ensures { λ r. ⌜ (r .high < 256) × (r .low < 256) × (r .high ≡ highOf one w) × (r .low ≡ lowOf one w) ⌝ }
 {
     if one {
         if w < 3760 {
-            return 0xA1 + w % 94;
+            return Pair {
+                high: 0xB0 + w / 94,
+                low: 0xA1 + w % 94,
+            };
         }
         if w < 4042 {
-            return 0xA1 + (w - 3760) % 94;
+            return Pair {
+                high: 0xA1 + (w - 3760) / 94,
+                low: 0xA1 + (w - 3760) % 94,
+            };
         }
-        return 0xA1 + (w - 4042);
+        return Pair {
+            high: 0xA8,
+            low: 0xA1 + (w - 4042),
+        };
     }
-    0xA1 + w % 94
+    Pair {
+        high: 0xD8 + w / 94,
+        low: 0xA1 + w % 94,
+    }
 }
 
 // How a run of characters in one region ends.
@@ -176,7 +177,8 @@ fn same_region(s: &[u8], from: usize, out: &mut [u8], to: usize, one: bool) -> R
         if w >= region_size(one) {
             return Region::Lacking;
         }
-        put_pair(out, n, high_byte(one, w), low_byte(one, w));
+        let pair = pair_of(one, w);
+        put_pair(out, n, pair.high, pair.low);
         n += 2;
     }
 }

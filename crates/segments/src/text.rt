@@ -9,26 +9,21 @@ use crate::Count;
 use crate::put;
 use bits::Word;
 
-// What is added to a 6-bit value for its byte in the first subset of the text mode. The answers are constants, so that the compiler picks
-// one without a jump, which in text would often be guessed wrong.
-fn first_offset(w: usize) -> usize
+// What is added to a 6-bit value for its byte in a subset of the text mode. The answers are constants, so that the compiler picks one without
+// a jump, which in text would often be guessed wrong.
+fn offset(first: bool, w: usize) -> usize
     requires { ⌜ w < 62 ⌝ }
-    ensures { λ r. ⌜ (r < 128) × (w + r ≡ charOf true w) ⌝ }
+    ensures { λ r. ⌜ (r < 128) × (w + r ≡ charOf first w) ⌝ }
 {
-    if w < 10 {
-        return 48;
+    if first {
+        if w < 10 {
+            return 48;
+        }
+        if w < 36 {
+            return 55;
+        }
+        return 61;
     }
-    if w < 36 {
-        return 55;
-    }
-    61
-}
-
-// The same in the second subset.
-fn second_offset(w: usize) -> usize
-    requires { ⌜ w < 62 ⌝ }
-    ensures { λ r. ⌜ (r < 128) × (w + r ≡ charOf false w) ⌝ }
-{
     if w < 28 {
         return 0;
     }
@@ -49,10 +44,7 @@ pub fn text_char(first: bool, w: usize) -> usize
     requires { ⌜ w < 62 ⌝ }
     ensures { λ r. ⌜ (r < 256) × (r ≡ charOf first w) ⌝ }
 {
-    if first {
-        return w + first_offset(w);
-    }
-    w + second_offset(w)
+    w + offset(first, w)
 }
 
 // Text mode: two subsets of 6-bit values, switched by 62 and ended by 63. Each segment starts in the first.

@@ -9,22 +9,12 @@ Inv-loop buf₀ from i₀ buf i = (length buf ≡ length buf₀) × (from ≤ i)
 abbrev μ-loop : tie.MeasureT-loop
 μ-loop buf₀ from i₀ buf i = length buf₀ - i
 
-loop-holds : tie.Need-loop-holds Inv-loop μ-loop
-loop-holds c = (refl, omega arith, omega arith, clear-start (c .args .buf .now) (c .args .from))
-
 loop-again : tie.Need-loop-again Inv-loop μ-loop
 loop-again c =
     let l = c .before .loop in
-    let a = c .before .before .args in
-    (simp length-set (l .inv .0), omega arith, omega arith, rw (l .inv .3) (clear-more (a .buf .now) (a .from) (l .i) (omega arith) (omega arith)))
-
-returns : tie.Need-returns Inv-loop μ-loop
-returns c =
-    let l = c .before .loop in
-    let a = c .before .before .args in
-    l .inv .3 ∙ clear-end (a .buf .now) (a .from) (l .i) (omega arith)
+    (simp length-set (l .inv .0), omega arith, omega arith, rw (l .inv .3) (clear-more _ _ _ (omega arith) (omega arith)))
 
 pub clear-spec : {M : Type 1} → Rattle.encoding.proofs.clear.Statement.statement M
 clear-spec =
-    tie.close (tie.spec Inv-loop μ-loop loop-holds (λ c. omega arith) (λ c. omega arith) (λ c. omega arith) loop-again
-    (λ c. c .before .loop .inv .0) returns)
+    tie.close (tie.spec Inv-loop μ-loop (λ c. (refl, omega arith, omega arith, clear-start _ _)) (λ c. omega arith) (λ c. omega arith)
+    (λ c. omega arith) loop-again (λ c. c .before .loop .inv .0) (λ c. c .before .loop .inv .3 ∙ clear-end _ _ _ (omega arith)))

@@ -2,7 +2,7 @@
 use Rattle.general.proofs.Names.{_≡_, refl, _∙_, _+_, _-_, _≤_, add-zero, arith, needs, length, take, drop}
 use Rattle.segments.specs.Script.{run, eci}
 use Rattle.script.specs.Inner.{commandSize}
-use Rattle.encoding.proofs.Segments.{Left, Next, begun, never-wrong, run-next, eci-next, end-room, ended}
+use Rattle.encoding.proofs.Segments.{Left, Next, begun, never-wrong, run-next, eci-next, ended}
 use Rattle.encoding.proofs.encode.Tie as tie
 
 abbrev Inv-loop : tie.InvT-loop
@@ -87,12 +87,6 @@ loop-again c =
     let e = c .command-size .ensures .0 in
     (q .kept .0 ∙ l .inv .0, omega arith, omega arith, l .inv .3, rw e (t .2 .done (rw z at (q .ensures))))
 
-write-eci-requires : tie.Need-write-eci-requires Inv-loop μ-loop
-write-eci-requires c κs =
-    let k = c .before in
-    let w = k .before .before .before .before .before .loop .inv .0 in
-    rw w (omega arith, next-eci k .room)
-
 loop-less-2 : tie.Need-loop-less-2 Inv-loop μ-loop
 loop-less-2 c = let t = next-eci (c .before .before .before .before) in omega arith
 
@@ -105,17 +99,7 @@ loop-again-2 c =
     (q .kept .0 ∙ l .inv .0, omega arith, omega arith, l .inv .3, rw add-zero at (t .done (q .ensures)))
 
 returns : tie.Need-returns Inv-loop μ-loop
-returns c =
-    let g = c .before .before in
-    never-wrong (omega arith) (g .command-at .ensures) (g .before .before .loop .inv .4) (c .enum-told .given .1)
-
-pad-requires : tie.Need-pad-requires Inv-loop μ-loop
-pad-requires c κs =
-    let r = end-room (omega arith) (c .before .before .loop .inv .4) in
-    (omega arith, omega arith)
-
-same-length-2 : tie.Need-same-length-2 Inv-loop μ-loop
-same-length-2 c = c .before .before .pad .kept .0 ∙ c .before .before .before .before .before .loop .inv .0
+returns c = let g = c .before .before in never-wrong (omega arith) (g .command-at .ensures) (g .before .before .loop .inv .4) (c .enum-told .given .1)
 
 returns-2 : tie.Need-returns-2 Inv-loop μ-loop
 returns-2 c =
@@ -125,7 +109,8 @@ returns-2 c =
 
 pub encode-spec : {M : Type 1} → Rattle.encoding.proofs.encode.Statement.statement M
 encode-spec =
-    tie.close (tie.spec Inv-loop μ-loop loop-holds (λ c κs. omega arith) (λ c. c .match .keys1) add-end sub-write-run
-    part-write-run-start part-write-run-end write-run-requires (λ c κs. search needs) (λ c. omega arith) loop-less loop-again
-    (λ c. c .match .keys2) write-eci-requires (λ c. omega arith) loop-less-2 loop-again-2 (λ c. c .match .keys3)
-    (λ c. c .before .before .before .before .loop .inv .0) returns pad-requires same-length-2 returns-2)
+    tie.close (tie.spec Inv-loop μ-loop loop-holds (λ c κs. omega arith) (λ c. c .match .keys1) add-end sub-write-run part-write-run-start
+    part-write-run-end write-run-requires (λ c κs. search needs) (λ c. omega arith) loop-less loop-again (λ c. c .match .keys2)
+    (λ c κs. rw (c .before .before .before .before .before .before .loop .inv .0) (omega arith, next-eci (c .before) .room)) (λ c. omega arith)
+    loop-less-2 loop-again-2 (λ c. c .match .keys3) (λ c. c .before .before .before .before .loop .inv .0) returns
+    (λ c κs. (omega arith, omega arith)) (λ c. c .before .before .pad .kept .0 ∙ c .before .before .before .before .before .loop .inv .0) returns-2)

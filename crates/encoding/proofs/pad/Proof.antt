@@ -8,7 +8,7 @@ returns c =
     let p = c .before .before in
     let w = p .before .before .before .before in
     let a = w .before .before .before .args in
-    padded (a .buf .now) (w .write-bits .last .0) (p .clear .last .0) (a .at) (w .write-bits .kept .0) (omega arith) (w .write-bits .ensures)
+    padded _ _ _ (a .at) (w .write-bits .kept .0) (omega arith) (w .write-bits .ensures)
     (p .clear .ensures)
 
 pub pad-spec : {M : Type 1} → Rattle.encoding.proofs.pad.Statement.statement M

@@ -125,11 +125,7 @@ put-requires-4 c κs =
     let l = c .before .before .before .loop in
     let a = c .before .before .before .before .before .before .before .before .args in
     let d = doing-as (end-words (a .run .now) (a .mode) (l .first) (l .j) (omega arith)) (l .inv .4) in
-    let r = word-room (8 * length (a .buf .now)) d (l .inv .3) in
     (omega arith, omega arith, omega arith)
-
-same-length-2 : tie.Need-same-length-2 Inv-loop μ-loop
-same-length-2 c = c .before .before .put4 .kept .0 ∙ c .before .before .before .before .before .before .loop .inv .0
 
 returns-2 : tie.Need-returns-2 Inv-loop μ-loop
 unfolding beginsIn
@@ -143,7 +139,8 @@ returns-2 c =
 
 pub write-chars-spec : {M : Type 1} → Rattle.encoding.proofs.write_chars.Statement.statement M
 write-chars-spec =
-    tie.close (tie.spec Inv-loop μ-loop (λ c κs. search needs) (λ c κs. search needs) loop-holds (λ c κs. omega arith)
-    (λ c. c .match .keys1) put-requires (λ c. omega arith) loop-less loop-again (λ c. c .match .keys2) (λ c κs. search needs)
-    put-requires-2 put-requires-3 (λ c. omega arith) loop-less-2 loop-again-2 (λ c. c .match .keys3)
-    (λ c. c .before .before .before .before .loop .inv .0) returns (λ c κs. search needs) put-requires-4 same-length-2 returns-2)
+    tie.close (tie.spec Inv-loop μ-loop (λ c κs. search needs) (λ c κs. search needs) loop-holds (λ c κs. omega arith) (λ c. c .match .keys1)
+    put-requires (λ c. omega arith) loop-less loop-again (λ c. c .match .keys2) (λ c κs. search needs) put-requires-2 put-requires-3
+    (λ c. omega arith) loop-less-2 loop-again-2 (λ c. c .match .keys3) (λ c. c .before .before .before .before .loop .inv .0) returns
+    (λ c κs. search needs) put-requires-4 (λ c. c .before .before .put4 .kept .0 ∙ c .before .before .before .before .before .before .loop .inv .0)
+    returns-2)

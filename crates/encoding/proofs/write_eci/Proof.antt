@@ -6,17 +6,9 @@ use Rattle.encoding.proofs.Doing.{written-both}
 use Rattle.encoding.proofs.Runs.{first-room, rest-room, eci-7, eci-14, eci-21}
 use Rattle.encoding.proofs.write_eci.Tie as tie
 
-put-requires : tie.Need-put-requires
-put-requires c κs =
-    let s = c .before .before in
-    let a = s .args in
-    (omega arith, first-room 4 8 (a .from) (8 * length (a .buf .now)) (eciBits (a .v)) (s .pre .1), omega arith)
-
 -- room behind the mode
 room : (c : tie.After-put) → let a = c .before .before .before .args in c .put .result + length (eciBits (a .v)) ≤ 8 * length (a .buf .now)
-room c =
-    let s = c .before .before .before in
-    rest-room (eciBits (s .args .v)) (8 * length (s .args .buf .now)) (c .put .ensures) (s .pre .1)
+room c = let s = c .before .before .before in rest-room _ _ (c .put .ensures) (s .pre .1)
 
 put-requires-2 : tie.Need-put-requires-2
 put-requires-2 c κs =
@@ -29,7 +21,7 @@ returns : tie.Need-returns
 returns c =
     let i = c .before .before .before .before in
     let p = i .before .before .before in
-    rw (eci-7 (p .before .before .before .args .v) (i .if1 .taken)) (written-both (p .put .ensures) (c .before .before .put2 .ensures))
+    rw (eci-7 _ (i .if1 .taken)) (written-both (p .put .ensures) (c .before .before .put2 .ensures))
 
 put-requires-3 : tie.Need-put-requires-3
 put-requires-3 c κs =
@@ -42,7 +34,7 @@ returns-2 : tie.Need-returns-2
 returns-2 c =
     let i = c .before .before .before .before in
     let p = i .before .before .before .before in
-    rw (eci-14 (p .before .before .before .args .v) (i .before .if1 .left) (i .if2 .taken)) (written-both (p .put .ensures) (c .before .before .put3 .ensures))
+    rw (eci-14 _ (i .before .if1 .left) (i .if2 .taken)) (written-both (p .put .ensures) (c .before .before .put3 .ensures))
 
 put-requires-4 : tie.Need-put-requires-4
 put-requires-4 c κs =
@@ -55,9 +47,9 @@ returns-3 : tie.Need-returns-3
 returns-3 c =
     let i = c .before .before .before .before in
     let p = i .before .before .before .before in
-    rw (eci-21 (p .before .before .before .args .v) (i .before .if1 .left) (i .if2 .left)) (written-both (p .put .ensures) (c .before .before .put4 .ensures))
+    rw (eci-21 _ (i .before .if1 .left) (i .if2 .left)) (written-both (p .put .ensures) (c .before .before .put4 .ensures))
 
 pub write-eci-spec : {M : Type 1} → Rattle.encoding.proofs.write_eci.Statement.statement M
 write-eci-spec =
-    tie.close (tie.spec put-requires put-requires-2 (λ c. search needs) returns (λ c. search needs) put-requires-3 (λ c. search needs) returns-2
-    (λ c. search needs) put-requires-4 (λ c. search needs) returns-3)
+    tie.close (tie.spec (λ c κs. (omega arith, first-room 4 8 _ _ _ (c .before .before .pre .1), omega arith)) put-requires-2 (λ c. search needs)
+    returns (λ c. search needs) put-requires-3 (λ c. search needs) returns-2 (λ c. search needs) put-requires-4 (λ c. search needs) returns-3)

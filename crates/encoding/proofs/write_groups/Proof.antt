@@ -12,9 +12,7 @@ abbrev μ-loop : tie.MeasureT-loop
 μ-loop buf₀ from run at₀ j₀ buf at j = length run - j
 
 loop-holds : tie.Need-loop-holds Inv-loop μ-loop
-loop-holds c =
-    let a = c .before .before .args in
-    (refl, omega arith, begun 10 (a .buf .now) (a .from) (numericWords (a .run .now)))
+loop-holds c = let a = c .before .before .args in (refl, omega arith, begun 10 (a .buf .now) (a .from) (numericWords (a .run .now)))
 
 -- three digits are left, or one, or two, or none
 three : (c : tie.In-loop Inv-loop μ-loop)
@@ -124,15 +122,10 @@ put-requires-6 c κs =
     let r = word-room (8 * length (a .buf .now)) (none i) (omega arith) in
     (omega arith, omega arith, omega arith)
 
-same-length-3 : tie.Need-same-length-3 Inv-loop μ-loop
-same-length-3 c = c .before .before .put6 .kept .0 ∙ c .before .before .before .before .before .before .before .loop .inv .0
-
-returns-3 : tie.Need-returns-3 Inv-loop μ-loop
-returns-3 c = all-done (word-done (none (c .before .before .before .before)) (c .before .before .put6 .ensures))
-
 pub write-groups-spec : {M : Type 1} → Rattle.encoding.proofs.write_groups.Statement.statement M
 write-groups-spec =
-    tie.close (tie.spec Inv-loop μ-loop loop-holds (λ c. omega arith) (λ c κs. omega arith) put-requires (λ c. omega arith)
-    (λ c. omega arith) loop-again (λ c. omega arith) (λ c κs. omega arith) put-requires-2 put-requires-3 same-length returns
-    (λ c κs. omega arith) (λ c. omega arith) (λ c. omega arith) (λ c κs. omega arith) (λ c. omega arith) put-requires-4 put-requires-5
-    same-length-2 returns-2 put-requires-6 same-length-3 returns-3)
+    tie.close (tie.spec Inv-loop μ-loop loop-holds (λ c. omega arith) (λ c κs. omega arith) put-requires (λ c. omega arith) (λ c. omega arith)
+    loop-again (λ c. omega arith) (λ c κs. omega arith) put-requires-2 put-requires-3 same-length returns (λ c κs. omega arith) (λ c. omega arith)
+    (λ c. omega arith) (λ c κs. omega arith) (λ c. omega arith) put-requires-4 put-requires-5 same-length-2 returns-2 put-requires-6
+    (λ c. c .before .before .put6 .kept .0 ∙ c .before .before .before .before .before .before .before .loop .inv .0)
+    (λ c. all-done (word-done (none (c .before .before .before .before)) (c .before .before .put6 .ensures))))

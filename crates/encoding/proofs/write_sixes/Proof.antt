@@ -12,16 +12,11 @@ Inv-loop buf₀ from run at₀ j₀ buf at j = (length buf ≡ length buf₀) ×
 abbrev μ-loop : tie.MeasureT-loop
 μ-loop buf₀ from run at₀ j₀ buf at j = length run - j
 
-loop-holds : tie.Need-loop-holds Inv-loop μ-loop
-loop-holds c =
-    let a = c .before .before .args in
-    (refl, omega arith, refl, begun 10 (a .buf .now) (a .from) (numericWords (a .run .now)))
-
 put-requires : tie.Need-put-requires Inv-loop μ-loop
 put-requires c κs =
     let l = c .before .before .before .before .loop in
     let a = c .before .before .before .before .before .before .before .args in
-    let r = two-room (8 * length (a .buf .now)) (doing-as (six-digits (a .run .now) (l .j) (omega arith)) (l .inv .3)) (omega arith) in
+    let r = two-room (8 * length (a .buf .now)) (doing-as (six-digits _ (l .j) (omega arith)) (l .inv .3)) (omega arith) in
     (omega arith, omega arith, omega arith)
 
 loop-again : tie.Need-loop-again Inv-loop μ-loop
@@ -32,7 +27,7 @@ loop-again c =
     let x = c .before .before .before .before .before .group in
     let y = c .before .before .before .before .group2 in
     let d = doing-as (six-digits (a .run .now) (l .j) (omega arith)) (l .inv .3) in
-    (p .kept .0 ∙ l .inv .0, omega arith, omega arith, two-done d (rw (x .ensures .0, y .ensures .0) at (rw (two-words 10 10 (x .result) (y .result)) at (p .ensures))))
+    (p .kept .0 ∙ l .inv .0, omega arith, omega arith, two-done d (rw (x .ensures .0, y .ensures .0) at (rw (two-words 10 10 _ _) at (p .ensures))))
 
 returns : tie.Need-returns Inv-loop μ-loop
 returns c =
@@ -43,6 +38,6 @@ returns c =
 
 pub write-sixes-spec : {M : Type 1} → Rattle.encoding.proofs.write_sixes.Statement.statement M
 write-sixes-spec =
-    tie.close (tie.spec Inv-loop μ-loop loop-holds (λ c. omega arith) (λ c κs. omega arith) (λ c. omega arith) (λ c κs. omega arith)
-    (λ c. omega arith) (λ c. omega arith) put-requires (λ c. omega arith) (λ c. omega arith) loop-again (λ c. c .before .loop .inv .0)
-    returns)
+    tie.close (tie.spec Inv-loop μ-loop (λ c. (refl, omega arith, refl, begun 10 (c .before .before .args .buf .now) _ _)) (λ c. omega arith)
+    (λ c κs. omega arith) (λ c. omega arith) (λ c κs. omega arith) (λ c. omega arith) (λ c. omega arith) put-requires (λ c. omega arith)
+    (λ c. omega arith) loop-again (λ c. c .before .loop .inv .0) returns)

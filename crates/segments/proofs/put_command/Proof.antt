@@ -17,7 +17,7 @@ returns-2 c =
     let a = p .before .before .before .before .args in
     rw (ne-eqb (a .mode) 7 (p .before .before .if1 .left)) (
       refl,
-      one-more (a .script .now) (p .put2 .last .0) (put-pair .last .0) (a .n / 256 ∷ a .n % 256 ∷ []) (a .m) (a .m + 1) (a .mode) refl
+      one-more (a .script .now) _ (put-pair .last .0) (a .n / 256 ∷ a .n % 256 ∷ []) _ (a .m + 1) (a .mode) refl
           (p .put2 .ensures) (put-pair .ensures),
     )
 

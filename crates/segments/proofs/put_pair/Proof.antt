@@ -9,7 +9,7 @@ returns c =
     let put2 = c .before .before .put2 in
     let p = before in
     let a = p .before .before .before .args in
-    one-more (a .out .now) (p .put .last .0) (put2 .last .0) (a .b ∷ []) (a .n) (a .n + 1) (a .a) refl (p .put .ensures) (put2 .ensures)
+    one-more (a .out .now) (p .put .last .0) _ (a .b ∷ []) _ (a .n + 1) _ refl (p .put .ensures) (put2 .ensures)
 
 pub put-pair-spec : {M : Type 1} → Rattle.segments.proofs.put_pair.Statement.statement M
 put-pair-spec = tie.close (tie.spec (λ c κs. search needs) (λ c. search needs) (λ c κs. search needs) (λ c. search needs) returns)

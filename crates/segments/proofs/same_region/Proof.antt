@@ -1,5 +1,5 @@
 -- `same_region` meets its contract. Assumes nothing.
-use Rattle.general.proofs.Names.{needs, _≡_, _∙_, refl, ap₂, not, [], _∷_, arith, ℕ, _*_, _-_, length, sets}
+use Rattle.general.proofs.Names.{needs, _≡_, _∙_, refl, not, [], _∷_, arith, _*_, _-_, length, sets}
 use Rattle.bits.proofs.Words.{WordAt}
 use Rattle.segments.specs.Segments.{highOf, lowOf, regionOf}
 use Rattle.segments.specs.Positions.{regionAt}
@@ -52,20 +52,18 @@ returns-4 c =
     }
 
 loop-less : tie.Need-loop-less Inv-loop μ-loop
-loop-less c = let m = word (c .before .before .before .before .before .before .before .before .before .before) .room in omega arith
+loop-less c = let m = word (c .before .before .before .before .before .before .before .before .before) .room in omega arith
 
 loop-again : tie.Need-loop-again Inv-loop μ-loop
 loop-again c =
-    let i = c .before .before .before .before .before .before .before .before in
+    let i = c .before .before .before .before .before .before .before in
     let k = i .before .before in
     let w = k .before .got .given .0 .0 in
     let l = k .before .before .before .before .loop in
     let one = k .before .before .before .before .before .before .before .args .one in
     let p = c .before .before .put-pair in
-    let e : p .last .0 ≡ sets (l .out) (l .n) (highOf one w ∷ lowOf one w ∷ []) =
-    p .ensures
-    ∙ ap₂ (λ (x y : ℕ). sets (l .out) (l .n) (x ∷ y ∷ [])) (c .before .before .before .before .high-byte .ensures .1)
-    (c .before .before .before .low-byte .ensures .1) in
+    let bytes = c .before .before .before .before .pair-of .ensures in
+    let e : p .last .0 ≡ sets (l .out) (l .n) (highOf one w ∷ lowOf one w ∷ []) = rw (← (bytes .2), ← (bytes .3)) (p .ensures) in
     let on = region-pair one (i .before .if1 .left) (i .if2 .left) (omega arith) in
     (p .kept .0 ∙ l .inv .0, remains-on (l .inv .1) (word k) (highOf one w ∷ lowOf one w ∷ []) (regionOf one) on (omega arith) e)
 
@@ -74,5 +72,5 @@ same-region-spec =
     tie.close (tie.spec Inv-loop μ-loop (λ c. (refl, remains-start (omega arith) (omega arith))) (λ c κs. search needs) (λ c. c .match .keys1)
     (λ c. c .match .keys2) (λ c. c .before .before .before .loop .inv .0) returns (λ c. omega arith)
     (λ c. c .before .before .before .before .before .loop .inv .0) returns-2 (λ c. c .before .before .before .before .before .before .loop .inv .0)
-    returns-3 (λ c κs. search needs) same-length-4 returns-4 (λ c κs. omega arith) (λ c κs. omega arith)
-    (λ c κs. (omega arith, c .before .high-byte .ensures .0, c .low-byte .ensures .0)) (λ c. omega arith) loop-less loop-again)
+    returns-3 (λ c κs. search needs) same-length-4 returns-4 (λ c κs. omega arith)
+    (λ c κs. (omega arith, c .before .pair-of .ensures .0, c .before .pair-of .ensures .1)) (λ c. omega arith) loop-less loop-again)

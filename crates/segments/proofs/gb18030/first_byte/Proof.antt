@@ -3,9 +3,6 @@ use Rattle.general.proofs.Names.{arith, refl, needs}
 use Rattle.segments.specs.Segments.{firstByte}
 use Rattle.segments.proofs.gb18030.first_byte.Tie as tie
 
-returns : tie.Need-returns
-unfolding firstByte
-returns c = (omega arith, refl)
-
 pub first-byte-spec : {M : Type 1} → Rattle.segments.proofs.gb18030.first_byte.Statement.statement M
-first-byte-spec = tie.close (tie.spec (λ c. search needs) returns)
+unfolding firstByte
+first-byte-spec = tie.close (tie.spec (λ c. search needs) (λ c. (omega arith, refl)))

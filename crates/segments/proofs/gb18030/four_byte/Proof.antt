@@ -8,7 +8,7 @@ returns : tie.Need-returns
 returns c =
     let b = c .before .before in
     let a = b .before .before .before .args in (
-      rw (four-cut (a .s .now) (a .from) (a .to) (a .out .now) (word-few 21 (a .from) (a .s .now) (b .read-bits .result) (b .read-bits .ensures)
+      rw (four-cut (a .s .now) (a .from) (a .to) _ (word-few 21 (a .from) _ (b .read-bits .result) (b .read-bits .ensures)
           (c .enum-told .given .1))) refl,
       tt,
     )
@@ -20,13 +20,13 @@ word c =
     let got = c .before .got in
     let b = c .before .before .before in
     let a = b .before .before .before .args in
-    word-read 21 (a .from) (a .s .now) (b .read-bits .result) (b .read-bits .ensures) (got .given .0 .0) (omega arith) (omega arith) (got .given .1)
+    word-read 21 _ (a .s .now) _ (b .read-bits .ensures) (got .given .0 .0) (omega arith) (omega arith) (got .given .1)
 
 returns-2 : tie.Need-returns-2
 returns-2 c =
     let k = c .before in
     let a = k .before .before .before .before .before .before .args in
-    (rw (four-lacks (a .s .now) (a .from) (a .to) (a .out .now) (k .before .got .given .0 .0) (word k) (c .if1 .taken)) refl, tt)
+    (rw (four-lacks (a .s .now) (a .from) (a .to) _ (k .before .got .given .0 .0) (word k) (c .if1 .taken)) refl, tt)
 
 returns-3 : tie.Need-returns-3
 returns-3 c =
@@ -35,7 +35,7 @@ returns-3 c =
     let k = before in
     let a = k .before .before .before .before .before .before .args in
     let m = word k .room in (
-      rw (four-end (a .s .now) (a .from) (a .to) (a .out .now) (k .before .got .given .0 .0) (word k) (if1 .left))
+      rw (four-end (a .s .now) (a .from) (a .to) _ (k .before .got .given .0 .0) (word k) (if1 .left))
           (refl, c .before .before .put-four .ensures),
       (omega arith, omega arith, omega arith, omega arith),
     )

@@ -11,7 +11,7 @@ returns c =
     let put-pair2 = c .before .before .put-pair2 in
     let p = before in
     let a = p .before .before .before .args in
-    two-more (a .out .now) (p .put-pair .last .0) (put-pair2 .last .0) ((0x81 + a .w % 1260 / 10) ∷ (0x30 + a .w % 10) ∷ []) (a .n) (a .n + 2)
+    two-more (a .out .now) (p .put-pair .last .0) _ ((0x81 + a .w % 1260 / 10) ∷ (0x30 + a .w % 10) ∷ []) _ (a .n + 2)
     (0x81 + a .w / 12600) (0x30 + a .w % 12600 / 1260) refl (p .put-pair .ensures) (put-pair2 .ensures)
 
 pub put-four-spec : {M : Type 1} → Rattle.segments.proofs.gb18030.put_four.Statement.statement M

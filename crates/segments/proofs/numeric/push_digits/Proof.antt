@@ -5,8 +5,7 @@ use Rattle.segments.proofs.Turns.{digits-more, digits-all}
 use Rattle.segments.proofs.numeric.push_digits.Tie as tie
 
 abbrev Inv-loop : tie.InvT-loop
-Inv-loop out₀ n v k i₀ out i =
-    (length out ≡ length out₀) × (i ≤ k) × (sets out₀ n (digits k v) ≡ sets out (n + i) (digits (k - i) v))
+Inv-loop out₀ n v k i₀ out i = (length out ≡ length out₀) × (i ≤ k) × (sets out₀ n (digits k v) ≡ sets out (n + i) (digits (k - i) v))
 
 abbrev μ-loop : tie.MeasureT-loop
 μ-loop out₀ n v k i₀ out i = k - i
@@ -24,7 +23,7 @@ loop-again c =
     ∙ ap (λ (z : ℕ). set (l .out) (a .n + l .i) (48 + a .v / z % 10)) t in (
       q .kept .0 ∙ l .inv .0,
       omega arith,
-      l .inv .2 ∙ digits-more (l .out) (a .n) (a .k) (l .i) (a .v) (omega arith)
+      l .inv .2 ∙ digits-more (l .out) _ _ _ _ (omega arith)
           ∙ ap (λ (z : List ℕ). sets z (a .n + (l .i + 1)) (digits (a .k - (l .i + 1)) (a .v))) (sym e),
     )
 
@@ -32,7 +31,7 @@ returns : tie.Need-returns Inv-loop μ-loop
 returns c =
     let l = c .before .loop in
     let a = c .before .before .before .args in
-    sym (l .inv .2 ∙ digits-all (l .out) (a .n + l .i) (a .k) (l .i) (a .v) (omega arith))
+    sym (l .inv .2 ∙ digits-all (l .out) (a .n + l .i) (a .k) _ (a .v) (omega arith))
 
 pub push-digits-spec : {M : Type 1} → Rattle.segments.proofs.numeric.push_digits.Statement.statement M
 push-digits-spec =

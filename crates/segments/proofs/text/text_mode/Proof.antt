@@ -15,9 +15,7 @@ abbrev μ-loop : tie.MeasureT-loop
 
 returns : tie.Need-returns Inv-loop μ-loop
 unfolding textOf
-returns c =
-    let b = c .before .before in
-    (rw (remains-cut (b .before .loop .inv .1) (b .read-bits .ensures) (c .enum-told .given .1) refl) refl, tt)
+returns c = let b = c .before .before in (rw (remains-cut (b .before .loop .inv .1) (b .read-bits .ensures) (c .enum-told .given .1) refl) refl, tt)
 
 -- what was read, where a word was read
 word : (c : tie.After-known-told Inv-loop μ-loop)
@@ -54,7 +52,7 @@ loop-again-2 c =
     let e : p .last .0 ≡ set (l .out) (l .n) (charOf (l .first) w) = p .ensures ∙ ap (λ (x : ℕ). set (l .out) (l .n) x)
     (c .before .before .before .text-char .ensures .1) in (
       p .kept .0 ∙ l .inv .0,
-      remains-on (l .inv .1) (word k) (charOf (l .first) w ∷ []) (textOf (l .first))
+      remains-on (l .inv .1) (word k) (charOf (l .first) w ∷ []) (textOf _)
           (text-byte (l .first) (i .before .if1 .left) (i .if2 .left)) (omega arith) e,
     )
 
