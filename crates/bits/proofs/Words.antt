@@ -90,6 +90,24 @@ unfolding wordBits flatMap
 length-words w [] = omega arith
 length-words w (v ∷ vs) = length-append (lowBits w v) (wordBits w vs) ∙ rw (length-low, length-words w vs, mul-suc) (omega arith)
 
+pub first-length : (w k : ℕ) (bs : List ℕ) → length (firstWords w k bs) ≡ k
+unfolding firstWords groups
+first-length w zero bs = refl
+first-length w (suc k) bs = ap suc (first-length w k (drop w bs))
+
+-- words that were written as bits are read back, whatever follows
+pub first-back : (w : ℕ) (vs rest : List ℕ) → ((i : ℕ) → getD vs i 0 < 2 ^ w) → firstWords w (length vs) (wordBits w vs ++ rest) ≡ vs
+unfolding wordBits flatMap firstWords groups
+first-back w [] rest h = refl
+first-back w (v ∷ vs) rest h =
+    rw (
+      append-assoc (lowBits w v) (wordBits w vs) rest,
+      take-at (lowBits w v) (wordBits w vs ++ rest) w (length-low w v),
+      drop-at (lowBits w v) (wordBits w vs ++ rest) w (length-low w v),
+      low-back w v (h 0),
+      first-back w vs rest (λ i. h (suc i)),
+    )
+
 -- one word in front
 pub word-back : (w v : ℕ) (rest : List ℕ) → 0 < w → v < 2 ^ w → words w (lowBits w v ++ rest) ≡ v ∷ words w rest
 word-back w v rest p h =

@@ -1,5 +1,5 @@
 -- Bits of codewords, and codewords of bits.
-use Rattle.general.proofs.Names.{_≡_, refl, ap, ap₂, List, [], _∷_, _++_, flatMap, ℕ, zero, suc, _+_, _-_, _<_, arith, length, drop}
+use Rattle.general.proofs.Names.{_≡_, refl, ap₂, List, [], _∷_, _++_, flatMap, ℕ, _+_, _-_, _<_, arith, length}
 use Rattle.bits.specs.Bits.{lowBits, bitsOf, wordBits, groups, firstWords}
 use Rattle.bits.proofs.Words.{value-low}
 
@@ -7,11 +7,6 @@ use Rattle.bits.proofs.Words.{value-low}
 abbrev pub Bytes : List ℕ → Type 0
 Bytes [] = Unit {0}
 Bytes (b ∷ bs) = (b < 256) × Bytes bs
-
-pub length-codewords : (n : ℕ) (bs : List ℕ) → length (firstWords 8 n bs) ≡ n
-unfolding firstWords groups
-length-codewords zero bs = refl
-length-codewords (suc n) bs = ap suc (length-codewords n (drop 8 bs))
 
 -- bytes that were written as bits are read back, whatever follows
 pub codewords-back : (cs rest : List ℕ) → Bytes cs → firstWords 8 (length cs) (bitsOf cs ++ rest) ≡ cs

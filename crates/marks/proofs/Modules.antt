@@ -6,13 +6,13 @@ use Rattle.information.specs.Information.{copyOf, nearestOf}
 use Rattle.block_table.specs.Blocks.{totalOf}
 use Rattle.codewords.specs.Codewords.{maskBit, dataBits}
 use Rattle.codewords.specs.Inner.{streamIn}
-use Rattle.codewords.proofs.Bits.{length-codewords}
 use Rattle.codewords.proofs.Interleave.{length-stream}
 use Rattle.codewords.proofs.Small.{Below}
 use Rattle.marks.specs.Read.{moduleBit, nearestIn, streamFrom}
 use Rattle.marks.proofs.Refusals.{both-true, leb-fact, true-both}
 use Rattle.bits.specs.Bits.{firstWords}
 use Rattle.marks.specs.Inner.{areModules}
+use Rattle.bits.proofs.Words.{first-length}
 
 pub modules-below : (sq : List ℕ) → areModules sq ≡ true → Below 2 sq
 modules-below [] e i = omega arith
@@ -51,8 +51,8 @@ pub stream-length : (v mask : ℕ) (sq : List ℕ) → length (streamFrom v mask
 unfolding streamFrom
 stream-length v mask sq =
     let bs = dataBits (maskBit (sideOf v) mask) 0 (layoutOf v) (map moduleBit sq) in
-    length-stream (firstWords 8 (totalOf v) bs) ∙ length-codewords (totalOf v) bs
+    length-stream (firstWords 8 (totalOf v) bs) ∙ first-length 8 (totalOf v) bs
 
 -- the codewords in front of a buffer
 pub codewords-taken : (total : ℕ) (bs rest found : List ℕ) → found ≡ firstWords 8 total bs ++ rest → take total found ≡ firstWords 8 total bs
-codewords-taken total bs rest found e = ap (take total) e ∙ take-at (firstWords 8 total bs) rest total (length-codewords total bs)
+codewords-taken total bs rest found e = ap (take total) e ∙ take-at (firstWords 8 total bs) rest total (first-length 8 total bs)

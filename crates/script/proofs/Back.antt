@@ -3,7 +3,7 @@ use Rattle.general.proofs.Names.{_≡_, refl, ap, _∙_, Bool, true, false, con
 use Rattle.general.proofs.Names.{_≤_, le-of-suc-le-suc, arith, ne-eqb, lt-ltb, le-ltb, ltb-true, ltb, length, getD, drop, replicate, length-append, take-at}
 use Rattle.general.proofs.Names.{drop-at}
 use Rattle.bits.specs.Bits.{lowBits, value, words, wordBits}
-use Rattle.bits.proofs.Words.{length-low, low-back, length-words, words-back}
+use Rattle.bits.proofs.Words.{length-low, low-back, length-words, words-back, first-back}
 use Rattle.segments.specs.Script.{Segment, run, eci}
 use Rattle.segments.specs.FromData.{isBroken}
 use Rattle.segments.specs.Segments.{Result, got, inBits, numericOf, textOf, bytesMode, regionOf, doubleByteOf, fourBytes, fourByteOf, eciValue}
@@ -12,7 +12,7 @@ use Rattle.script.specs.Writer.{numericWords, textWords, regionWords, do
 use Rattle.script.specs.Writer.{has, encodingOf, encodings}
 use Rattle.script.proofs.Tests.{both, same-is}
 use Rattle.script.proofs.Digits.{numeric-back, numeric-small}
-use Rattle.script.proofs.Characters.{text-back, text-small, region-back, region-small, double-back, double-small, bytes-back}
+use Rattle.script.proofs.Characters.{text-back, text-small, region-back, region-small, double-back, double-small}
 use Rattle.script.specs.Inner.{allHave}
 use Rattle.general.specs.Lists.{all}
 
@@ -33,20 +33,18 @@ bytes-mode-back : (bs rest : List ℕ) → length bs ≤ 8191 → all (λ b. ltb
 unfolding bytesMode
 bytes-mode-back bs rest l h =
     let y : List ℕ = wordBits 8 bs ++ rest in
-    let k : 13 ≤ length (lowBits 13 (length bs) ++ y) = omega (arith, length-append (lowBits 13 (length bs)) y, length-low 13 (length bs)) in
+    let k : 13 + 8 * length bs ≤ length (lowBits 13 (length bs) ++ y) =
+    omega (arith, length-append (lowBits 13 (length bs)) y, length-append (wordBits 8 bs) rest, length-low 13 (length bs), length-words 8 bs) in
     let n : length (lowBits 13 (length bs) ++ wordBits 8 bs) ≡ 13 + 8 * length bs =
     rw (length-append (lowBits 13 (length bs)) (wordBits 8 bs), length-low, length-words) in
     rw (
       append-assoc (lowBits 13 (length bs)) (wordBits 8 bs) rest,
       n,
-      le-ltb (length (lowBits 13 (length bs) ++ y)) 13 k,
-      take-at
-          (lowBits 13 (length bs)) y 13 (length-low 13 (length bs)),
+      take-at (lowBits 13 (length bs)) y 13 (length-low 13 (length bs)),
+      low-back 13 (length bs) (omega arith),
+      le-ltb (length (lowBits 13 (length bs) ++ y)) (13 + 8 * length bs) k,
       drop-at (lowBits 13 (length bs)) y 13 (length-low 13 (length bs)),
-      low-back 13
-          (length bs) (omega arith),
-      words-back 8 bs rest (omega arith) (byte-small bs h),
-      bytes-back bs (words 8 rest),
+      first-back 8 bs rest (byte-small bs h),
     )
 
 four-back : (bs rest : List ℕ) → inFour bs ≡ true → fourByteOf (lowBits 21 (fourCode bs) ++ rest) ≡ got bs (length (lowBits 21 (fourCode bs)))

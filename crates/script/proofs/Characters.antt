@@ -1,7 +1,7 @@
 -- Bytes and pairs that are written in text mode, the regions and the two-byte mode are read back.
 use Rattle.general.proofs.Names.{_≡_, refl, _∙_, Bool, true, false, not, cond, List, [], _∷_, _++_, ℕ, suc, _+_, _/_, _<_, _≤_, arith, ne-eqb, lt-ltb}
 use Rattle.general.proofs.Names.{length, getD}
-use Rattle.segments.specs.Segments.{got, before, charOf, textOf, highOf, lowOf, regionSize, regionOf, doubleByteOf, bytesRun}
+use Rattle.segments.specs.Segments.{got, before, charOf, textOf, highOf, lowOf, regionSize, regionOf, doubleByteOf}
 use Rattle.script.specs.Writer.{allPairs, codeOf, inSubset, inText, textWords, pairCode, inRegion, inRegions, regionWords, doubleCode}
 use Rattle.script.specs.Writer.{inDouble, doubleWords}
 use Rattle.script.specs.Lengths.{textSwitches, regionSwitches}
@@ -163,10 +163,3 @@ double-length (a ∷ b ∷ bs) h =
     let t = both (inDouble a b) (allPairs inDouble bs) h in
     let k = double-length bs (t .1) in
     omega arith
-
--- ---- bytes
-
-pub bytes-back : (bs ws : List ℕ) → bytesRun (length bs) (bs ++ ws) ≡ got bs (length bs)
-unfolding bytesRun
-bytes-back [] ws = refl
-bytes-back (b ∷ bs) ws = rw (bytes-back bs ws)

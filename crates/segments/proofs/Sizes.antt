@@ -1,16 +1,17 @@
 -- How long payload and script can be: a segment gives at most 3 payload bytes for 10 bits, and a script byte for 3 bits.
-use Rattle.general.proofs.Names.{_≡_, refl, ap, Bool, true, false, cond, not, List, [], _∷_, flatMap, ℕ, zero, suc, _+_, _-_, _*_, _/_, _^_, _<_, _≤_, getD, drop}
+use Rattle.general.proofs.Names.{_≡_, refl, Bool, true, false, cond, not, List, [], _∷_, flatMap, ℕ, zero, suc, _+_, _-_, _*_, _/_, _^_, _<_, _≤_, getD, drop}
 use Rattle.general.proofs.Names.{mul-suc, zero-add, arith, ltb-false, ltb, eqb, length, getD, take, drop, length-append, length-drop, getD-drop}
 use lib.Pow.{pow-pos}
 use Rattle.bits.specs.Bits.{value, firstWords, words, groups}
 use Rattle.bits.proofs.Reading.{value-bound}
 use Rattle.segments.specs.Script.{Segment, run, eci, bytesOf, commandOf, payloadOf, scriptOf}
 use Rattle.segments.specs.Segments.{cut, lacking, Result, failed, got, andThen, before, inBits, digits, groupsOf, numericOf, charOf, textOf}
-use Rattle.segments.specs.Segments.{bytesRun, bytesMode, highOf, lowOf, regionSize, regionOf, firstByte, secondByte, doubleByteOf, fourBytes}
+use Rattle.segments.specs.Segments.{bytesMode, highOf, lowOf, regionSize, regionOf, firstByte, secondByte, doubleByteOf, fourBytes}
 use Rattle.segments.specs.Segments.{fourByteOf, eciValue, eciOf, bytesOfMode, segmentOf, Ending, endMark, fewBits, broken, Parsed, ended}
 use Rattle.segments.specs.Segments.{following, parse}
 use Rattle.segments.proofs.Turns.{length-digits}
 use Rattle.segments.proofs.Steps.{command-length}
+use Rattle.bits.proofs.Words.{first-length}
 
 abbrev pub Small : List ℕ → Type 0
 Small bs = (i : ℕ) → getD bs i 0 < 2
@@ -19,11 +20,6 @@ pub drop-small : (n : ℕ) (bs : List ℕ) → Small bs → Small (drop n bs)
 drop-small n bs h = λ i. rw getD-drop (h (n + i))
 
 -- ---- words
-
-first-length : (w k : ℕ) (bs : List ℕ) → length (firstWords w k bs) ≡ k
-unfolding firstWords groups
-first-length w zero bs = refl
-first-length w (suc k) bs = ap suc (first-length w k (drop w bs))
 
 first-small : (w k : ℕ) (bs : List ℕ) → Small bs → (i : ℕ) → getD (firstWords w k bs) i 0 < 2 ^ w
 unfolding firstWords groups
@@ -110,38 +106,17 @@ in-bits w c bs (got cs u) f g k s =
     let a = f u in
     (omega arith, k u l, g u (s .2))
 
-abbrev RunSized : List ℕ → Result (List ℕ) → Type 0
-RunSized ws (failed bad) = Unit {0}
-RunSized ws (got cs u) = (length cs ≤ u) × (u ≤ length ws)
-
-bytes-sized : (n : ℕ) (ws : List ℕ) → RunSized ws (bytesRun n ws)
-unfolding bytesRun
-bytes-sized zero ws = (omega arith, omega arith)
-bytes-sized (suc n) [] = tt
-bytes-sized (suc n) (w ∷ ws) = more (bytesRun n ws) (bytes-sized n ws)
-  where
-    more : (r : Result (List ℕ)) → RunSized ws r → RunSized (w ∷ ws) (before (w ∷ []) r)
-    more (failed bad) h = tt
-    more (got cs u) h = (omega arith, omega arith)
-
 mode-3 : (bs : List ℕ) → BitSized bs (bytesMode bs)
-unfolding bytesMode words
-mode-3 bs = go (ltb (length bs) 13) refl
+unfolding bytesMode
+mode-3 bs = go (ltb (length bs) (13 + 8 * value 0 (take 13 bs))) refl
   where
-    inner : (r : Result (List ℕ)) → 13 ≤ length bs → RunSized (firstWords 8 (length (drop 13 bs) / 8) (drop 13 bs)) r
-        → BitSized bs (andThen r (λ cs u. got cs (13 + 8 * u)))
-    inner (failed bad) l s = tt
-    inner (got cs u) l s =
-        let k : u ≤ (length bs - 13) / 8 = rw (first-length, length-drop) at (s .1) in
-        (omega arith, omega arith, omega arith)
-
-    go : (b : Bool) → ltb (length bs) 13 ≡ b
-        → BitSized bs (cond b (failed cut) (andThen (bytesRun (value 0 (take 13 bs)) (firstWords 8 (length (drop 13 bs) / 8) (drop 13 bs)))
-        (λ cs u. got cs (13 + 8 * u))))
+    go : (b : Bool) → ltb (length bs) (13 + 8 * value 0 (take 13 bs)) ≡ b
+        → BitSized bs (cond b (failed cut) (got (firstWords 8 (value 0 (take 13 bs)) (drop 13 bs)) (13 + 8 * value 0 (take 13 bs))))
     go true e = tt
     go false e =
-        inner (bytesRun (value 0 (take 13 bs)) (firstWords 8 (length (drop 13 bs) / 8) (drop 13 bs))) (ltb-false (length bs) 13 e)
-        (bytes-sized (value 0 (take 13 bs)) (firstWords 8 (length (drop 13 bs) / 8) (drop 13 bs)))
+        let k = ltb-false (length bs) (13 + 8 * value 0 (take 13 bs)) e in
+        let l = first-length 8 (value 0 (take 13 bs)) (drop 13 bs) in
+        (omega arith, k, omega arith)
 
 mode-7 : (bs : List ℕ) → BitSized bs (fourByteOf bs)
 unfolding fourByteOf fourBytes

@@ -1,17 +1,17 @@
 -- What a word that was read does to the state of a mode: one law for each way that a turn of a mode's function goes.
-use Rattle.general.proofs.Names.{_≡_, refl, ap, _∙_, Bool, not, List, [], _∷_, _++_, ℕ, zero, suc, _+_, _-_, _*_, _/_, _%_, _^_, _<_, _≤_, add-zero}
+use Rattle.general.proofs.Names.{_≡_, refl, ap, _∙_, Bool, not, List, [], _∷_, _++_, ℕ, zero, suc, _+_, _-_, _*_, _/_, _%_, _^_, _<_, _≤_, add-zero, decLt, ltb, ltb-true, ltb-false, length-drop, take, true, false, cond, sym}
 use Rattle.general.proofs.Names.{mul-suc, one-mul, mul-one, arith, eq-eqb, ne-eqb, lt-ltb, le-ltb, length, drop, set, length-append, sets, drop-drop}
 use Rattle.bits.specs.declared.Word.{Word}
 use Rattle.bits.specs.declared.Word.the-variants.{Value, Cut as WordCut}
-use Rattle.bits.specs.Bits.{bitsOf, readBits, words}
+use Rattle.bits.specs.Bits.{bitsOf, readBits, words, firstWords, groups, value}
 use Rattle.bits.proofs.Reading.{length-left}
-use Rattle.bits.proofs.Words.{WordAt, word-read, word-cut, sets-append}
-use Rattle.segments.specs.Segments.{cut, lacking, Result, failed, got, andThen, before, inBits, digits, groupsOf, numericOf, charOf, textOf}
-use Rattle.segments.specs.Segments.{bytesRun, bytesMode, highOf, lowOf, regionSize, regionOf, firstByte, secondByte, doubleByteOf, fourBytes}
+use Rattle.bits.proofs.Words.{WordAt, word-read, word-cut, sets-append, words-none, words-more}
+use Rattle.segments.specs.Segments.{cut, lacking, Result, failed, got, before, inBits, digits, groupsOf, numericOf, charOf, textOf}
+use Rattle.segments.specs.Segments.{bytesMode, highOf, lowOf, regionSize, regionOf, firstByte, secondByte, doubleByteOf, fourBytes}
 use Rattle.segments.specs.Segments.{fourByteOf}
 use Rattle.segments.specs.declared.Count.{Count}
 use Rattle.segments.specs.declared.Count.the-variants.{Done, Cut, Lacking}
-use Rattle.segments.specs.Positions.{State, stopped, Inside, at, behind, bytesRunAt, bytesAt, fourByteAt}
+use Rattle.segments.specs.Positions.{State, stopped, Inside, at, behind, bytesRunAt, bytesAt, fourByteAt, bytesRun}
 
 -- one word and the bytes that it gives
 behind-before : (w i n : ℕ) (o cs : List ℕ) (p : Result (List ℕ)) → behind w i n o (before cs p) ≡ behind w (i + w) (n + length cs) (sets o n cs) p
@@ -188,21 +188,49 @@ digits-all o j k i v h = let z : k - i ≡ 0 = omega arith in rw z
 module _ (s : List ℕ) (i n : ℕ) (o : List ℕ) where
   pub bytes-cut : length (drop i (bitsOf s)) < 13 → bytesAt s i n o ≡ stopped cut
   unfolding bytesMode
-  bytes-cut h = rw (lt-ltb (length (drop i (bitsOf s))) 13 h)
+  bytes-cut h =
+      let k = value 0 (take 13 (drop i (bitsOf s))) in
+      rw (lt-ltb (length (drop i (bitsOf s))) (13 + 8 * k) (omega arith))
 
   pub four-cut : length (drop i (bitsOf s)) < 21 → fourByteAt s i n o ≡ stopped cut
   unfolding fourByteOf
   four-cut h = rw (lt-ltb (length (drop i (bitsOf s))) 21 h)
 
+-- the words one after the other are those of the definition
+run-words : (n : ℕ) (ds : List ℕ) → bytesRun n (words 8 ds) ≡ cond (ltb (length ds) (8 * n)) (failed cut) (got (firstWords 8 n ds) n)
+unfolding bytesRun firstWords groups
+run-words zero ds = rw (le-ltb (length ds) 0 (omega arith))
+run-words (suc n) ds = elim (decLt (length ds) 8) [
+  | yes h ↦ rw (words-none 8 ds h, lt-ltb (length ds) (8 * suc n) (omega arith))
+  | no h ↦ rw (words-more 8 ds (omega arith) (omega arith), run-words n (drop 8 ds)) (go (omega arith) (ltb (length (drop 8 ds)) (8 * n)) refl)
+]
+  where
+    go : 8 ≤ length ds → (b : Bool) → ltb (length (drop 8 ds)) (8 * n) ≡ b
+        → before (value 0 (take 8 ds) ∷ []) (cond b (failed cut) (got (firstWords 8 n (drop 8 ds)) n))
+        ≡ cond (ltb (length ds) (8 * suc n)) (failed cut) (got (value 0 (take 8 ds) ∷ firstWords 8 n (drop 8 ds)) (suc n))
+    go m true e =
+        let l = ltb-true (length (drop 8 ds)) (8 * n) e in
+        rw (lt-ltb (length ds) (8 * suc n) (omega (arith, length-drop 8 ds)))
+    go m false e =
+        let l = ltb-false (length (drop 8 ds)) (8 * n) e in
+        rw (le-ltb (length ds) (8 * suc n) (omega (arith, length-drop 8 ds)))
+
 pub bytes-length : (s : List ℕ) (i n : ℕ) (o : List ℕ) (k : ℕ) → WordAt 13 i k s → bytesAt s i n o ≡ bytesRunAt s (i + 13) n o k
 unfolding bytesMode
 bytes-length s i n o k r =
-    rw (le-ltb (length (drop i (bitsOf s))) 13 (omega (arith, length-left s i)), ← (r .is), drop-drop 13 i (bitsOf s))
-    (go (bytesRun k (words 8 (drop (i + 13) (bitsOf s)))))
+    let ds : List ℕ = drop (i + 13) (bitsOf s) in
+    let e : ltb (length ds) (8 * k) ≡ ltb (length (drop i (bitsOf s))) (13 + 8 * k) =
+    elim (decLt (length ds) (8 * k)) [
+      | yes h ↦ lt-ltb (length ds) (8 * k) h ∙ sym (lt-ltb (length (drop i (bitsOf s))) (13 + 8 * k) (omega (arith, length-left s i, length-left s (i + 13))))
+      | no h ↦ le-ltb (length ds) (8 * k) (omega arith)
+          ∙ sym (le-ltb (length (drop i (bitsOf s))) (13 + 8 * k) (omega (arith, length-left s i, length-left s (i + 13))))
+    ] in
+    rw (← (r .is), drop-drop 13 i (bitsOf s), ← e, run-words k ds) (go (ltb (length ds) (8 * k)))
   where
-    go : (p : Result (List ℕ)) → behind 1 i n o (andThen p (λ cs u. got cs (13 + 8 * u))) ≡ behind 8 (i + 13) n o p
-    go (failed bad) = refl
-    go (got bs u) = let e : i + 1 * (13 + 8 * u) ≡ i + 13 + 8 * u = omega arith in rw e
+    go : (b : Bool) → behind 1 i n o (cond b (failed cut) (got (firstWords 8 k (drop (i + 13) (bitsOf s))) (13 + 8 * k)))
+        ≡ behind 8 (i + 13) n o (cond b (failed cut) (got (firstWords 8 k (drop (i + 13) (bitsOf s))) k))
+    go true = refl
+    go false = let e : i + 1 * (13 + 8 * k) ≡ i + 13 + 8 * k = omega arith in rw e
 
 -- ---- four-byte
 

@@ -2,7 +2,7 @@
 use mathlib.Core.Path.{_≡_}
 use mathlib.Core.Bool.{Bool, cond, not}
 use mathlib.Core.List.{List, [], _∷_}
-use Prim.Native.Nat.{ℕ, _+_, _-_, _*_, _/_, _%_, _≤_, _<_}
+use Prim.Native.Nat.{ℕ, zero, suc, _+_, _-_, _*_, _/_, _%_, _≤_, _<_}
 use lib.Dec.{eqb}
 use lib.ListN.{length, drop}
 use lib.Seq.{sets}
@@ -14,7 +14,7 @@ use Rattle.segments.specs.declared.Region.the-variants.{End, Switch, Cut
 use Rattle.segments.specs.declared.Step.{Step}
 use Rattle.segments.specs.declared.Step.the-variants.{On, Cut as StepCut, Lacking as StepLacking}
 use Rattle.segments.specs.Script.{Segment, run, eci, bytesOf, commandOf, payloadOf, scriptOf}
-use Rattle.segments.specs.Segments.{Fault, cut, lacking, Result, failed, got, groupsOf, numericOf, textOf, bytesRun, bytesMode, regionOf}
+use Rattle.segments.specs.Segments.{Fault, cut, lacking, Result, failed, got, before, groupsOf, numericOf, textOf, bytesMode, regionOf}
 use Rattle.segments.specs.Segments.{doubleByteOf, fourByteOf, bytesOfMode, Ending, endMark, fewBits, broken, Parsed}
 
 -- the command of n payload bytes in a mode
@@ -40,6 +40,12 @@ numericAt s i n o = behind 10 i n o (numericOf (words 10 (drop i (bitsOf s))))
 
 abbrev pub textAt : List ℕ → ℕ → ℕ → List ℕ → Bool → State
 textAt s i n o subset = behind 6 i n o (textOf subset (words 6 (drop i (bitsOf s))))
+
+-- the first n words, one after the other
+unfoldable pub bytesRun : ℕ → List ℕ → Result (List ℕ)
+bytesRun zero ws = got [] 0
+bytesRun (suc n) [] = failed cut
+bytesRun (suc n) (w ∷ ws) = before (w ∷ []) (bytesRun n ws)
 
 abbrev pub bytesRunAt : List ℕ → ℕ → ℕ → List ℕ → ℕ → State
 bytesRunAt s i n o k = behind 8 i n o (bytesRun k (words 8 (drop i (bitsOf s))))

@@ -4,7 +4,7 @@ use mathlib.Core.List.{List, [], _∷_, _++_}
 use Prim.Native.Nat.{ℕ, zero, suc, _+_, _-_, _*_, _/_, _%_, _^_}
 use lib.Dec.{ltb, eqb}
 use lib.ListN.{length, take, drop, getD}
-use Rattle.bits.specs.Bits.{bitsOf, value, words}
+use Rattle.bits.specs.Bits.{bitsOf, value, firstWords, words}
 use Rattle.segments.specs.Script.{Segment, run, eci}
 
 -- Why words or bits say nothing: they are cut by the end of the data, or they have a value or mode that the rule lacks.
@@ -59,15 +59,12 @@ textOf subset [] = failed cut
 textOf subset (w ∷ ws) =
     cond (eqb w 63) (got [] 1) (cond (eqb w 62) (before [] (textOf (not subset) ws)) (before (charOf subset w ∷ []) (textOf subset ws)))
 
--- ---- bytes (8.7): a length of 13 bits, then so many words of 8 bits
-
-unfoldable pub bytesRun : ℕ → List ℕ → Result (List ℕ)
-bytesRun zero ws = got [] 0
-bytesRun (suc n) [] = failed cut
-bytesRun (suc n) (w ∷ ws) = before (w ∷ []) (bytesRun n ws)
+-- ---- bytes (8.7): a length n of 13 bits, then n words of 8 bits
 
 unfoldable pub bytesMode : List ℕ → Result (List ℕ)
-bytesMode bs = cond (ltb (length bs) 13) (failed cut) (andThen (bytesRun (value 0 (take 13 bs)) (words 8 (drop 13 bs))) (λ cs u. got cs (13 + 8 * u)))
+bytesMode bs =
+    let n = value 0 (take 13 bs) in
+    cond (ltb (length bs) (13 + 8 * n)) (failed cut) (got (firstWords 8 n (drop 13 bs)) (13 + 8 * n))
 
 -- ---- regions (8.8; `true` is region one): words of 12 bits, 4094 hands over to the other region, 4095 ends
 

@@ -1,8 +1,7 @@
 -- `bytes_run` meets its contract. Assumes nothing.
 use Rattle.general.proofs.Names.{sub-zero, needs, _≡_, _∙_, refl, [], _∷_, arith, _≤_, _*_, _-_, _+_, length}
 use Rattle.bits.proofs.Words.{WordAt}
-use Rattle.segments.specs.Segments.{bytesRun}
-use Rattle.segments.specs.Positions.{bytesRunAt}
+use Rattle.segments.specs.Positions.{bytesRunAt, bytesRun}
 use Rattle.segments.proofs.Turns.{Remains, remains-start, remains-cut, remains-word, remains-on, bytes-run-cut, bytes-run-done, bytes-run-more}
 use Rattle.segments.proofs.bytes_run.Tie as tie
 
