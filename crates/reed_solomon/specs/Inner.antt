@@ -98,7 +98,7 @@ unfoldable pub zerosOf : ℕ → (ℕ → ℕ) → ℕ
 zerosOf zero f = 0
 zerosOf (suc n) f = zerosOf n f + cond (eqb (f n) 0) 1 0
 
--- s are the syndromes of the errors err of n places, and h of length l locates them: it is zero at each, and has as many zeros as its length
+-- s are the syndromes of the errors err of n places, and h of length l locates them: it is zero at each, and has no fewer zeros than its length
 pub record Locates (poly first parity n : ℕ) (err : ℕ → ℕ) (s h : List ℕ) (l : ℕ) : Type 0 where
   pub of : (j : ℕ) → j < parity → seq s j ≡ syndrome poly first n err j
   pub err-lt : (i : ℕ) → err i < 256
