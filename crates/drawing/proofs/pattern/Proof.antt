@@ -4,5 +4,5 @@ use native.Mathlib.Omega.{arith}
 use Rattle.drawing.proofs.pattern.Tie as tie
 
 pub pattern-spec : {M : Type 1} → Rattle.drawing.proofs.pattern.Statement.statement M
-pattern-spec = tie.close (tie.spec (λ c. pattern-light (c .before .args .kind) (omega arith))
-    (λ c. pattern-dark (c .before .args .kind) (omega arith)))
+pattern-spec = tie.close (tie.spec (λ c. pattern-light _ (omega arith))
+    (λ c. pattern-dark _ (omega arith)))

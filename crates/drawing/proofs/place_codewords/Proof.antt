@@ -4,15 +4,6 @@ use Rattle.codewords.specs.Codewords.{maskBit, placed}
 use Rattle.general.proofs.Names.{take, length-take-le, sym, ap, _∙_, ℕ, _*_, arith, needs}
 use Rattle.drawing.proofs.place_codewords.Tie as tie
 
-slice-aggregate-place-all : tie.Need-slice-aggregate-place-all
-slice-aggregate-place-all c =
-    let start = c .before .before .before .before .before in
-    sym (length-take-le (start .args .side * start .args .side) (start .args .kinds .now) (omega arith))
-
-slice-aggregate-place-all-2 : tie.Need-slice-aggregate-place-all-2
-slice-aggregate-place-all-2 c =
-    let start = c .before .before .before .before .before .before in sym (length-take-le (start .args .total) (start .args .codewords .now) (start .pre .1 .0))
-
 place-all-requires : tie.Need-place-all-requires
 place-all-requires c κs =
     let start = c .before .before .before .before .before .before in
@@ -38,5 +29,5 @@ returns c =
 
 pub place-codewords-spec : {M : Type 1} → Rattle.drawing.proofs.place_codewords.Statement.statement M
 place-codewords-spec =
-    tie.close (tie.spec (λ c. search needs) slice-aggregate-place-all slice-aggregate-place-all-2 place-all-requires (λ c. search needs)
-    returns)
+    tie.close (tie.spec (λ c. search needs) (λ c. sym (length-take-le _ _ (omega arith)))
+    (λ c. sym (length-take-le _ _ (c .before .before .before .before .before .before .pre .1 .0))) place-all-requires (λ c. search needs) returns)

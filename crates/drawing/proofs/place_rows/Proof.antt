@@ -23,9 +23,9 @@ abbrev μ-loop : tie.MeasureT-loop
 loop-holds : tie.Need-loop-holds Inv-loop μ-loop
 loop-holds c =
     let start = c .before .before .before .before .before .before in
-    let m = maskBit (start .args .side) (start .args .mask) in
+    let m = maskBit _ _ in
     let ks = start .args .kinds .now in
-    let ds = bitsOf (start .args .codewords .now) in
+    let ds = bitsOf _ in
     let z : 0 ≡ 0 * start .args .side = sym (zero-mul (start .args .side)) in
     let begun = placing-begun m ks (start .args .square .now) ds (start .pre .1) (start .pre .0) in
     (row-new, omega arith, subst (Placing m ks (placed m 0 ks ds) (drop (dataModules ks) ds) (start .args .square .now) ds) z begun)
@@ -65,9 +65,6 @@ loop-again c =
     (λ k l. mask-row .ensures .1 k (omega arith) ∙ row-mask (start .args .mask) (loop .i) side k l) (put-row .0) (put-row .1) refl in
     (mask-row .ensures .0, omega arith, row)
 
-same-length : tie.Need-same-length Inv-loop μ-loop
-same-length c = c .before .loop .inv .2 .size ∙ sym (c .before .before .before .before .before .before .before .before .pre .1)
-
 returns : tie.Need-returns Inv-loop μ-loop
 returns c =
     let start = c .before .before .before .before .before .before .before .before in
@@ -79,7 +76,9 @@ pub place-rows-spec : {M : Type 1} → Rattle.drawing.proofs.place_rows
 place-rows-spec =
     tie.close (tie.spec Inv-loop μ-loop (λ c. omega arith) (λ c. omega arith) (λ c. refl) (λ c κs. (omega arith, refl)) loop-holds
     (λ c. sym (c .before .before .loop .inv .0 .size)) (λ c. sym (c .before .before .before .before .before .columns .ensures .size))
-    mask-row-requires (λ c. omega (arith, inside (c .before .before .before .before))) (λ c. omega (arith, inside (c .before .before .before .before)))
-    (λ c. omega arith) (λ c. omega arith) (λ c. omega (arith, inside (c .before .before .before .before) .0)) (λ c. omega arith) (λ c. omega arith)
-    (λ c. omega (arith, inside (c .before .before .before .before .before) .0)) (λ c. sym (c .before .before .before .before .mask-row .ensures .0 .size))
-    put-row-requires (λ c. omega arith) (λ c. omega arith) loop-again same-length returns)
+    mask-row-requires (λ c. omega (arith, inside (c .before .before .before .before)))
+    (λ c. omega (arith, inside (c .before .before .before .before))) (λ c. omega arith) (λ c. omega arith)
+    (λ c. omega (arith, inside (c .before .before .before .before) .0)) (λ c. omega arith) (λ c. omega arith)
+    (λ c. omega (arith, inside (c .before .before .before .before .before) .0))
+    (λ c. sym (c .before .before .before .before .mask-row .ensures .0 .size)) put-row-requires (λ c. omega arith) (λ c. omega arith) loop-again
+    (λ c. c .before .loop .inv .2 .size ∙ sym (c .before .before .before .before .before .before .before .before .pre .1)) returns)

@@ -10,7 +10,7 @@ spread-requires c κs = let start = c .before .before .before .before in omega (
 returns : tie.Need-returns
 returns c =
     let start = c .before .before .before .before .before .before .before .before .before .before .before in
-    let bytes = masked-bytes (start .args .codewords .now) (start .args .row .now) (start .args .p .bit) (start .args .p .column) (omega arith) (start .pre .3)
+    let bytes = masked-bytes _ (start .args .row .now) (start .args .p .bit) (start .args .p .column) (omega arith) (start .pre .3)
     (c .before .before .before .before .before .before .before .window .ensures) (c .before .before .before .before .before .before .spread .ensures)
     (c .before .before .before .before .before .eight .ensures) in
     record {

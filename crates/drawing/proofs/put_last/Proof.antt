@@ -19,9 +19,8 @@ loop-again c =
     let loop = c .before .before .before .before .before .before .loop in
     (blank-kept (put-one .kept .0) (loop .inv .0), put-one .ensures .1, puts-on (loop .inv .2) (put-one .ensures .2))
 
-same-length : tie.Need-same-length Inv-loop μ-loop
-same-length c = c .before .before .loop .inv .0 .size ∙ sym (c .before .before .before .before .before .before .before .pre .0 .size)
-
 pub put-last-spec : {M : Type 1} → Rattle.drawing.proofs.put_last.Statement.statement M
-put-last-spec = tie.close (tie.spec Inv-loop μ-loop loop-holds (λ c κs. (c .before .before .before .loop .inv .0, c .before .if1 .taken))
-    (λ c. omega arith) loop-again same-length (λ c. puts-all (c .before .before .loop .inv .2) (omega arith)))
+put-last-spec =
+    tie.close (tie.spec Inv-loop μ-loop loop-holds (λ c κs. (c .before .before .before .loop .inv .0, c .before .if1 .taken)) (λ c. omega arith)
+    loop-again (λ c. c .before .before .loop .inv .0 .size ∙ sym (c .before .before .before .before .before .before .before .pre .0 .size))
+    (λ c. puts-all (c .before .before .loop .inv .2) (omega arith)))

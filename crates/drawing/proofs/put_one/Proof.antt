@@ -9,12 +9,8 @@ returns c =
     let start = c .before .before .before .before .before .before .before .before .before .before .before in
     (omega arith, omega arith, puts-one (start .pre .1) (c .before .before .before .before .before .if1 .taken) refl (c .before .before .put-bit .ensures))
 
-returns-2 : tie.Need-returns-2
-returns-2 c =
-    let start = c .before .before .before .before .before .before in
-    (omega arith, omega arith, puts-skip (passed-one (start .args .kinds .now) (start .args .p .column) (start .pre .1) (c .if1 .left)) refl)
-
 pub put-one-spec : {M : Type 1} → Rattle.drawing.proofs.put_one.Statement.statement M
 put-one-spec =
     tie.close (tie.spec (λ c. search needs) (λ c. search needs) (λ c. search needs) (λ c κs. search needs) (λ c. search needs) returns
-    (λ c. search needs) returns-2)
+    (λ c. search needs)
+    (λ c. (omega arith, omega arith, puts-skip (passed-one _ _ (c .before .before .before .before .before .before .pre .1) (c .if1 .left)) refl)))

@@ -1,8 +1,7 @@
 -- `put_row` meets its contract. Assumes nothing.
 use Rattle.drawing.proofs.Puts.{blank-kept, puts-none, puts-on, puts-end, placing-begun}
-use Rattle.drawing.specs.Puts.{getD₀, Blank, Puts}
-use Rattle.bits.specs.Bits.{bitsOf}
-use Rattle.general.proofs.Names.{length, drop, sym, _∙_, _-_, _≤_, arith, needs}
+use Rattle.drawing.specs.Puts.{Blank, Puts}
+use Rattle.general.proofs.Names.{length, sym, _∙_, _-_, _≤_, arith, needs}
 use Rattle.drawing.proofs.put_row.Tie as tie
 
 abbrev Inv-loop : tie.InvT-loop
@@ -14,11 +13,6 @@ abbrev μ-loop : tie.MeasureT-loop
 
 loop-holds : tie.Need-loop-holds Inv-loop μ-loop
 loop-holds c = let start = c .before .before .before .before .before in (start .pre .0, omega arith, puts-none)
-
-put-step-requires : tie.Need-put-step-requires Inv-loop μ-loop
-put-step-requires c κs =
-    let loop = c .before .before .before .loop in
-    (loop .inv .0, c .before .before .before .before .groups-end .ensures .0 (loop .p .column) (c .before .if1 .taken))
 
 loop-again : tie.Need-loop-again Inv-loop μ-loop
 loop-again c =
@@ -38,10 +32,11 @@ returns : tie.Need-returns Inv-loop μ-loop
 returns c =
     let start = c .before .before .before .before .before .before .before .before .before .before .before .before in
     puts-end (c .before .before .before .before .before .before .loop .inv .2) (c .before .before .put-last .ensures) .go _ _
-    (placing-begun (getD₀ (start .args .row .now)) (start .args .kinds .now) (start .args .square .now)
-    (drop (start .args .bit) (bitsOf (start .args .codewords .now))) (start .pre .0 .size) (start .pre .1))
+    (placing-begun _ _ _
+    _ (start .pre .0 .size) (start .pre .1))
 
 pub put-row-spec : {M : Type 1} → Rattle.drawing.proofs.put_row.Statement.statement M
 put-row-spec =
-    tie.close (tie.spec Inv-loop μ-loop (λ c κs. search needs) loop-holds put-step-requires (λ c. omega arith) loop-again
-    put-last-requires same-length returns)
+    tie.close (tie.spec Inv-loop μ-loop (λ c κs. search needs) loop-holds
+    (λ c κs. (c .before .before .before .loop .inv .0, c .before .before .before .before .groups-end .ensures .0 _ (c .before .if1 .taken)))
+    (λ c. omega arith) loop-again put-last-requires same-length returns)

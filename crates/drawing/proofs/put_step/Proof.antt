@@ -26,7 +26,7 @@ returns-4 : tie.Need-returns-4
 returns-4 c =
     let start = c .before .before .before .before .before .before .before .before .before in
     let bytes = c .before .before .before .before .before .before .before .shared-slice-known .given in
-    let s = passed (start .args .kinds .now) (start .args .p .column) (λ i. omega (arith, bytes i)) (c .before .before .before .before .eight .ensures)
+    let s = passed (start .args .kinds .now) _ (λ i. omega (arith, bytes i)) (c .before .before .before .before .eight .ensures)
     (omega arith) (c .before .before .if3 .left) (c .before .no-data .ensures) in
     (omega arith, s .most, puts-skip s refl)
 

@@ -20,7 +20,7 @@ push-requires c κs =
     let start = c .before .before .before .before .before .before in
     let w = c .before .before .before .least .result in
     let e : 8 ≡ c .before .before .before .least .result + (8 - c .before .before .before .least .result) = omega arith in
-    (start .pre .0, omega arith, shr-lt w (8 - w) (subst (λ (n : ℕ). c .gather .result < 2 ^ n) e (c .gather .ensures .small)), omega arith)
+    (start .pre .0, omega arith, shr-lt w _ (subst (λ (n : ℕ). c .gather .result < 2 ^ n) e (c .gather .ensures .small)), omega arith)
 
 returns-2 : tie.Need-returns-2
 returns-2 c =
@@ -28,7 +28,7 @@ returns-2 c =
     let least = c .before .before .before .before .before .before .least in
     let push = c .before .before .push in (
       push .ensures .0,
-      moves-push (start .pre .1) (start .pre .2) (least .result) (c .before .before .before .before .before .before .before .lead .ensures)
+      moves-push (start .pre .1) (start .pre .2) _ (c .before .before .before .before .before .before .before .lead .ensures)
           (least .ensures .0) (omega arith) (omega arith) (c .before .before .before .gather .ensures) (push .ensures .1) (push .ensures .2),
     )
 

@@ -6,7 +6,7 @@ use Rattle.placement.proofs.eight.Tie as tie
 returns : tie.Need-returns
 returns c =
     let start = c .before .before .before .before .before .before .before .before .before .before .before in eight-is (start .args .s .now)
-    (start .args .at) _ _ (c .before .before .before .before .before .four .ensures .0) (c .four2 .ensures .0)
+    _ _ _ (c .before .before .before .before .before .four .ensures .0) (c .four2 .ensures .0)
 
 pub eight-spec : {M : Type 1} → Rattle.placement.proofs.eight.Statement.statement M
 eight-spec =

@@ -9,23 +9,23 @@ add-v c =
     let start = c .before .before in
     omega (
       arith,
-      sum-small (start .pre .0) (start .args .w) (start .args .x) (start .pre .1) (start .pre .2),
-      shifted (start .pre .0) (start .args .w)
-          (start .args .x) (start .pre .1) (start .pre .2),
+      sum-small (start .pre .0) _ _ (start .pre .1) (start .pre .2),
+      shifted (start .pre .0) _
+          _ (start .pre .1) (start .pre .2),
     )
 
 returns : tie.Need-returns
 returns c =
     let start = c .before .before .before .before .before in
-    let v = ap (λ (y : ℕ). y + start .args .x) (shifted (start .pre .0) (start .args .w) (start .args .x) (start .pre .1) (start .pre .2)) in
-    let few = few-pushed (start .pre .0) (start .args .w) (start .args .x) (start .pre .1) (start .pre .2) v refl refl (c .if1 .taken) in (few .0, refl, few .1)
+    let v = ap (λ (y : ℕ). y + start .args .x) (shifted (start .pre .0) _ _ (start .pre .1) (start .pre .2)) in
+    let few = few-pushed (start .pre .0) _ _ (start .pre .1) (start .pre .2) v refl refl (c .if1 .taken) in (few .0, refl, few .1)
 
 returns-2 : tie.Need-returns-2
 returns-2 c =
     let start = c .before .before .before .before .before .before .before .before .before in
     let left = start .args .r .bits + start .args .w - 8 in
     let l : start .args .r .bits + start .args .w ≡ 8 + (start .args .r .bits + start .args .w - 8) = omega arith in
-    let e = shifted (start .pre .0) (start .args .w) (start .args .x) (start .pre .1) (start .pre .2) in
+    let e = shifted (start .pre .0) _ _ (start .pre .1) (start .pre .2) in
     let v = ap (λ (y : ℕ). (y + start .args .x) % 256) e in
     let t = subst (λ (y : ℕ). Stored (start .args .r .n) ((y + start .args .x) / 2 ^ left % 256) (start .args .out .now) (c .before .before .store .last .0)
     (c .before .before .store .result)) e (c .before .before .store .ensures) in

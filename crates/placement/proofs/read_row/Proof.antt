@@ -16,7 +16,7 @@ loop-holds c = let start = c .before .before .before .before .before in (start .
 step-requires : tie.Need-step-requires Inv-loop μ-loop
 step-requires c κs =
     let start = c .before .before .before .before .before .before .before .before .before in let loop = c .before .before .before .loop in
-    (start .pre .0, loop .inv .0, c .before .before .before .before .groups-end .ensures .0 (loop .r .column) (c .before .if1 .taken))
+    (start .pre .0, loop .inv .0, c .before .before .before .before .groups-end .ensures .0 _ (c .before .if1 .taken))
 
 loop-again : tie.Need-loop-again Inv-loop μ-loop
 loop-again c =
@@ -29,9 +29,6 @@ read-last-requires c κs =
     let start = c .before .before .before .before .before .before .before .before .before in let loop = c .before .before .before .loop in
     (start .pre .0, loop .inv .0, loop .inv .1, start .pre .3, omega arith)
 
-same-length : tie.Need-same-length Inv-loop μ-loop
-same-length c = c .before .before .read-last .kept .0 ∙ c .before .before .before .before .before .before .loop .inv .3
-
 returns : tie.Need-returns Inv-loop μ-loop
 returns c =
     let last = c .before .before .read-last in
@@ -40,4 +37,4 @@ returns c =
 pub read-row-spec : {M : Type 1} → Rattle.placement.proofs.read_row.Statement.statement M
 read-row-spec =
     tie.close (tie.spec Inv-loop μ-loop (λ c κs. search needs) loop-holds step-requires (λ c. omega arith) loop-again read-last-requires
-    same-length returns)
+    (λ c. c .before .before .read-last .kept .0 ∙ c .before .before .before .before .before .before .loop .inv .3) returns)

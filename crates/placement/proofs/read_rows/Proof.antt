@@ -18,11 +18,11 @@ abbrev μ-loop : tie.MeasureT-loop
 loop-holds : tie.Need-loop-holds Inv-loop μ-loop
 loop-holds c =
     let start = c .before .before .before .before .before .before in
-    let m = maskBit (start .args .side) (start .args .mask) in
+    let m = maskBit _ _ in
     let ks = start .args .kinds .now in
     let sq = start .args .square .now in
     let out = start .args .out .now in
-    let z : 0 ≡ 0 * start .args .side = sym (zero-mul (start .args .side)) in
+    let z : 0 ≡ 0 * start .args .side = sym (zero-mul _) in
     let begun = rows-begun (dataBits m 0 ks sq) out refl refl refl (start .pre .4) in
     let walk = subst (λ (k : ℕ). Walk (length out) (dataBits m 0 ks sq) out (bitsFrom m ks sq k) (record { column = 0; n = 0; value = 0; bits = 0 })) z begun in
     (row-new, rows-pending refl refl, omega arith, walk)
@@ -67,7 +67,7 @@ returns c =
     let start = c .before .before .before .before .before .before .before .before in
     let loop = c .before .loop in
     let e : loop .i ≡ start .args .side = omega arith in
-    rows-done (maskBit (start .args .side) (start .args .mask)) (start .args .kinds .now) (start .args .square .now) (loop .i * start .args .side)
+    rows-done _ _ _ _
     (omega (arith, ap (λ (n : ℕ). n * start .args .side) e)) (loop .inv .1) (loop .inv .3)
 
 pub read-rows-spec : {M : Type 1} → Rattle.placement.proofs.read_rows.Statement.statement M

@@ -1,22 +1,16 @@
 -- `step` meets its contract. Assumes nothing.
 use Rattle.placement.proofs.Walk.{unmasked-is, bits-small, goes-push}
 use Rattle.placement.proofs.Eights.{eight-zero}
-use Rattle.placement.specs.Walk.{behind, unmaskedAt}
 use Rattle.general.proofs.Names.{refl, sym, _∙_, arith, needs}
 use Rattle.placement.proofs.step.Tie as tie
-
-push-requires : tie.Need-push-requires
-push-requires c κs =
-    let start = c .before .before .before .before .before .before .before .before .before in
-    (start .pre .1, omega arith, c .gather .ensures .small, omega arith)
 
 returns : tie.Need-returns
 returns c =
     let start = c .before .before .before .before .before .before .before .before .before .before .before .before in
     let push = c .before .before .push in
-    let kinds = eight-zero (behind (start .args .kinds .now) (start .args .r .column))
+    let kinds = eight-zero _
     (sym (c .before .before .before .before .before .before .before .eight .ensures) ∙ c .before .before .before .before .before .if1 .taken) in
-    let bits = unmasked-is (start .pre .0 .masked) (start .args .r .column) (c .before .before .before .before .before .before .modules .ensures)
+    let bits = unmasked-is (start .pre .0 .masked) _ (c .before .before .before .before .before .before .modules .ensures)
     (c .before .before .before .gather .ensures) in (
       push .ensures .0,
       omega arith,
@@ -36,7 +30,7 @@ returns-2 c =
     let row = start .args .row .now in
     let at = start .args .r .column in
     let bytes = c .before .before .before .before .before .before .before .before .before .shared-slice-known .given in
-    let m = advance .ensures .1 .go (start .args .kinds .now) sq row (unmaskedAt sq row at) (record {
+    let m = advance .ensures .1 .go _ sq row _ (record {
       aligned = start .pre .0;
       bytes = λ i. omega (arith, bytes i);
       kinds = c .before .before .before .before .before .before .eight .ensures;
@@ -49,5 +43,6 @@ returns-2 c =
 
 pub step-spec : {M : Type 1} → Rattle.placement.proofs.step.Statement.statement M
 step-spec =
-    tie.close (tie.spec (λ c κs. search needs) (λ c κs. search needs) (λ c κs. search needs) push-requires (λ c. search needs) returns
-    advance-requires (λ c. search needs) returns-2)
+    tie.close (tie.spec (λ c κs. search needs) (λ c κs. search needs) (λ c κs. search needs)
+    (λ c κs. (c .before .before .before .before .before .before .before .before .before .pre .1, omega arith, c .gather .ensures .small, omega arith))
+    (λ c. search needs) returns advance-requires (λ c. search needs) returns-2)

@@ -17,7 +17,7 @@ loop-again : tie.Need-loop-again Inv-loop μ-loop
 loop-again c =
     let g = c .before .before in
     let s = g .before .before .before .step .ensures in
-    counted-same (g .before .before .loop .inv) (g .character-at .result) (g .character-at .ensures) (s .0) (s .1) (c .enum-told .given .1)
+    counted-same (g .before .before .loop .inv) _ (g .character-at .ensures) (s .0) (s .1) (c .enum-told .given .1)
 
 loop-less : tie.Need-loop-less Inv-loop μ-loop
 loop-less c = let t = loop-again c .room in omega arith
@@ -26,7 +26,7 @@ loop-again-2 : tie.Need-loop-again-2 Inv-loop μ-loop
 loop-again-2 c =
     let g = c .before .before in
     let s = g .before .before .before .step .ensures in
-    counted-other (g .before .before .loop .inv) (g .character-at .result) (g .character-at .ensures) (s .0) (s .1) (c .enum-told2 .given .1)
+    counted-other (g .before .before .loop .inv) _ (g .character-at .ensures) (s .0) (s .1) (c .enum-told2 .given .1)
 
 loop-less-2 : tie.Need-loop-less-2 Inv-loop μ-loop
 loop-less-2 c = let t = loop-again-2 c .room in omega arith
@@ -38,15 +38,12 @@ returns c =
 
 -- no run has many bits
 few : (c : tie.After-width Inv-loop μ-loop) → c .width .result * (c .before .before .loop .words + 1) ≤ 15000000
-few c = small (c .width .result) (c .before .before .loop .words + 1) (omega arith) (omega arith)
-
-returns-2 : tie.Need-returns-2 Inv-loop μ-loop
-unfolding beginsIn
-returns-2 c = (rw (c .width .ensures .0) (counted-end (c .before .before .loop .inv) (omega arith) refl), omega (arith, few c))
+few c = small _ (c .before .before .loop .words + 1) (omega arith) (omega arith)
 
 pub char-bits-spec : {M : Type 1} → Rattle.script.proofs.char_bits.Statement.statement M
+unfolding beginsIn
 char-bits-spec =
-    tie.close (tie.spec Inv-loop μ-loop (λ c κs. search needs) loop-holds
-    (λ c κs. omega arith) (λ c. c .match .keys1) (λ c. omega arith) (λ c. omega arith) loop-less loop-again (λ c. c .match .keys2)
-    (λ c. omega arith) (λ c. omega arith) loop-less-2 loop-again-2 (λ c. c .match .keys3) returns (λ c κs. search needs)
-    (λ c. omega arith) (λ c. omega (arith, few c)) (λ c. omega (arith, few c)) returns-2)
+    tie.close (tie.spec Inv-loop μ-loop (λ c κs. search needs) loop-holds (λ c κs. omega arith) (λ c. c .match .keys1) (λ c. omega arith)
+    (λ c. omega arith) loop-less loop-again (λ c. c .match .keys2) (λ c. omega arith) (λ c. omega arith) loop-less-2 loop-again-2
+    (λ c. c .match .keys3) returns (λ c κs. search needs) (λ c. omega arith) (λ c. omega (arith, few c)) (λ c. omega (arith, few c))
+    (λ c. (rw (c .width .ensures .0) (counted-end (c .before .before .loop .inv) (omega arith) refl), omega (arith, few c))))

@@ -9,28 +9,28 @@ returns : tie.Need-returns
 returns c =
     let start = c .before .before .before .before .before in
     let a = start .args in
-    text-character (a .run .now) (a .mode) (a .first) (a .j) (omega arith) (c .text-character .result) (c .before .before .before .if1 .taken)
-    (c .text-character .ensures ∙ ap (textCharacter (a .first)) (c .before .wide .ensures .0))
+    text-character _ _ _ (a .j) (omega arith) _ (c .before .before .before .if1 .taken)
+    (c .text-character .ensures ∙ ap (textCharacter _) (c .before .wide .ensures .0))
 
 returns-2 : tie.Need-returns-2
 returns-2 c =
     let a = c .before .before .before .args in
-    alone-character (a .run .now) (a .mode) (a .first) (a .j) (omega arith) Lacking (c .before .if1 .left) (c .if2 .taken)
+    alone-character _ _ (a .first) (a .j) (omega arith) Lacking (c .before .if1 .left) (c .if2 .taken)
 
 returns-3 : tie.Need-returns-3
 returns-3 c =
     let d = c .before .before .before in
     let a = d .before .before .before .before .before .before .args in
-    double-character (a .run .now) (a .mode) (a .first) (a .j) (omega arith) (c .double-character .result) (omega arith) (d .before .before .if3 .taken)
+    double-character _ _ (a .first) (a .j) (omega arith) _ (omega arith) (d .before .before .if3 .taken)
     (c .double-character .ensures ∙ ap₂ doubleCharacter (d .wide2 .ensures .0) (c .before .wide3 .ensures .0))
 
 returns-4 : tie.Need-returns-4
 returns-4 c =
     let d = c .before .before .before in
     let a = d .before .before .before .before .before .before .args in
-    region-character (a .run .now) (a .mode) (a .first) (a .j) (omega arith) (c .region-character .result) (omega arith)
+    region-character _ _ _ (a .j) (omega arith) _ (omega arith)
     (d .before .before .before .before .if1 .left) (d .before .before .if3 .left)
-    (c .region-character .ensures ∙ ap₂ (regionCharacter (a .first)) (d .wide4 .ensures .0) (c .before .wide5 .ensures .0))
+    (c .region-character .ensures ∙ ap₂ (regionCharacter _) (d .wide4 .ensures .0) (c .before .wide5 .ensures .0))
 
 pub character-at-spec : {M : Type 1} → Rattle.script.proofs.character_at.Statement.statement M
 character-at-spec =

@@ -113,12 +113,6 @@ returns-2 c =
     let g = c .before .before in
     settles-wrong (g .before .before .loop .inv .3) (omega arith) (g .command-at .ensures) (c .enum-told2 .given .1)
 
-returns-4 : tie.Need-returns-4 Inv-loop μ-loop
-returns-4 c = end-lacks (c .before .before .before .loop .inv .3) (omega arith) (omega arith) (c .if3 .taken)
-
-returns-5 : tie.Need-returns-5 Inv-loop μ-loop
-returns-5 c = end-empty (c .before .before .before .before .loop .inv .3) (omega arith) (omega arith) (c .before .if3 .left) (c .if4 .taken)
-
 returns-6 : tie.Need-returns-6 Inv-loop μ-loop
 returns-6 c =
     let l = c .before .before .before .before .loop in
@@ -130,4 +124,6 @@ check-script-spec =
     (λ c. omega arith) (λ c. omega arith) (λ c. omega arith) run-bits-requires (λ c. c .match2 .keys1) capped-sum-requires (λ c κs. search needs)
     (λ c. omega arith) (λ c. omega arith) loop-again (λ c. c .match2 .keys2) (λ c κs. search needs) (λ c. omega arith) (λ c. omega arith) loop-again-2
     (λ c. c .match .keys2) (λ c κs. search needs) (λ c κs. omega arith) (λ c. omega arith) (λ c. omega arith) loop-again-3 (λ c. c .match .keys3)
-    returns-2 (λ c. end-left (c .before .before .loop .inv .3) (omega arith) (c .if2 .taken)) returns-4 returns-5 returns-6)
+    returns-2 (λ c. end-left (c .before .before .loop .inv .3) (omega arith) (c .if2 .taken))
+    (λ c. end-lacks (c .before .before .before .loop .inv .3) (omega arith) (omega arith) (c .if3 .taken))
+    (λ c. end-empty (c .before .before .before .before .loop .inv .3) (omega arith) (omega arith) (c .before .if3 .left) (c .if4 .taken)) returns-6)

@@ -7,36 +7,36 @@ returns : tie.Need-returns
 returns c =
     let d = c .before in
     let a = d .before .before .before .args in
-    (numeric-takes (a .run .now) (a .mode) (d .before .if1 .taken) (sym (d .all-digits .ensures) ∙ c .if2 .taken), omega arith)
+    (numeric-takes _ (a .mode) (d .before .if1 .taken) (sym (d .all-digits .ensures) ∙ c .if2 .taken), omega arith)
 
 returns-2 : tie.Need-returns-2
 returns-2 c =
     let d = c .before in
     let a = d .before .before .before .args in
-    (numeric-lacks (a .run .now) (a .mode) (d .before .if1 .taken) (sym (d .all-digits .ensures) ∙ c .if2 .left), tt)
+    (numeric-lacks _ (a .mode) (d .before .if1 .taken) (sym (d .all-digits .ensures) ∙ c .if2 .left), tt)
 
 returns-3 : tie.Need-returns-3
 returns-3 c =
     let a = c .before .before .before .args in
-    (bytes-takes (a .run .now) (a .mode) (c .if3 .taken) (λ i. omega (arith, c .before .before .shared-slice-known .given i)), omega arith)
+    (bytes-takes _ (a .mode) (c .if3 .taken) (λ i. omega (arith, c .before .before .shared-slice-known .given i)), omega arith)
 
 returns-4 : tie.Need-returns-4
 returns-4 c =
     let d = c .before in
     let a = d .before .before .before .before .before .args in
-    (four-takes (a .run .now) (a .mode) (d .before .if4 .taken) (sym (d .in-four .ensures) ∙ c .if5 .taken), omega arith)
+    (four-takes _ (a .mode) (d .before .if4 .taken) (sym (d .in-four .ensures) ∙ c .if5 .taken), omega arith)
 
 returns-5 : tie.Need-returns-5
 returns-5 c =
     let d = c .before in
     let a = d .before .before .before .before .before .args in
-    (four-lacks (a .run .now) (a .mode) (d .before .if4 .taken) (sym (d .in-four .ensures) ∙ c .if5 .left), tt)
+    (four-lacks _ (a .mode) (d .before .if4 .taken) (sym (d .in-four .ensures) ∙ c .if5 .left), tt)
 
 returns-6 : tie.Need-returns-6
 returns-6 c =
     let start = c .before .before .before .before .before in
     let a = start .args in (
-      c .char-bits .ensures .0 ∙ char-cost (a .run .now) (a .mode) (omega arith) (omega arith) (c .before .before .before .if1 .left)
+      c .char-bits .ensures .0 ∙ char-cost _ (a .mode) (omega arith) (omega arith) (c .before .before .before .if1 .left)
           (c .before .before .if3 .left) (c .before .if4 .left),
       c .char-bits .ensures .1,
     )

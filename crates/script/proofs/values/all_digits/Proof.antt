@@ -17,16 +17,11 @@ loop-again c =
     let l = d .before .before .before .loop in
     let a = d .before .before .before .before .before .args in (
       omega arith,
-      l .inv .1 ∙ digits-next (a .run .now) (l .j) (l .top) (d .digit-value .result) (c .greater .result) (omega arith)
+      l .inv .1 ∙ digits-next _ (l .j) (l .top) (d .digit-value .result) (c .greater .result) (omega arith)
           (d .digit-value .ensures) (c .greater .ensures),
     )
 
-returns : tie.Need-returns Inv-loop μ-loop
-returns c =
-    let l = c .before .loop in
-    digits-end (c .before .before .before .args .run .now) (l .j) (l .top) (omega arith) ∙ sym (l .inv .1)
-
 pub all-digits-spec : {M : Type 1} → Rattle.script.proofs.values.all_digits.Statement.statement M
 all-digits-spec =
-    tie.close (tie.spec Inv-loop μ-loop (λ c. (omega arith, refl)) (λ c. omega arith) (λ c κs. search needs) (λ c κs. search needs)
-    (λ c. omega arith) (λ c. omega arith) loop-again returns)
+    tie.close (tie.spec Inv-loop μ-loop (λ c. (omega arith, refl)) (λ c. omega arith) (λ c κs. search needs) (λ c κs. search needs) (λ c. omega arith)
+    (λ c. omega arith) loop-again (λ c. digits-end _ (c .before .loop .j) (c .before .loop .top) (omega arith) ∙ sym (c .before .loop .inv .1)))

@@ -10,26 +10,6 @@ returns c =
     let z : a .b - 48 ≡ 0 = omega arith in
     rw (c .before .if1 .taken, lt-ltb (a .b) 58 (omega arith), z)
 
-returns-2 : tie.Need-returns-2
-unfolding codeOf
-returns-2 c = simp (lt-ltb _ _ (c .if3 .taken), c .before .before .if1 .taken)
-
-returns-3 : tie.Need-returns-3
-unfolding codeOf
-returns-3 c = simp (lt-ltb _ _ (c .if4 .taken), le-ltb _ _ (c .before .if3 .left), c .before .before .before .if1 .taken)
-
-returns-4 : tie.Need-returns-4
-unfolding codeOf
-returns-4 c = simp (le-ltb _ _ (c .if4 .left), le-ltb _ _ (c .before .if3 .left), c .before .before .before .if1 .taken)
-
-returns-5 : tie.Need-returns-5
-unfolding codeOf
-returns-5 c = simp (lt-ltb _ _ (c .if5 .taken), c .before .if1 .left)
-
-returns-6 : tie.Need-returns-6
-unfolding codeOf
-returns-6 c = simp (lt-ltb _ _ (c .if6 .taken), le-ltb _ _ (c .before .if5 .left), c .before .before .if1 .left)
-
 returns-7 : tie.Need-returns-7
 unfolding codeOf
 returns-7 c =
@@ -62,6 +42,11 @@ returns-9 c =
     )
 
 pub code-spec : {M : Type 1} → Rattle.script.proofs.values.code.Statement.statement M
+unfolding codeOf
 code-spec =
-    tie.close (tie.spec returns returns-2 (λ c. search needs) returns-3 (λ c. search needs) returns-4 returns-5 (λ c. search needs)
-    returns-6 (λ c. search needs) returns-7 (λ c. search needs) returns-8 (λ c. search needs) returns-9)
+    tie.close (tie.spec returns (λ c. simp (lt-ltb _ _ (c .if3 .taken), c .before .before .if1 .taken)) (λ c. search needs)
+    (λ c. simp (lt-ltb _ _ (c .if4 .taken), le-ltb _ _ (c .before .if3 .left), c .before .before .before .if1 .taken)) (λ c. search needs)
+    (λ c. simp (le-ltb _ _ (c .if4 .left), le-ltb _ _ (c .before .if3 .left), c .before .before .before .if1 .taken))
+    (λ c. simp (lt-ltb _ _ (c .if5 .taken), c .before .if1 .left)) (λ c. search needs)
+    (λ c. simp (lt-ltb _ _ (c .if6 .taken), le-ltb _ _ (c .before .if5 .left), c .before .before .if1 .left)) (λ c. search needs) returns-7
+    (λ c. search needs) returns-8 (λ c. search needs) returns-9)

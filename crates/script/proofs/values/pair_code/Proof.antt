@@ -25,12 +25,10 @@ returns-3 c =
       c .before .saturating-sub4 .ensures,
     )
 
-returns-4 : tie.Need-returns-4
-unfolding pairCode
-returns-4 c = simp (c .before .before .if1 .left, c .saturating-sub7 .ensures, c .before .saturating-sub6 .ensures)
-
 pub pair-code-spec : {M : Type 1} → Rattle.script.proofs.values.pair_code.Statement.statement M
+unfolding pairCode
 pair-code-spec =
-    tie.close (tie.spec (λ c κs. search needs) (λ c. search needs) (λ c. search needs) (λ c κs. search needs) (λ c. search needs)
-    returns (λ c κs. search needs) (λ c. search needs) returns-2 (λ c κs. search needs) (λ c. search needs) (λ c κs. search needs)
-    (λ c. search needs) returns-3 (λ c κs. search needs) (λ c. search needs) (λ c κs. search needs) (λ c. search needs) returns-4)
+    tie.close (tie.spec (λ c κs. search needs) (λ c. search needs) (λ c. search needs) (λ c κs. search needs) (λ c. search needs) returns
+    (λ c κs. search needs) (λ c. search needs) returns-2 (λ c κs. search needs) (λ c. search needs) (λ c κs. search needs) (λ c. search needs)
+    returns-3 (λ c κs. search needs) (λ c. search needs) (λ c κs. search needs) (λ c. search needs)
+    (λ c. simp (c .before .before .if1 .left, c .saturating-sub7 .ensures, c .before .saturating-sub6 .ensures)))
