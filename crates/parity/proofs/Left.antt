@@ -1,5 +1,5 @@
 -- What is left of data by division, zeros taken off its end, follows them. Assumes nothing.
-use Rattle.general.proofs.Names.{_≡_, refl, sym, ap, ap₂, _∙_, if-pos, if-neg, List, [], _∷_, _++_, ℕ, suc, _+_, _-_, _*_, _%_, _≤_, _<_, arith, suc-mul}
+use Rattle.general.proofs.Names.{_≡_, sym, ap, ap₂, _∙_, if-pos, if-neg, List, [], _∷_, _++_, ℕ, suc, _+_, _-_, _*_, _%_, _≤_, _<_, arith, suc-mul}
 use Rattle.general.proofs.Names.{decLt, length, take, drop, length-drop, take-append-drop, List·getD-eq-default, ext-getD, getD-drop, getD-take}
 use Rattle.general.proofs.Names.{length-take-le, bitXor, xor-zero-r, xor-zero-l}
 use Rattle.field.specs.Field.{power, mul}
@@ -11,18 +11,13 @@ use Rattle.reed_solomon.specs.Sum.{_⊕_, seq}
 use Rattle.reed_solomon.specs.Block.{evalFrom, eval}
 use Rattle.general.specs.Each.{Each}
 use Rattle.reed_solomon.proofs.Search.{Bytes}
-use Rattle.reed_solomon.proofs.Codeword.{zero-codeword}
+use Rattle.reed_solomon.proofs.Codeword.{zero-codeword, eval-append}
 use Rattle.remainder.specs.declared.Register.{Register}
 use Rattle.remainder.specs.Words.{behind, byteAt, tabled, Leaves}
 use Rattle.remainder.proofs.Lowered.{bytes-value, behind-from, power-first}
 use Rattle.parity.specs.Encode.{writtenOf}
 use Rattle.parity.specs.Inner.{behindOf}
 use Rattle.parity.proofs.Followed.{take-bytes, written-by}
-
-eval-append : (poly x acc : ℕ) (xs ys : List ℕ) → evalFrom poly x acc (xs ++ ys) ≡ evalFrom poly x (evalFrom poly x acc xs) ys
-unfolding evalFrom
-eval-append poly x acc [] ys = refl
-eval-append poly x acc (b ∷ xs) ys = eval-append poly x (bitXor (mul poly acc x) b) xs ys
 
 eval-lt : (poly : ℕ) → Passes poly → (x acc : ℕ) (ys : List ℕ) → acc < 256 → Bytes ys → evalFrom poly x acc ys < 256
 unfolding evalFrom

@@ -50,7 +50,6 @@ module _ (poly : ℕ) (P : Passes poly) (x : ℕ) where
       let o : n + 0 ≡ n = omega arith in
       ap₂ (digits poly x acc) o e
   digits-split n (suc m) acc h l hl =
-      let s : 256 ^ suc m ≡ 256 ^ m * 256 = pow-up m in
       let t : h * 256 ^ suc m ≡ h * 256 ^ m * 256 = pow-times h m in
       let k : l / 256 < 256 ^ m = omega arith in
       let e : (h * 256 ^ suc m + l) / 256 ≡ h * 256 ^ m + l / 256 = omega arith in

@@ -1,5 +1,6 @@
 // SPECIFICATION 4.5 to 4.9: where the alignment patterns of a version stand.
 ghost use mathlib.Core.Path.{_≡_};
+ghost use mathlib.Core.Bool.{cond};
 ghost use Prim.Native.Nat.{_+_, _-_, _*_, _%_, _≤_, _<_};
 ghost use Rattle.symbol.specs.Version as version;
 ghost use Rattle.symbol.specs.Layout.{edge, stepOf, mOf, lineOf, rowLine, columnLine, assistant, rowEnds, columnEnds, crossing, crossings, alignment};
@@ -104,28 +105,28 @@ fn crossing(grid: &mut [u8], p: Spacing, n: usize, j: usize)
     line_down(grid, p.side, x, y, step(p, n));
 }
 
-// The assistants of all rows.
-fn rows_ends(grid: &mut [u8], p: Spacing)
-    requires { ⌜ Roomy p (now grid) ⌝ }
-    ensures { λ _. ⌜ Plotted (p .side) (each (mOf (p .version) + 2) (rowEnds (p .version))) (now (grid .entry)) (now (grid .exit)) ⌝ }
+// The assistants at the ends of row n, or of column n.
+fn line_ends(grid: &mut [u8], p: Spacing, n: usize, rows: bool)
+    requires { ⌜ Roomy p (now grid) × (n < p .m + 2) ⌝ }
+    ensures { λ _. ⌜ Plotted (p .side) (cond rows (rowEnds (p .version) n) (columnEnds (p .version) n)) (now (grid .entry)) (now (grid .exit)) ⌝ }
 {
-    let lines = p.m + 2;
-    let mut n: usize = 0;
-    while n < lines {
+    if rows {
         row_ends(grid, p, n);
-        n += 1;
+        return;
     }
+    column_ends(grid, p, n);
 }
 
-// The assistants of all columns.
-fn columns_ends(grid: &mut [u8], p: Spacing)
+// The assistants of all rows, or of all columns.
+fn lines_ends(grid: &mut [u8], p: Spacing, rows: bool)
     requires { ⌜ Roomy p (now grid) ⌝ }
-    ensures { λ _. ⌜ Plotted (p .side) (each (mOf (p .version) + 2) (columnEnds (p .version))) (now (grid .entry)) (now (grid .exit)) ⌝ }
+    ensures { λ _. ⌜ Plotted (p .side) (each (mOf (p .version) + 2) (λ n. cond rows (rowEnds (p .version) n) (columnEnds (p .version) n)))
+        (now (grid .entry)) (now (grid .exit)) ⌝ }
 {
     let lines = p.m + 2;
     let mut n: usize = 0;
     while n < lines {
-        column_ends(grid, p, n);
+        line_ends(grid, p, n, rows);
         n += 1;
     }
 }
@@ -161,7 +162,7 @@ pub fn alignment(grid: &mut [u8], p: Spacing)
     requires { ⌜ Roomy p (now grid) ⌝ }
     ensures { λ _. ⌜ Plotted (p .side) (alignment (p .version)) (now (grid .entry)) (now (grid .exit)) ⌝ }
 {
-    rows_ends(grid, p);
-    columns_ends(grid, p);
+    lines_ends(grid, p, true);
+    lines_ends(grid, p, false);
     crossings(grid, p);
 }

@@ -1,5 +1,5 @@
 -- `read_bits` meets its contract. Assumes nothing.
-use Rattle.general.proofs.Names.{arith, _/_, _+_, _*_, needs}
+use Rattle.general.proofs.Names.{arith, needs}
 use lib.Pow.{pow-pos}
 use Rattle.bits.proofs.Reading.{read-short}
 use Rattle.bits.proofs.Window.{window-four, one-shifted, read-four}
@@ -15,16 +15,13 @@ returns c =
     let d = c .before .before in
     let e = d .before .before in
     let f = e .before .before in
-    let a = f .before .before .before .before .args in
-    read-four (a .s .now) (a .at) (a .n) (((f .wide .result * 256 + e .wide2 .result) * 256 + d .wide3 .result) * 256 + c .wide4 .result) (omega arith) (omega arith)
-    (window-four (a .s .now) (a .at / 8) (f .wide .result) (e .wide2 .result) (d .wide3 .result) (c .wide4 .result) (omega arith)
+    read-four _ _ _ _ (omega arith) (omega arith)
+    (window-four _ _ _ _ _ _ (omega arith)
     (f .wide .ensures .1, e .wide2 .ensures .1, d .wide3 .ensures .1, c .wide4 .ensures .1) (f .wide .ensures .0) (e .wide2 .ensures .0)
     (d .wide3 .ensures .0) (c .wide4 .ensures .0))
 
 returns-2 : tie.Need-returns-2
-returns-2 c =
-    let a = c .before .before .before .args in
-    read-short (a .s .now) (a .at) (a .n) (omega arith) (omega arith)
+returns-2 c = let a = c .before .before .before .args in read-short (a .s .now) (a .at) (a .n) (omega arith) (omega arith)
 
 pub read-bits-spec : {M : Type 1} → Rattle.bits.proofs.read_bits.Statement.statement M
 read-bits-spec =

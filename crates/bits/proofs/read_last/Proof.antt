@@ -14,7 +14,7 @@ loop-holds : tie.Need-loop-holds Inv-loop μ-loop
 loop-holds c =
     let a = c .before .args in
     let z : a .at / 8 - a .at / 8 ≡ 0 = omega arith in
-    (omega arith, omega arith, window-none (a .s .now) (a .at / 8) ∙ ap (window (a .s .now) (a .at / 8)) (sym z))
+    (omega arith, omega arith, window-none _ _ ∙ ap (window _ _) (sym z))
 
 mul-v : tie.Need-mul-v Inv-loop μ-loop
 mul-v c =
@@ -38,11 +38,6 @@ loop-again c =
     let b : c .wide .result ≡ getD (a .s .now) (a .at / 8 + (l .i - a .at / 8)) 0 = rw j (c .wide .ensures .0) in
     (omega arith, omega arith, rw (l .inv .2, ← k) (window-more (a .s .now) (a .at / 8) (l .i - a .at / 8) (c .wide .result) (omega arith) (c .wide .ensures .1) b))
 
-rem-t18 : tie.Need-rem-t18 Inv-loop μ-loop
-rem-t18 c =
-    let a = c .before .before .before .args in
-    rw (one-shifted (a .n) (omega arith)) (pow-pos (a .n))
-
 returns : tie.Need-returns Inv-loop μ-loop
 returns c =
     let l = c .before .loop in
@@ -52,6 +47,6 @@ returns c =
 
 pub read-last-spec : {M : Type 1} → Rattle.bits.proofs.read_last.Statement.statement M
 read-last-spec =
-    tie.close (tie.spec Inv-loop μ-loop (λ c. omega arith) (λ c. omega arith) loop-holds mul-v (λ c. omega arith) (λ c κs. search needs)
-    add-v (λ c. omega arith) (λ c. omega arith) loop-again (λ c. omega arith) (λ c. omega arith) (λ c. omega arith) (λ c. omega arith)
-    rem-t18 returns)
+    tie.close (tie.spec Inv-loop μ-loop (λ c. omega arith) (λ c. omega arith) loop-holds mul-v (λ c. omega arith) (λ c κs. search needs) add-v
+    (λ c. omega arith) (λ c. omega arith) loop-again (λ c. omega arith) (λ c. omega arith) (λ c. omega arith) (λ c. omega arith)
+    (λ c. rw (one-shifted (c .before .before .before .args .n) (omega arith)) (pow-pos (c .before .before .before .args .n))) returns)

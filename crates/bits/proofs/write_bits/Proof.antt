@@ -17,29 +17,18 @@ returns c =
     rw (c .before .before .write-last .ensures) (rw w at (behind-set b (a .at) (lowBits (a .n) (a .v)) (rw (w, e) (omega arith))))
 
 rem-before : tie.Need-rem-before
-rem-before c =
-    let a = c .before .before .before .before .args in
-    rw (one-shifted (8 - a .at % 8) (omega arith)) (pow-pos (8 - a .at % 8))
+rem-before c = let a = c .before .before .before .before .args in rw (one-shifted (8 - a .at % 8) (omega arith)) (pow-pos (8 - a .at % 8))
 
 -- what is stored
 joins : (c : tie.After-store-four-arg) → Joins (c .before .wide .result) (c .before .before .before .before .before .args .at % 8)
     (c .before .before .before .before .before .args .n) (c .before .before .before .before .before .args .v)
-joins c =
-    let a = c .before .before .before .before .before .args in
-    joined-is (c .before .wide .result) (a .at % 8) (a .n) (a .v) (c .before .wide .ensures .1) (omega arith) (omega arith)
+joins c = joined-is _ _ _ _ (c .before .wide .ensures .1) (omega arith) (omega arith)
 
 rem-store-four : tie.Need-rem-store-four
-rem-store-four c =
-    let a = c .before .before .before .before .before .args in
-    rw (one-shifted (a .n) (omega arith)) (pow-pos (a .n))
+rem-store-four c = let a = c .before .before .before .before .before .args in rw (one-shifted (a .n) (omega arith)) (pow-pos (a .n))
 
 add-store-four : tie.Need-add-store-four
 add-store-four c = let j = joins c in rw (j .0) (omega arith)
-
-store-four-requires : tie.Need-store-four-requires
-store-four-requires c κs =
-    let j = joins c in
-    (omega arith, rw (j .0) (j .1))
 
 returns-2 : tie.Need-returns-2
 returns-2 c =
@@ -53,4 +42,4 @@ pub write-bits-spec : {M : Type 1} → Rattle.bits.proofs.write_bits.St
 write-bits-spec =
     tie.close (tie.spec (λ c. search needs) (λ c κs. search needs) (λ c. search needs) returns (λ c. search needs) (λ c κs. search needs)
     (λ c. search needs) (λ c. search needs) rem-before (λ c. mod-le _ _) (λ c. search needs) (λ c. search needs) rem-store-four (λ c. search needs)
-    (λ c. search needs) (λ c. search needs) add-store-four store-four-requires (λ c. search needs) returns-2)
+    (λ c. search needs) (λ c. search needs) add-store-four (λ c κs. let j = joins c in (omega arith, rw (j .0) (j .1))) (λ c. search needs) returns-2)

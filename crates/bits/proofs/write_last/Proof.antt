@@ -24,13 +24,8 @@ loop-again c =
           ∙ ap (λ (B : List ℕ). sets B (a .at + (l .i + 1)) (lowBits (a .n - (l .i + 1)) (a .v))) (sym (write-bit .ensures)),
     )
 
-returns : tie.Need-returns Inv-loop μ-loop
-returns c =
-    let a = c .before .before .before .args in
-    let l = c .before .loop in
-    sym (l .inv .2 ∙ write-all (bitsOf (l .buf)) (a .at + l .i) (a .n) (l .i) (a .v) (omega arith))
-
 pub write-last-spec : {M : Type 1} → Rattle.bits.proofs.write_last.Statement.statement M
 write-last-spec =
     tie.close (tie.spec Inv-loop μ-loop (λ c. (refl, omega arith, simp (sub-zero, add-zero))) (λ c. omega arith) (λ c. omega arith) (λ c. omega arith)
-    (λ c. omega arith) (λ c κs. omega arith) (λ c. omega arith) (λ c. omega arith) loop-again (λ c. omega arith) returns)
+    (λ c. omega arith) (λ c κs. omega arith) (λ c. omega arith) (λ c. omega arith) loop-again (λ c. omega arith)
+    (λ c. sym (c .before .loop .inv .2 ∙ write-all _ _ _ _ _ (omega arith))))

@@ -6,18 +6,6 @@ use Rattle.reed_solomon.proofs.Fit.{unfit-parity, unfit-length, unfit-long, fit
 use Rattle.general.proofs.Names.{arith, needs}
 use Rattle.parity.proofs.encode_over.Tie as tie
 
-returns : tie.Need-returns
-unfolding encoding
-returns c = unfit-refused _ _ _ _ (unfit-parity _ _ (c .if1 .taken))
-
-returns-2 : tie.Need-returns-2
-unfolding encoding
-returns-2 c = unfit-refused _ _ _ _ (unfit-length _ _ (c .if2 .taken))
-
-returns-3 : tie.Need-returns-3
-unfolding encoding
-returns-3 c = unfit-refused _ _ _ _ (unfit-long _ _ (c .if3 .taken))
-
 write-parity-requires : tie.Need-write-parity-requires
 write-parity-requires c κs =
     let start = c .before .before .before .before .before .before .before in
@@ -37,6 +25,8 @@ returns-4 c =
     (c .before .before .write-parity .ensures _ (generator-end _ _ _ _ _ (generator .ensures .1) (omega arith) (omega arith)))
 
 pub encode-over-spec : {M : Type 1} → Rattle.parity.proofs.encode_over.Statement.statement M
+unfolding encoding
 encode-over-spec =
-    tie.close (tie.spec returns returns-2 returns-3 (λ c κs. search needs) (λ c. search needs) (λ c. search needs) write-parity-requires
-    (λ c. search needs) returns-4)
+    tie.close (tie.spec (λ c. unfit-refused _ _ _ _ (unfit-parity _ _ (c .if1 .taken)))
+    (λ c. unfit-refused _ _ _ _ (unfit-length _ _ (c .if2 .taken))) (λ c. unfit-refused _ _ _ _ (unfit-long _ _ (c .if3 .taken)))
+    (λ c κs. search needs) (λ c. search needs) (λ c. search needs) write-parity-requires (λ c. search needs) returns-4)

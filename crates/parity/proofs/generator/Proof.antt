@@ -14,9 +14,6 @@ Inv-loop field first parity g₀ n₀ g n = (length g ≡ 256) × Generator (pol
 abbrev μ-loop : tie.MeasureT-loop
 μ-loop field first parity g₀ n₀ g n = parity - n
 
-loop-holds : tie.Need-loop-holds Inv-loop μ-loop
-loop-holds c = (refl, generator-start _ _ _ refl (one-first (replicate 256 0) refl (zeros 256)), omega arith)
-
 loop-again : tie.Need-loop-again Inv-loop μ-loop
 loop-again c =
     let start = c .before .before .before .before .before .before .before in
@@ -28,11 +25,10 @@ loop-again c =
       omega arith,
     )
 
-returns : tie.Need-returns Inv-loop μ-loop
-returns c = (c .before .loop .inv .0, generator-end _ _ _ _ _ (c .before .loop .inv .1) (c .before .loop .inv .2) (omega arith))
-
 pub generator-spec : {M : Type 1} → Rattle.parity.proofs.generator.Statement.statement M
 generator-spec =
-    tie.close (tie.spec Inv-loop μ-loop (λ c. search needs) loop-holds (λ c. search needs) (λ c κs. search needs)
-    (λ c. sym (c .before .before .before .loop .inv .0)) (λ c. sym (c .before .before .before .before .loop .inv .0))
-    (λ c. search needs) (λ c κs. search needs) (λ c. search needs) (λ c. search needs) loop-again returns)
+    tie.close (tie.spec Inv-loop μ-loop (λ c. search needs)
+    (λ c. (refl, generator-start _ _ _ refl (one-first (replicate 256 0) refl (zeros 256)), omega arith)) (λ c. search needs) (λ c κs. search needs)
+    (λ c. sym (c .before .before .before .loop .inv .0)) (λ c. sym (c .before .before .before .before .loop .inv .0)) (λ c. search needs)
+    (λ c κs. search needs) (λ c. search needs) (λ c. search needs) loop-again
+    (λ c. (c .before .loop .inv .0, generator-end _ _ _ _ _ (c .before .loop .inv .1) (c .before .loop .inv .2) (omega arith))))

@@ -19,13 +19,8 @@ loop-again c =
       ],
     )
 
-returns-5 : tie.Need-returns-5 Inv-loop μ-loop
-returns-5 c =
-    let loop = c .before .loop in
-    λ e. ((omega arith, omega arith, omega arith), λ i h l. loop .inv .2 i h (omega arith))
-
 pub is-parity-spec : {M : Type 1} → Rattle.parity.proofs.is_parity.Statement.statement M
 is-parity-spec =
     tie.close (tie.spec Inv-loop μ-loop (λ c. λ e. absurd (false≢true e)) (λ c. λ e. absurd (false≢true e)) (λ c. λ e. absurd (false≢true e))
     (λ c. (omega arith, omega arith, λ k h l. absurd (omega arith))) (λ c. search needs) (λ c. λ e. absurd (false≢true e)) (λ c. search needs)
-    (λ c. search needs) loop-again returns-5)
+    (λ c. search needs) loop-again (λ c. λ e. ((omega arith, omega arith, omega arith), λ i h l. (c .before .loop) .inv .2 i h (omega arith))))

@@ -15,7 +15,7 @@ returns c =
     let slice-known = c .before .before .before .before .before .before .before .before .before .before .before .before .slice-known in
     let copy = c .before .before .before .before .before .before .before .before .before .copy in
     let divide = c .before .before .before .before .before .before .divide in
-    written _ (the-field _ (start .pre .0)) (start .args .k) (start .args .block .now) _ _ _ _ (λ i. omega (arith, slice-known .given i))
+    written _ (the-field _ (start .pre .0)) _ _ _ _ _ _ (λ i. omega (arith, slice-known .given i))
     (start .pre .1 .0 .1) (start .pre .1 .0 .0)
     (copy .ensures) (divide .ensures .1) (c .before .before .copy2 .ensures)
 

@@ -1,5 +1,5 @@
 -- `add_digits` meets its contract. Assumes nothing.
-use Rattle.general.proofs.Names.{_≡_, sym, ap, _∙_, ℕ, _+_, _-_, _*_, _%_, _^_, _≤_, arith, bitXor, needs}
+use Rattle.general.proofs.Names.{_≡_, sym, ap, _∙_, ℕ, _-_, _*_, _%_, _^_, _≤_, arith, bitXor, needs}
 use Rattle.remainder.specs.Words.{digits, behind, Rows}
 use Rattle.remainder.proofs.Steps.{add-next, no-digits, all-digits}
 use Rattle.remainder.proofs.add_digits.Tie as tie
@@ -20,8 +20,8 @@ loop-again c =
     let loop = c .before .before .loop in
     let y = c .before .before .before .before .args .x in (
       omega arith,
-      λ poly x e h R z. ap (behind poly x (digits poly x e 4 (bitXor h (y % 2 ^ (4 * (loop .i + 1)))))) (c .add-digit .ensures)
-          ∙ add-next poly x _ R e h y (loop .i) (loop .n) (omega arith) (loop .inv .1 poly x e h R z),
+      λ poly x e h R z. ap (behind poly x _) (c .add-digit .ensures)
+          ∙ add-next poly x _ R e h y _ _ (omega arith) (loop .inv .1 poly x e h R z),
     )
 
 returns : tie.Need-returns Inv-loop μ-loop
@@ -34,5 +34,4 @@ returns c =
     }
 
 pub add-digits-spec : {M : Type 1} → Rattle.remainder.proofs.add_digits.Statement.statement M
-add-digits-spec =
-    tie.close (tie.spec Inv-loop μ-loop loop-holds (λ c κs. search needs) (λ c. search needs) (λ c. search needs) loop-again returns)
+add-digits-spec = tie.close (tie.spec Inv-loop μ-loop loop-holds (λ c κs. search needs) (λ c. search needs) (λ c. search needs) loop-again returns)

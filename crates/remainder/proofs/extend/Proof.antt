@@ -18,14 +18,9 @@ loop-again c =
     let loop = c .before .before .before .before .before .before .before .before .loop in
     (extended-next _ _ _ _ _ _ _ _ _ (loop .inv .0) (omega arith) (row .ensures) (sum .ensures) (put .ensures), omega arith)
 
-returns : tie.Need-returns Inv-loop μ-loop
-returns c =
-    let loop = c .before .loop in
-    let e : loop .f ≡ c .before .before .before .args .n = omega arith in
-    rw e at (loop .inv .0)
-
 pub extend-spec : {M : Type 1} → Rattle.remainder.proofs.extend.Statement.statement M
 extend-spec =
     tie.close (tie.spec Inv-loop μ-loop (λ c. (extended-start _ _ _ _, omega arith)) (λ c. search needs) (λ c κs. (omega arith, omega arith))
     (λ c. search needs) (λ c. search needs) (λ c κs. search needs) (λ c κs. (omega arith, omega arith)) (λ c. search needs) (λ c. search needs)
-    loop-again (λ c. c .before .loop .inv .0 .size) returns)
+    loop-again (λ c. c .before .loop .inv .0 .size)
+    (λ c. let e : (c .before .loop) .f ≡ c .before .before .before .args .n = omega arith in rw e at (c .before .loop .inv .0)))

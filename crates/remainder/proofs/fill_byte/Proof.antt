@@ -14,7 +14,7 @@ fill-digit-requires-2 c κs =
     let start = c .before .before .before .before .before .before in
     let first = c .before .before .before .fill-digit .ensures in
     let e : 16 * (2 * start .args .k + 1) ≡ 32 * start .args .k + 16 = omega arith in
-    (omega arith, omega arith, rw e (first .above (32 * start .args .k + 16) (omega arith) ∙ start .pre .3))
+    (omega arith, omega arith, rw e (first .above _ (omega arith) ∙ start .pre .3))
 
 returns : tie.Need-returns
 returns c =

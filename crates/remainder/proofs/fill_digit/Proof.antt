@@ -10,12 +10,6 @@ Inv-loop t₀ i r₀ b₀ t r b = Filling i b r₀ t₀ t r × (b ≤ 4)
 abbrev μ-loop : tie.MeasureT-loop
 μ-loop t₀ i r₀ b₀ t r b = 4 - b
 
-extend-requires : tie.Need-extend-requires Inv-loop μ-loop
-extend-requires c κs =
-    let loop = c .before .before .loop in
-    let one = bit-of (loop .b) (omega arith) in
-    (omega arith, omega arith)
-
 loop-again : tie.Need-loop-again Inv-loop μ-loop
 loop-again c =
     let start = c .before .before .before .before .before .before .before .before in
@@ -26,14 +20,9 @@ loop-again c =
       omega arith,
     )
 
-returns : tie.Need-returns Inv-loop μ-loop
-returns c =
-    let loop = c .before .loop in
-    let e : loop .b ≡ 4 = omega arith in
-    rw e at (loop .inv .0)
-
 pub fill-digit-spec : {M : Type 1} → Rattle.remainder.proofs.fill_digit.Statement.statement M
 fill-digit-spec =
     tie.close (tie.spec Inv-loop μ-loop (λ c. (filling-start _ _ _ (c .before .pre .1) (c .before .pre .2), omega arith)) (λ c. search needs)
-    (λ c. search needs) extend-requires (λ c κs. search needs) (λ c. search needs) (λ c. search needs) loop-again (λ c. c .before .loop .inv .0 .size)
-    returns)
+    (λ c. search needs) (λ c κs. let one = bit-of (c .before .before .loop .b) (omega arith) in (omega arith, omega arith)) (λ c κs. search needs)
+    (λ c. search needs) (λ c. search needs) loop-again (λ c. c .before .loop .inv .0 .size)
+    (λ c. let e : (c .before .loop) .b ≡ 4 = omega arith in rw e at (c .before .loop .inv .0)))

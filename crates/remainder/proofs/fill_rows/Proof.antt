@@ -10,11 +10,6 @@ Inv-loop t₀ r₀ k₀ t r k = Filled k r₀ t r × (k ≤ 4)
 abbrev μ-loop : tie.MeasureT-loop
 μ-loop t₀ r₀ k₀ t r k = 4 - k
 
-fill-byte-requires : tie.Need-fill-byte-requires Inv-loop μ-loop
-fill-byte-requires c κs =
-    let inv = c .before .before .loop .inv .0 in
-    (omega arith, omega arith, inv .free _ (omega arith), inv .free _ (omega arith))
-
 loop-again : tie.Need-loop-again Inv-loop μ-loop
 loop-again c =
     let loop = c .before .before .before .before .before .before .before .loop in
@@ -25,6 +20,7 @@ returns c = let loop = c .before .loop in filled-end _ _ _ _ (loop .inv .0) (loo
 
 pub fill-rows-spec : {M : Type 1} → Rattle.remainder.proofs.fill_rows.Statement.statement M
 fill-rows-spec =
-    tie.close (tie.spec Inv-loop μ-loop (λ c. (filled-start _ _ (c .before .pre .0) (c .before .pre .1), omega arith)) fill-byte-requires
+    tie.close (tie.spec Inv-loop μ-loop (λ c. (filled-start _ _ (c .before .pre .0) (c .before .pre .1), omega arith))
+    (λ c κs. (omega arith, omega arith, c .before .before .loop .inv .0 .free _ (omega arith), c .before .before .loop .inv .0 .free _ (omega arith)))
     (λ c κs. (omega arith, omega arith)) (λ c. search needs) (λ c. search needs) loop-again
     (λ c. c .before .loop .inv .0 .size ∙ sym (c .before .before .before .pre .0)) returns)

@@ -21,13 +21,8 @@ loop-again c =
     let loop = c .before .before .before .loop in
     (omega arith, front-next _ _ _ _ (loop .inv .1) (omega arith) (omega arith) (c .wide .ensures .0) (c .wide .ensures .1))
 
-returns : tie.Need-returns Inv-loop μ-loop
-returns c =
-    let loop = c .before .loop in
-    let e : loop .i ≡ c .before .before .before .args .n = omega arith in
-    rw e at (loop .inv .1)
-
 pub front-spec : {M : Type 1} → Rattle.remainder.proofs.front.Statement.statement M
 front-spec =
     tie.close (tie.spec Inv-loop μ-loop (λ c. (omega arith, front-none _)) mul-v (λ c. search needs) (λ c κs. search needs) add-v (λ c. search needs)
-    (λ c. search needs) loop-again returns)
+    (λ c. search needs) loop-again
+    (λ c. let e : (c .before .loop) .i ≡ c .before .before .before .args .n = omega arith in rw e at (c .before .loop .inv .1)))

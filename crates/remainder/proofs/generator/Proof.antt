@@ -4,10 +4,8 @@ use Rattle.remainder.specs.Generators.{generators}
 use Rattle.remainder.proofs.Generators.{generator-zero}
 use Rattle.remainder.proofs.generator.Tie as tie
 
-returns-3 : tie.Need-returns-3
-unfolding generators
-returns-3 c = λ T j h. rw (c .row-at .ensures) (generator-zero _ j (T .0) (T .1) (T .2) h)
-
 pub generator-spec : {M : Type 1} → Rattle.remainder.proofs.generator.Statement.statement M
-generator-spec = tie.close (tie.spec (λ c. λ T j h. absurd (omega arith)) (λ c. λ T j h. absurd (omega arith)) (λ c. search needs) (λ c. search needs)
-    (λ c κs. search needs) returns-3)
+unfolding generators
+generator-spec =
+    tie.close (tie.spec (λ c. λ T j h. absurd (omega arith)) (λ c. λ T j h. absurd (omega arith)) (λ c. search needs) (λ c. search needs)
+    (λ c κs. search needs) (λ c. λ T j h. rw (c .row-at .ensures) (generator-zero _ j (T .0) (T .1) (T .2) h)))

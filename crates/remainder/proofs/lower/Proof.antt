@@ -27,16 +27,14 @@ loop-again c =
     let start = c .before .before .before .before .before in
     let loop = c .before .before .before .loop in (
       each-next _ _ _ _ _ (loop .inv .0) (omega arith)
-          (c .raised .ensures ∙ ap (mul (polyOf (start .args .field .now)) _)
-          (reduced-power _ (the-field _ (start .pre .0)) (start .args .n * (start .args .first + loop .j)))),
+          (c .raised .ensures ∙ ap (mul _ _)
+          (reduced-power _ (the-field _ (start .pre .0)) _)),
       omega arith,
     )
-
-returns : tie.Need-returns Inv-loop μ-loop
-returns c = each-end _ _ _ _ _ (c .before .loop .inv .0) (c .before .loop .inv .1) (omega arith)
 
 pub lower-spec : {M : Type 1} → Rattle.remainder.proofs.lower.Statement.statement M
 lower-spec =
     tie.close (tie.spec Inv-loop μ-loop (λ c. (each-start _ _, omega arith)) (λ c. omega (arith, c .before .before .loop .inv .0 .size))
     (λ c. search needs) mul-raised (λ c κs. search needs) (λ c. omega (arith, c .before .before .before .loop .inv .0 .size)) (λ c. search needs)
-    (λ c. search needs) loop-again (λ c. c .before .loop .inv .0 .size) returns)
+    (λ c. search needs) loop-again (λ c. c .before .loop .inv .0 .size)
+    (λ c. each-end _ _ _ _ _ (c .before .loop .inv .0) (c .before .loop .inv .1) (omega arith)))

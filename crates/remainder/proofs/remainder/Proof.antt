@@ -11,15 +11,6 @@ Inv-loop t block k m r₀ i₀ r i = (i ≤ k) × (i % 4 ≡ k % 4) × Left (λ 
 abbrev μ-loop : tie.MeasureT-loop
 μ-loop t block k m r₀ i₀ r i = k - i
 
-step-requires : tie.Need-step-requires Inv-loop μ-loop
-step-requires c κs = (c .before .before .before .pre .0, front-lt _ _ _ (c .front .ensures) (omega arith))
-
-loop-holds : tie.Need-loop-holds Inv-loop μ-loop
-loop-holds c = (omega arith, omega arith, left-start _ _ _ _ _ (c .before .front .ensures) (c .step .ensures))
-
-step-requires-2 : tie.Need-step-requires-2 Inv-loop μ-loop
-step-requires-2 c κs = (c .before .before .before .before .before .before .before .pre .0, c .four .ensures .1)
-
 loop-again : tie.Need-loop-again Inv-loop μ-loop
 loop-again c =
     let loop = c .before .before .before .loop in
@@ -36,5 +27,8 @@ returns c =
 
 pub remainder-spec : {M : Type 1} → Rattle.remainder.proofs.remainder.Statement.statement M
 remainder-spec =
-    tie.close (tie.spec Inv-loop μ-loop (λ c κs. search needs) step-requires loop-holds (λ c κs. search needs) step-requires-2
-    (λ c. search needs) (λ c. search needs) loop-again returns)
+    tie.close (tie.spec Inv-loop μ-loop (λ c κs. search needs)
+    (λ c κs. (c .before .before .before .pre .0, front-lt _ _ _ (c .front .ensures) (omega arith)))
+    (λ c. (omega arith, omega arith, left-start _ _ _ _ _ (c .before .front .ensures) (c .step .ensures))) (λ c κs. search needs)
+    (λ c κs. (c .before .before .before .before .before .before .before .pre .0, c .four .ensures .1)) (λ c. search needs) (λ c. search needs)
+    loop-again returns)

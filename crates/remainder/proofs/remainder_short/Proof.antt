@@ -1,6 +1,5 @@
 -- `remainder_short` meets its contract. Assumes nothing.
 use Rattle.general.proofs.Names.{_≡_, refl, sym, _-_, _≤_, arith, needs}
-use Rattle.field.specs.Field.{power}
 use Rattle.remainder.specs.Words.{ByteRows, Left}
 use Rattle.remainder.proofs.Steps.{left-none, left-byte}
 use Rattle.remainder.proofs.Lowered.{leaves}
@@ -23,7 +22,7 @@ returns c =
     let known = c .before .before .before .before .before .before .shared-slice-known in
     let loop = c .before .loop in
     let e : loop .i ≡ start .args .k = omega arith in
-    leaves _ _ _ _ _ (λ T j h i f a b. c .before .before .before .fill-byte .ensures .rows (power 0x163 _)
+    leaves _ _ _ _ _ (λ T j h i f a b. c .before .before .before .fill-byte .ensures .rows _
     (c .before .before .before .before .generator .ensures T j h) i f (omega arith) (omega arith) b) (start .pre) (λ j. omega (arith, known .given j))
     (rw e at (loop .inv .1))
 

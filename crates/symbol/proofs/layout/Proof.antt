@@ -5,16 +5,10 @@ use Rattle.symbol.specs.Version.{sideOf}
 use Rattle.general.proofs.Names.{length, _≡_, sym, ap, subst, _∙_, ℕ, _*_, _<_, _≤_, arith, needs}
 use Rattle.symbol.proofs.layout.Tie as tie
 
-returns : tie.Need-returns
-returns c = too-low (c .before .before .args .version) (c .before .before .args .out .now) (c .if1 .taken)
-
-returns-2 : tie.Need-returns-2
-returns-2 c = too-high (c .before .before .before .args .version) (c .before .before .before .args .out .now) (c .before .if1 .left) (c .if2 .taken)
-
 returns-3 : tie.Need-returns-3
 returns-3 c =
     let start = c .before .before .before .before .before in
-    too-short (start .args .version) (start .args .out .now) (c .before .before .before .if1 .left) (c .before .before .if2 .left)
+    too-short _ (start .args .out .now) (c .before .before .before .if1 .left) (c .before .before .if2 .left)
     (subst (λ (k : ℕ). length (start .args .out .now) < k * k) (c .before .side .ensures) (c .if3 .taken))
 
 returns-4 : tie.Need-returns-4
@@ -24,7 +18,7 @@ returns-4 c =
     let if2 = c .before .before .before .before .before .before .before .if2 in
     let side = c .before .before .before .before .before .before .side in
     let if3 = c .before .before .before .before .before .if3 in
-    small (start .args .version) (start .args .out .now) (if1 .left) (if2 .left)
+    small _ (start .args .out .now) (if1 .left) (if2 .left)
     (subst (λ (k : ℕ). k * k ≤ length (start .args .out .now)) (side .ensures) (if3 .left)) (side .ensures) (c .before .before .before .corners .ensures)
     (c .if4 .taken)
 
@@ -53,12 +47,13 @@ returns-5 c =
     let if3 = c .before .before .before .before .before .before .before .before .before .before .if3 in
     let corners = c .before .before .before .before .before .before .before .before .corners in
     let if4 = c .before .before .before .before .before .if4 in
-    large (start .args .version) (start .args .out .now) (if1 .left) (if2 .left)
+    large _ (start .args .out .now) (if1 .left) (if2 .left)
     (subst (λ (k : ℕ). k * k ≤ length (start .args .out .now)) (side .ensures) (if3 .left)) (side .ensures) (corners .ensures) (if4 .left)
     (c .before .before .before .spacing-of .ensures .1) (c .before .before .before .spacing-of .ensures .0 .side-is)
     (c .before .before .alignment .ensures)
 
 pub layout-spec : {M : Type 1} → Rattle.symbol.proofs.layout.Statement.statement M
 layout-spec =
-    tie.close (tie.spec returns returns-2 (λ c κs. search needs) (λ c. omega (arith, square-le (c .side .result) (omega arith))) returns-3
-    (λ c κs. search needs) (λ c. search needs) returns-4 (λ c κs. search needs) alignment-requires (λ c. search needs) returns-5)
+    tie.close (tie.spec (λ c. too-low _ _ (c .if1 .taken)) (λ c. too-high _ _ (c .before .if1 .left) (c .if2 .taken)) (λ c κs. search needs)
+    (λ c. omega (arith, square-le (c .side .result) (omega arith))) returns-3 (λ c κs. search needs) (λ c. search needs) returns-4
+    (λ c κs. search needs) alignment-requires (λ c. search needs) returns-5)

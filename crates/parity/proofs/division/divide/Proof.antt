@@ -31,10 +31,8 @@ loop-again c =
       omega arith,
     )
 
-returns : tie.Need-returns Inv-loop μ-loop
-returns c = (c .before .loop .inv .0, divided-end _ _ _ _ _ _ _ _ (c .before .loop .inv .1) (c .before .loop .inv .2) (omega arith))
-
 pub divide-spec : {M : Type 1} → Rattle.parity.proofs.division.divide.Statement.statement M
 divide-spec =
     tie.close (tie.spec Inv-loop μ-loop loop-holds (λ c. search needs) (λ c. search needs) (λ c. search needs) (λ c κs. search needs)
-    (λ c. search needs) (λ c. search needs) loop-again (λ c. c .before .loop .inv .0) returns)
+    (λ c. search needs) (λ c. search needs) loop-again (λ c. c .before .loop .inv .0)
+    (λ c. (c .before .loop .inv .0, divided-end _ _ _ _ _ _ _ _ (c .before .loop .inv .1) (c .before .loop .inv .2) (omega arith))))

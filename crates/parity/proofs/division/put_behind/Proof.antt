@@ -12,19 +12,16 @@ Inv-loop block₀ k b n i₀ block i = Each (behindOf k b) i block₀ block × (
 abbrev μ-loop : tie.MeasureT-loop
 μ-loop block₀ k b n i₀ block i = n - i
 
-loop-holds : tie.Need-loop-holds Inv-loop μ-loop
-loop-holds c = (each-same _ _ _ (λ i h. sym (behind-low _ _ i _ h)), omega arith, omega arith)
-
 loop-again : tie.Need-loop-again Inv-loop μ-loop
 loop-again c =
     let loop = c .before .before .loop in
-    (each-next _ _ _ _ _ (loop .inv .0) (omega arith) (sym (behind-high _ _ (loop .i) _ (loop .inv .1))), omega arith, omega arith)
+    (each-next _ _ _ _ _ (loop .inv .0) (omega arith) (sym (behind-high _ _ _ _ (loop .inv .1))), omega arith, omega arith)
 
 returns : tie.Need-returns Inv-loop μ-loop
 returns c = let loop = c .before .loop in each-end _ _ _ _ _ (loop .inv .0) (omega arith) (omega arith)
 
 pub put-behind-spec : {M : Type 1} → Rattle.parity.proofs.division.put_behind.Statement.statement M
 put-behind-spec =
-    tie.close (tie.spec Inv-loop μ-loop loop-holds (λ c. search needs) (λ c. omega (arith, c .before .loop .inv .1))
-    (λ c. omega (arith, c .before .before .loop .inv .0 .size)) (λ c. search needs) (λ c. search needs) loop-again
-    (λ c. c .before .loop .inv .0 .size) returns)
+    tie.close (tie.spec Inv-loop μ-loop (λ c. (each-same _ _ _ (λ i h. sym (behind-low _ _ i _ h)), omega arith, omega arith)) (λ c. search needs)
+    (λ c. omega (arith, c .before .loop .inv .1)) (λ c. omega (arith, c .before .before .loop .inv .0 .size)) (λ c. search needs) (λ c. search needs)
+    loop-again (λ c. c .before .loop .inv .0 .size) returns)

@@ -4,7 +4,7 @@ use Rattle.remainder.proofs.Places.{shifted, shifted-lt}
 use Rattle.remainder.proofs.four_words.byte_up.Tie as tie
 
 add-result : tie.Need-add-result
-add-result c = record { fits = shifted-lt 56 8 (c .args .a) (c .args .b / 2 ^ 56) (omega arith) }
+add-result c = record { fits = shifted-lt 56 8 _ _ (omega arith) }
 
 pub byte-up-spec : {M : Type 1} → Rattle.remainder.proofs.four_words.byte_up.Statement.statement M
 byte-up-spec = tie.close (tie.spec add-result (λ c. ap (λ (y : ℕ). y + c .args .b / 2 ^ 56) (shifted 56 8 (c .args .a))))

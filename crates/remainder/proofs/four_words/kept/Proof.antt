@@ -7,7 +7,7 @@ use Rattle.remainder.proofs.four_words.kept.Tie as tie
 kept-words : (r : Register) (w : ℕ) → w ≤ 4 → ((j : ℕ) → w ≤ j → wordAt r j ≡ 0) → Kept r (8 * w)
 kept-words r w h z = record {
   few = omega arith;
-  zeros = λ i a b. ap (λ (y : ℕ). y / 2 ^ (56 - 8 * (i % 8)) % 256) (z (i / 8) (omega arith)) ∙ ap (λ (y : ℕ). y % 256) (zero-div (2 ^ (56 - 8 * (i % 8))));
+  zeros = λ i a b. ap (λ (y : ℕ). y / 2 ^ (56 - 8 * (i % 8)) % 256) (z _ (omega arith)) ∙ ap (λ (y : ℕ). y % 256) (zero-div (2 ^ (56 - 8 * (i % 8))));
 }
 
 -- the last words are zero
@@ -18,14 +18,9 @@ zeros r w o d c b (suc zero) h = b (omega arith)
 zeros r w o d c b (suc (suc zero)) h = c (omega arith)
 zeros r w o d c b (suc (suc (suc j))) h = d
 
-returns-2 : tie.Need-returns-2
-returns-2 c = kept-words _ 3 (omega arith) (zeros _ 3 (omega arith) (omega arith) (λ h. absurd (omega arith)) (λ h. absurd (omega arith)))
-
-returns-3 : tie.Need-returns-3
-returns-3 c = kept-words _ 2 (omega arith) (zeros _ 2 (omega arith) (omega arith) (λ h. omega arith) (λ h. absurd (omega arith)))
-
-returns-4 : tie.Need-returns-4
-returns-4 c = kept-words _ 1 (omega arith) (zeros _ 1 (omega arith) (omega arith) (λ h. omega arith) (λ h. omega arith))
-
 pub kept-spec : {M : Type 1} → Rattle.remainder.proofs.four_words.kept.Statement.statement M
-kept-spec = tie.close (tie.spec (λ c. record { few = omega arith; zeros = λ i a b. absurd (omega arith) }) returns-2 returns-3 returns-4)
+kept-spec =
+    tie.close (tie.spec (λ c. record { few = omega arith; zeros = λ i a b. absurd (omega arith) })
+    (λ c. kept-words _ 3 (omega arith) (zeros _ 3 (omega arith) (omega arith) (λ h. absurd (omega arith)) (λ h. absurd (omega arith))))
+    (λ c. kept-words _ 2 (omega arith) (zeros _ 2 (omega arith) (omega arith) (λ h. omega arith) (λ h. absurd (omega arith))))
+    (λ c. kept-words _ 1 (omega arith) (zeros _ 1 (omega arith) (omega arith) (λ h. omega arith) (λ h. omega arith))))

@@ -3,14 +3,6 @@ use Rattle.general.proofs.Names.{_%_, arith, le-leb, lt-leb, eq-eqb, ne-eqb, ne
 use Rattle.symbol.specs.Version.{isSide, sideRefusal, sideVersion}
 use Rattle.symbol.proofs.Version.from_side.Tie as tie
 
-returns : tie.Need-returns
-unfolding isSide sideRefusal sideVersion
-returns c = (simp (lt-leb _ _ (c .if1 .taken)), simp (lt-leb _ _ (c .if1 .taken)))
-
-returns-2 : tie.Need-returns-2
-unfolding isSide sideRefusal sideVersion
-returns-2 c = (simp (le-leb _ _ (c .before .if1 .left), lt-leb _ _ (c .if2 .taken)), simp (le-leb _ _ (c .before .if1 .left), lt-leb _ _ (c .if2 .taken)))
-
 returns-3 : tie.Need-returns-3
 unfolding isSide sideRefusal sideVersion
 returns-3 c =
@@ -28,4 +20,8 @@ returns-4 c =
     (simp (le-leb _ _ (if1 .left), le-leb _ _ (if2 .left), h), simp (le-leb _ _ (if1 .left), le-leb _ _ (if2 .left), h))
 
 pub from-side-spec : {M : Type 1} → Rattle.symbol.proofs.Version.from_side.Statement.statement M
-from-side-spec = tie.close (tie.spec returns returns-2 returns-3 (λ c. search needs) returns-4)
+unfolding isSide sideRefusal sideVersion
+from-side-spec =
+    tie.close (tie.spec (λ c. (simp (lt-leb _ _ (c .if1 .taken)), simp (lt-leb _ _ (c .if1 .taken))))
+    (λ c. (simp (le-leb _ _ (c .before .if1 .left), lt-leb _ _ (c .if2 .taken)), simp (le-leb _ _ (c .before .if1 .left), lt-leb _ _ (c .if2 .taken))))
+    returns-3 (λ c. search needs) returns-4)

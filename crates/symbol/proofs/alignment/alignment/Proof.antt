@@ -7,9 +7,9 @@ use Rattle.symbol.proofs.alignment.alignment.Tie as tie
 returns : tie.Need-returns
 unfolding alignment
 returns c =
-    let rows-ends = c .before .before .before .before .before .before .before .before .before .before .rows-ends in
-    let columns-ends = c .before .before .before .before .before .before .columns-ends in
-    next (rows-ends .ensures) (next (columns-ends .ensures) (c .before .before .crossings .ensures))
+    let rows = c .before .before .before .before .before .before .before .before .before .before .lines-ends in
+    let columns = c .before .before .before .before .before .before .lines-ends2 in
+    next (rows .ensures) (next (columns .ensures) (c .before .before .crossings .ensures))
 
 pub alignment-spec : {M : Type 1} → Rattle.symbol.proofs.alignment.alignment.Statement.statement M
 alignment-spec = tie.close (tie.spec (λ c κs. search needs) (λ c κs. search needs) (λ c κs. search needs) (λ c. search needs) returns)

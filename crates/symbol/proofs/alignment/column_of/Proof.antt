@@ -9,8 +9,7 @@ returns c =
     let start = c .before .before in
     let line = c .line-of in
     let e = unsigned (start .args .p .side - 1 - line .result) (omega arith) in
-    (e ∙ column-is (start .pre .0) (start .args .n) (line .result) (line .ensures .0) (line .ensures .1), inside-of e (omega arith))
+    (e ∙ column-is (start .pre .0) _ _ (line .ensures .0) (line .ensures .1), inside-of e (omega arith))
 
 pub column-of-spec : {M : Type 1} → Rattle.symbol.proofs.alignment.column_of.Statement.statement M
-column-of-spec =
-    tie.close (tie.spec (λ c. search needs) (λ c κs. search needs) (λ c. search needs) (λ c. small _ (omega arith)) returns)
+column-of-spec = tie.close (tie.spec (λ c. search needs) (λ c κs. search needs) (λ c. search needs) (λ c. small _ (omega arith)) returns)

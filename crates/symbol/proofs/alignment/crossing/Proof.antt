@@ -5,15 +5,6 @@ use Rattle.symbol.proofs.Coordinates.{ok, inside-call}
 use Rattle.symbol.proofs.Plots.{none, next, exactly, heard, crossing-odd, crossing-first, crossing-on}
 use Rattle.symbol.proofs.alignment.crossing.Tie as tie
 
-returns : tie.Need-returns
-returns c =
-    let start = c .before .before in exactly (crossing-odd (start .args .p .version) (start .args .n) (start .args .j) (c .if1 .taken)) none
-
-returns-2 : tie.Need-returns-2
-returns-2 c =
-    let start = c .before .before .before in
-    exactly (crossing-first (start .args .p .version) (start .args .n) (start .args .j) (c .if2 .taken)) none
-
 line-left-requires : tie.Need-line-left-requires
 line-left-requires c κs =
     let q = c .before .before .before .before .before .before .before .pre .0 in
@@ -38,8 +29,8 @@ returns-3 c =
     let y = c .before .before .before .before .before .before .before .before .before .before .row-of in
     let step = c .before .before .before .before .before .before .before .before .step in
     let step2 = c .before .before .before .step2 in
-    exactly (crossing-on v (start .args .n) (start .args .j) (if1 .left) (if2 .left))
-    (next (exactly (ap (lineLeft (columnLine v (start .args .j)) (rowLine v (start .args .n))) (step .ensures .0))
+    exactly (crossing-on v _ _ (if1 .left) (if2 .left))
+    (next (exactly (ap (lineLeft _ (rowLine v (start .args .n))) (step .ensures .0))
     (heard (λ a b. lineLeft a b (step .result)) (ok (x .result) (x .ok)) (ok (y .result) (y .ok)) (x .ensures .0) (y .ensures .0)
     (c .before .before .before .before .before .before .before .line-left .ensures)))
     (exactly (ap (lineDown (columnLine v (start .args .j)) (rowLine v (start .args .n))) (step2 .ensures .0))
@@ -48,5 +39,6 @@ returns-3 c =
 
 pub crossing-spec : {M : Type 1} → Rattle.symbol.proofs.alignment.crossing.Statement.statement M
 crossing-spec =
-    tie.close (tie.spec (λ c. search needs) returns (λ c. search needs) returns-2 (λ c κs. search needs) (λ c κs. search needs)
-    (λ c κs. search needs) line-left-requires (λ c κs. search needs) line-down-requires (λ c. search needs) returns-3)
+    tie.close (tie.spec (λ c. search needs) (λ c. exactly (crossing-odd _ _ _ (c .if1 .taken)) none) (λ c. search needs)
+    (λ c. exactly (crossing-first _ _ _ (c .if2 .taken)) none) (λ c κs. search needs) (λ c κs. search needs) (λ c κs. search needs) line-left-requires
+    (λ c κs. search needs) line-down-requires (λ c. search needs) returns-3)

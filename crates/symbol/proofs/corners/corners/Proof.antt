@@ -1,6 +1,5 @@
 -- `corners` meets its contract.
 use Rattle.general.proofs.Names.{_*_, _≤_, length, zero-mul, arith, needs}
-use Rattle.symbol.specs.Inner.{cornerKind}
 use Rattle.symbol.proofs.CornerRows.{edge-top, edge-bottom, row-room, all-blank, upper-arm, lower-arm, middle-rows, corners-stored}
 use Rattle.symbol.proofs.corners.corners.Tie as tie
 
@@ -9,7 +8,7 @@ finder-lines-requires c κs =
     let start = c .before .before .before .before .before .before in
     let s = start .args .side in
     let run = c .before .before .before .run in
-    let blank = all-blank (cornerKind s) (s * s) (0 * s) (zero-mul s) (run .ensures) in
+    let blank = all-blank _ _ (0 * s) (zero-mul s) (run .ensures) in
     let long : s * s ≤ length (run .last .0) = omega arith in
     (start .pre .0, start .pre .1, long, omega arith, omega arith, (λ r h k. omega (arith, edge-top s r)), blank)
 
@@ -18,7 +17,7 @@ information-line-requires c κs =
     let start = c .before .before .before .before .before .before .before .before .before .before in
     let upper = c .before .before .before .finder-lines in
     let long : start .args .side * start .args .side ≤ length (upper .last .0) = omega arith in
-    (row-room (start .pre .0) (start .pre .1) long (omega arith), upper-arm (start .args .side) (start .pre .0))
+    (row-room (start .pre .0) (start .pre .1) long (omega arith), upper-arm _ (start .pre .0))
 
 information-line-requires-2 : tie.Need-information-line-requires-2
 information-line-requires-2 c κs =
@@ -26,7 +25,7 @@ information-line-requires-2 c κs =
     let arm = c .before .before .before .information-line in
     let s = start .args .side in
     let long : s * s ≤ length (arm .last .0) = omega arith in
-    (row-room (start .pre .0) (start .pre .1) long (omega arith), lower-arm (start .args .side) (start .pre .0))
+    (row-room (start .pre .0) (start .pre .1) long (omega arith), lower-arm _ (start .pre .0))
 
 finder-lines-requires-2 : tie.Need-finder-lines-requires-2
 finder-lines-requires-2 c κs =
@@ -48,7 +47,7 @@ returns c =
     let arm = c .before .before .before .before .before .before .before .before .before .before .information-line in
     let lower = c .before .before .finder-lines2 .ensures in
     let arm2 = c .before .before .before .before .before .before .information-line2 in
-    let middle = middle-rows (start .args .side) (start .pre .0) (upper .ensures) (arm .ensures) (arm2 .ensures) in
+    let middle = middle-rows _ (start .pre .0) (upper .ensures) (arm .ensures) (arm2 .ensures) in
     corners-stored (run .ensures) (middle .1) (lower .1) (lower .0)
 
 pub corners-spec : {M : Type 1} → Rattle.symbol.proofs.corners.corners.Statement.statement M

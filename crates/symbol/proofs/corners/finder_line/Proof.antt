@@ -9,7 +9,7 @@ returns c =
     let room = start .pre .0 in
     let left = c .before .before .before .before .before .before .before .before .before .finder-row in
     let right = c .before .before .before .before .before .before .before .before .finder-row2 in
-    finder-row (start .args .side) (start .args .row) (room .big) (room .inside) (left .result) (right .result) (start .pre .1)
+    finder-row _ (start .args .row) (room .big) (room .inside) (left .result) (right .result) (start .pre .1)
     (left .ensures) (right .ensures) (room .room)
     (c .before .before .before .before .before .before .modules .ensures) (c .before .before .modules2 .ensures)
 

@@ -18,7 +18,7 @@ finder-line-requires c κs =
     let test = c .before .loop-test .taken in
     let long : start .args .side * start .args .side ≤ length (loop .out) = omega arith in
     let l : loop .row < start .args .side = omega arith in
-    (row-room (start .pre .0) (start .pre .1) long l, start .pre .5 (loop .row) (loop .inv .2) test)
+    (row-room (start .pre .0) (start .pre .1) long l, start .pre .5 _ (loop .inv .2) test)
 
 loop-again : tie.Need-loop-again Inv-loop μ-loop
 loop-again c =
@@ -26,7 +26,7 @@ loop-again c =
     let loop = c .before .before .before .before .before .loop in
     let line = c .before .before .finder-line in
     let l : loop .row < start .args .side = omega arith in
-    let p = row-more (start .args .side) (loop .row) (start .pre .0) l (loop .inv .0, loop .inv .1) (line .ensures) in
+    let p = row-more _ _ (start .pre .0) l (loop .inv .0, loop .inv .1) (line .ensures) in
     (p .0, p .1, omega arith, omega arith)
 
 returns : tie.Need-returns Inv-loop μ-loop

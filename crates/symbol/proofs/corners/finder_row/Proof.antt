@@ -9,7 +9,7 @@ returns c =
       c .finder-at .ensures .1,
       (
         λ l. c .finder-at .ensures .0
-            ∙ sym (upper-row (start .args .side) (start .args .right) (start .args .row)
+            ∙ sym (upper-row _ _ (start .args .row)
             (c .before .if1 .taken)),
         λ e. absurd (omega (arith, edge-top (start .args .side) (start .args .row))),
       ),
@@ -21,18 +21,14 @@ returns-2 c =
       c .finder-at2 .ensures .1,
       (
         λ l. c .finder-at2 .ensures .0
-            ∙ sym (lower-row (start .args .side) (start .args .right) (start .args .row)
+            ∙ sym (lower-row _ _ (start .args .row)
             (c .before .before .if1 .left)),
         λ e. absurd (omega (arith, edge-bottom (start .args .side) (start .args .row))),
       ),
     )
 
-returns-3 : tie.Need-returns-3
-returns-3 c =
-    let start = c .before .before in
-    (omega arith, (λ l. absurd (omega (arith, edge-low (start .args .side) (start .args .row) 7 l (c .before .if1 .left))), λ e. refl))
-
 pub finder-row-spec : {M : Type 1} → Rattle.symbol.proofs.corners.finder_row.Statement.statement M
 finder-row-spec =
     tie.close (tie.spec (λ c. search needs) (λ c κs. search needs) returns (λ c. search needs) (λ c. search needs) (λ c. search needs)
-    (λ c. search needs) (λ c. search needs) (λ c κs. search needs) returns-2 returns-3)
+    (λ c. search needs) (λ c. search needs) (λ c κs. search needs) returns-2
+    (λ c. (omega arith, (λ l. absurd (omega (arith, edge-low _ _ 7 l (c .before .if1 .left))), λ e. refl))))

@@ -7,7 +7,7 @@ returns : tie.Need-returns
 returns c =
     let start = c .before .before .before .before .before .before .before .before .before in
     let run = c .before .before .before .before .before .before .run in
-    information-row (start .args .side) (start .args .row) (start .pre .0 .big) (start .pre .0 .inside) (start .pre .1) (run .ensures)
+    information-row _ _ (start .pre .0 .big) (start .pre .0 .inside) (start .pre .1) (run .ensures)
     (c .before .before .run2 .ensures)
 
 pub information-line-spec : {M : Type 1} → Rattle.symbol.proofs.corners.information_line.Statement.statement M

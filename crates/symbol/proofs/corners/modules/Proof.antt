@@ -5,8 +5,8 @@ use Rattle.symbol.proofs.corners.modules.Tie as tie
 
 returns : tie.Need-returns
 returns c =
-    stored-eight (c .before .before .before .before .before .before .before .before .before .before .before .args .bits)
-    (c .before .before .before .before .before .before .before .before .before .before .before .args .at) _ _ (omega arith)
+    stored-eight _
+    _ _ _ (omega arith)
     (c .before .before .before .before .before .before .before .before .four-modules .ensures) (c .before .before .before .four-modules2 .ensures)
     (c .before .before .before .before .before .before .before .put-four .ensures) (c .before .before .put-four2 .ensures)
 

@@ -10,9 +10,6 @@ Inv-loop out₀ from to kind i₀ out i = Stored (λ i. kind) from i out₀ out 
 abbrev μ-loop : tie.MeasureT-loop
 μ-loop out₀ from to kind i₀ out i = to - i
 
-loop-again : tie.Need-loop-again Inv-loop μ-loop
-loop-again c = (stored-more (c .before .loop .inv .1) (omega arith) refl (c .before .loop .inv .0), omega arith, omega arith)
-
 returns : tie.Need-returns Inv-loop μ-loop
 returns c =
     let start = c .before .before in
@@ -23,4 +20,5 @@ returns c =
 pub run-spec : {M : Type 1} → Rattle.symbol.proofs.corners.run.Statement.statement M
 run-spec =
     tie.close (tie.spec Inv-loop μ-loop (λ c. (stored-none _ _ _, omega arith, omega arith)) (λ c. omega arith) (λ c. omega arith) (λ c. omega arith)
-    loop-again (λ c. c .before .loop .inv .0 .size) returns)
+    (λ c. (stored-more (c .before .loop .inv .1) (omega arith) refl (c .before .loop .inv .0), omega arith, omega arith))
+    (λ c. c .before .loop .inv .0 .size) returns)

@@ -10,10 +10,6 @@ Inv-loop kinds n count₀ i₀ count i = (i ≤ n) × (count ≡ dataModules (ta
 abbrev μ-loop : tie.MeasureT-loop
 μ-loop kinds n count₀ i₀ count i = n - i
 
-loop-holds : tie.Need-loop-holds Inv-loop μ-loop
-unfolding dataModules
-loop-holds c = (omega arith, refl)
-
 add-count : tie.Need-add-count Inv-loop μ-loop
 add-count c =
     let kinds = c .before .before .before .before .before .args .kinds .now in
@@ -26,6 +22,7 @@ returns c =
     let e : loop .i ≡ start .args .n = omega arith in loop .inv .1 ∙ ap (λ (k : ℕ). dataModules (take k (start .args .kinds .now))) e
 
 pub data-modules-spec : {M : Type 1} → Rattle.symbol.proofs.counting.data_modules.Statement.statement M
+unfolding dataModules
 data-modules-spec =
-    tie.close (tie.spec Inv-loop μ-loop loop-holds (λ c κs. search needs) (λ c κs. search needs) (λ c. search needs) add-count
+    tie.close (tie.spec Inv-loop μ-loop (λ c. (omega arith, refl)) (λ c κs. search needs) (λ c κs. search needs) (λ c. search needs) add-count
     (λ c. omega arith) (λ c. (omega arith, omega arith)) returns)

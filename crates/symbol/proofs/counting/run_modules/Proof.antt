@@ -14,9 +14,9 @@ loop-again : tie.Need-loop-again Inv-loop μ-loop
 loop-again c =
     let start = c .before .before .before .before .before in
     let loop = c .before .before .before .loop in
-    let more : dataModules (take (start .args .from) (start .args .kinds .now)) + loop .count + c .data-module .result ≡ dataModules
-    (take (loop .i + 1) (start .args .kinds .now)) =
-    modules-more (start .args .kinds .now) (start .args .to) (loop .i) _ (c .data-module .result) (start .pre .2)
+    let more : dataModules _ + loop .count + c .data-module .result ≡ dataModules
+    _ =
+    modules-more _ _ _ _ _ (start .pre .2)
     (c .before .before .loop-test .taken) (c .data-module .ensures .0) (loop .inv .2) in
     (omega arith, omega arith, omega (arith, more))
 

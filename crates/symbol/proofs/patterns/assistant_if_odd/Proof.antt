@@ -6,7 +6,7 @@ use Rattle.symbol.proofs.Plots.{heard, odd-one, even-none}
 use Rattle.symbol.proofs.patterns.assistant_if_odd.Tie as tie
 
 returns : tie.Need-returns
-returns c = let start = c .before .before in even-none (start .args .n) (start .args .x) (start .args .y) (c .if1 .taken)
+returns c = let start = c .before .before in even-none _ _ _ (c .if1 .taken)
 
 assistant-requires : tie.Need-assistant-requires
 assistant-requires c κs =

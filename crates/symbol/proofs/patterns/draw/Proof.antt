@@ -14,7 +14,7 @@ loop-again : tie.Need-loop-again Inv-loop μ-loop
 loop-again c =
     let loop = c .before .before .before .loop in
     let kind = c .before .before .before .before .before .args .kind in (
-      stored-more (loop .inv .1) (omega arith) (c .drawn .ensures ∙ ap (λ (a : ℕ). drawn a kind) (loop .inv .0 .after (loop .i) (omega arith)))
+      stored-more (loop .inv .1) (omega arith) (c .drawn .ensures ∙ ap (λ (a : ℕ). drawn a kind) (loop .inv .0 .after _ (omega arith)))
           (loop .inv .0),
       omega arith,
       omega arith,

@@ -16,10 +16,6 @@ Inv-loop grid₀ side x y height i₀ grid i = Turned side (λ n. lineModule (to
 abbrev μ-loop : tie.MeasureT-loop
 μ-loop grid₀ side x y height i₀ grid i = height - 1 - i
 
-add-line-module-2 : tie.Need-add-line-module-2 Inv-loop μ-loop
-add-line-module-2 c =
-    let o = c .before .before .before .before in forth-fits (c .before .before .loop .i + 1) (o .fits .y) (omega arith) (omega arith)
-
 line-module-requires : tie.Need-line-module-requires Inv-loop μ-loop
 line-module-requires c κs =
     let o = c .before .before .before .before in
@@ -47,4 +43,5 @@ returns c =
 pub edge-down-spec : {M : Type 1} → Rattle.symbol.proofs.patterns.edge_down.Statement.statement M
 edge-down-spec =
     tie.close (tie.spec Inv-loop μ-loop (λ c. begun) (λ c. omega arith) (λ c. omega arith) (λ c. small _ (omega arith))
-    add-line-module-2 line-module-requires (λ c. omega arith) (λ c. omega arith) loop-again (λ c. c .before .loop .inv .kept) returns)
+    (λ c. forth-fits (c .before .before .loop .i + 1) (c .before .before .before .before .fits .y) (omega arith) (omega arith)) line-module-requires
+    (λ c. omega arith) (λ c. omega arith) loop-again (λ c. c .before .loop .inv .kept) returns)

@@ -19,7 +19,7 @@ module _ (s : tie.Start) where
   row = inside (s .fits .y) (s .pre .3) .within
 
   at : Here (s .args .side) (natAbs (toZ w64 (ofZ w64 (s .args .x)))) (natAbs (toZ w64 (ofZ w64 (s .args .y)))) column row (length (s .args .grid .now))
-  at = here (s .args .side) _ _ column row (length (s .args .grid .now)) (s .pre .0) (s .pre .1)
+  at = here _ _ _ column row _ (s .pre .0) (s .pre .1)
 
 draw-requires : tie.Need-draw-requires
 draw-requires c κs = let h = at (c .before .before .before) in (omega arith, omega arith)
@@ -32,12 +32,6 @@ returns c =
     (two-runs (start .args .side) _ _ (column start) (row start) (start .args .width) _ 0 0
     (start .pre .1) (least .0) (least .1) (least .2) (omega arith) (λ p a b. absurd (omega arith)) (λ p j a b d e. absurd (omega arith))
     (c .before .before .before .draw .ensures) (stored-none _ 0 _))
-
-draw-requires-2 : tie.Need-draw-requires-2
-draw-requires-2 c κs =
-    let b = at (c .before .before .before .before .before .before .before .before .before) .below
-    (omega arith) in
-    (omega arith, omega arith)
 
 returns-2 : tie.Need-returns-2
 returns-2 c =
@@ -57,10 +51,10 @@ pub line-left-spec : {M : Type 1} → Rattle.symbol.proofs.patterns.lin
 line-left-spec =
     tie.close (tie.spec (λ c. cast-inside (c .before .fits .x) (c .before .pre .2) (c .before .pre .0))
     (λ c. cast-inside (c .before .fits .y) (c .before .pre .3) (c .before .pre .0)) (λ c. omega (arith, at (c .before) .fits))
-    (λ c. omega (arith, at (c .before) .fits)) (λ c κs. search needs) (λ c. omega arith)
-    (λ c. omega (arith, at (c .before .before .before) .fits)) draw-requires
-    (λ c. omega (arith, row (c .before .before .before .before .before .before))) (λ c. search needs) returns
-    (λ c. omega (arith, at (c .before .before .before .before .before .before .before .before) .below (omega arith) .1))
-    (λ c. search needs) (λ c κs. search needs) (λ c. omega arith)
+    (λ c. omega (arith, at (c .before) .fits)) (λ c κs. search needs) (λ c. omega arith) (λ c. omega (arith, at (c .before .before .before) .fits))
+    draw-requires (λ c. omega (arith, row (c .before .before .before .before .before .before))) (λ c. search needs) returns
+    (λ c. omega (arith, at (c .before .before .before .before .before .before .before .before) .below (omega arith) .1)) (λ c. search needs)
+    (λ c κs. search needs) (λ c. omega arith)
     (λ c. omega (arith, at (c .before .before .before .before .before .before .before .before .before) .below (omega arith) .1))
-    draw-requires-2 (λ c. search needs) returns-2)
+    (λ c κs. let b = at (c .before .before .before .before .before .before .before .before .before) .below (omega arith) in (omega arith, omega arith))
+    (λ c. search needs) returns-2)

@@ -11,7 +11,7 @@ module _ (s : tie.Start) where
   outside : s .args .side * s .args .side ≡ placeAt (s .args .side) (s .args .x) (s .args .y)
       → Plotted (s .args .side) (plot (s .args .x) (s .args .y) (s .args .kind) ∷ []) (s .args .grid .now) (s .args .grid .now)
   unfolding plotAll
-  outside e = record { is = plot-out (s .args .side) (s .args .x) (s .args .y) (s .args .kind) (s .args .grid .now) _ e (omega arith) }
+  outside e = record { is = plot-out _ _ _ _ _ _ e (omega arith) }
 
 returns : tie.Need-returns
 returns c = let start = c .before .before in outside start (place-left _ _ _ (below-zero true (start .fits .x) (c .if1 .taken)))
@@ -20,8 +20,7 @@ returns-2 : tie.Need-returns-2
 returns-2 c = let start = c .before .before .before in outside start (place-above _ _ _ (below-zero true (start .fits .y) (c .if2 .taken)))
 
 returns-3 : tie.Need-returns-3
-returns-3 c =
-    let start = c .before .before .before .before in outside start (right-of _ _ _ (start .fits .x) (start .fits .y) (c .if3 .taken))
+returns-3 c = let start = c .before .before .before .before in outside start (right-of _ _ _ (start .fits .x) (start .fits .y) (c .if3 .taken))
 
 returns-4 : tie.Need-returns-4
 returns-4 c =
@@ -42,5 +41,4 @@ returns-5 c =
     numbered (λ x y. plot x y (start .args .kind) ∷ []) (start .fits .x) (start .fits .y) x-is y-is (c .before .before .plot-at .ensures)
 
 pub plot-spec : {M : Type 1} → Rattle.symbol.proofs.patterns.plot.Statement.statement M
-plot-spec =
-    tie.close (tie.spec returns returns-2 cast-column cast-row returns-3 returns-4 (λ c κs. search needs) (λ c. search needs) returns-5)
+plot-spec = tie.close (tie.spec returns returns-2 cast-column cast-row returns-3 returns-4 (λ c κs. search needs) (λ c. search needs) returns-5)

@@ -12,10 +12,10 @@ module _ (s : tie.Start) where
   inside = digits-lt (s .pre .3) (s .pre .2)
 
   small : s .args .row * s .args .side + s .args .column < 35721
-  small = omega (arith, inside, square-le (s .args .side) (s .pre .0))
+  small = omega (arith, inside, square-le _ (s .pre .0))
 
   place : s .args .row * s .args .side + s .args .column ≡ placeAt (s .args .side) (pos (s .args .column)) (pos (s .args .row))
-  place = sym (whole-in (s .args .side) (s .args .column) (s .args .row) (s .pre .2) (s .pre .3))
+  place = sym (whole-in (s .args .side) _ _ (s .pre .2) (s .pre .3))
 
 returns : tie.Need-returns
 unfolding plotAll
