@@ -15,7 +15,7 @@ pub enum Word {
 }
 
 // A byte as a number.
-pub fn wide(x: u8) -> usize
+pub fn as_usize(x: u8) -> usize
     ensures { λ r. ⌜ (r ≡ x) × (r < 256) ⌝ }
 {
     x as usize
@@ -26,7 +26,7 @@ pub fn bit(s: &[u8], at: usize) -> usize
     requires { ⌜ at < 8 * length (now s) ⌝ }
     ensures { λ r. ⌜ r ≡ getD (bitsOf (now (s .entry))) at 0 ⌝ }
 {
-    wide((s[at / 8] >> (7 - at % 8)) & 1)
+    as_usize((s[at / 8] >> (7 - at % 8)) & 1)
 }
 
 // The number that n bits say, near the end of the bytes: the bytes that hold them, as one number.
@@ -40,7 +40,7 @@ fn read_last(s: &[u8], at: usize, n: usize) -> Word
     let mut v: usize = 0;
     let mut i: usize = first;
     while i < last {
-        v = v * 256 + wide(s[i]);
+        v = v * 256 + as_usize(s[i]);
         i += 1;
     }
     Word::Value((v >> (8 * last - end)) % (1 << n))
@@ -53,7 +53,8 @@ pub fn read_bits(s: &[u8], at: usize, n: usize) -> Word
 {
     let i = at / 8;
     if 4 <= s.len() - i {
-        let v = ((wide(s[i]) * 256 + wide(s[i + 1])) * 256 + wide(s[i + 2])) * 256 + wide(s[i + 3]);
+        let v = ((as_usize(s[i]) * 256 + as_usize(s[i + 1])) * 256 + as_usize(s[i + 2])) * 256
+            + as_usize(s[i + 3]);
         return Word::Value((v >> (32 - at % 8 - n)) % (1 << n));
     }
     if s.len() * 8 < at + n {
@@ -108,7 +109,7 @@ pub fn write_bits(buf: &mut [u8], at: usize, n: usize, v: usize)
         return;
     }
     let r = at % 8;
-    let old = wide(buf[i]);
+    let old = as_usize(buf[i]);
     let before = old - old % (1 << (8 - r));
     store_four(buf, i, before * 16777216 + ((v % (1 << n)) << (32 - r - n)));
 }

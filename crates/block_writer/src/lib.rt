@@ -8,13 +8,13 @@ ghost use lib.ListN.{length, drop};
 ghost use Rattle.block_table.specs.Blocks.{batch, shapes, totalSize, totalData, rowHolds};
 ghost use Rattle.block_table.specs.Inner.{Sound};
 ghost use Rattle.blocks.specs.Blockwise.{streamOf};
-ghost use Rattle.blocks.specs.Inner.{blocksIn, writing, poured, Room};
+ghost use Rattle.blocks.specs.Inner.{blocksIn, writing, transferred, TransferRoom};
 use blocks::Batch;
 
 // The blocks of a batch, the first at `to`, of the data from `from` on. The table for their parity is made once for all of them.
 fn write_many(stream: &mut [u8], to: usize, data: &[u8], from: usize, b: Batch)
-    requires { ⌜ Sound (blocksIn b) × Room writing (blocksIn b) to from (now «data») (now stream) ⌝ }
-    ensures { λ _. ⌜ now (stream .exit) ≡ poured writing (blocksIn b) to from (now («data» .entry)) (now (stream .entry)) ⌝ }
+    requires { ⌜ Sound (blocksIn b) × TransferRoom writing (blocksIn b) to from (now «data») (now stream) ⌝ }
+    ensures { λ _. ⌜ now (stream .exit) ≡ transferred writing (blocksIn b) to from (now («data» .entry)) (now (stream .entry)) ⌝ }
 {
     if b.count == 0 {
         return;
@@ -37,7 +37,7 @@ fn write_many(stream: &mut [u8], to: usize, data: &[u8], from: usize, b: Batch)
 // The only block of a batch, which is short.
 fn write_one(stream: &mut [u8], to: usize, data: &[u8], from: usize, b: Batch)
     requires { ⌜ (0 < b .info) × (b .info + b .parity ≤ 255) × (to + (b .info + b .parity) ≤ length (now stream)) × (from + b .info ≤ length (now «data»)) ⌝ }
-    ensures { λ _. ⌜ now (stream .exit) ≡ poured writing (batch 1 (b .info) (b .parity)) to from (now («data» .entry)) (now (stream .entry)) ⌝ }
+    ensures { λ _. ⌜ now (stream .exit) ≡ transferred writing (batch 1 (b .info) (b .parity)) to from (now («data» .entry)) (now (stream .entry)) ⌝ }
 {
     let end = to + (b.info + b.parity);
     blocks::copy(stream, to, data, from, b.info);
@@ -47,8 +47,8 @@ fn write_one(stream: &mut [u8], to: usize, data: &[u8], from: usize, b: Batch)
 // The blocks of a batch, the first at `to`, of the data from `from` on.
 fn write_batch(stream: &mut [u8], to: usize, data: &[u8], from: usize, b: Batch)
     requires { ⌜ (b .info ≤ 255) × (b .parity ≤ 255) × Sound (blocksIn b)
-        × Room writing (blocksIn b) to from (now «data») (now stream) ⌝ }
-    ensures { λ _. ⌜ now (stream .exit) ≡ poured writing (blocksIn b) to from (now («data» .entry)) (now (stream .entry)) ⌝ }
+        × TransferRoom writing (blocksIn b) to from (now «data») (now stream) ⌝ }
+    ensures { λ _. ⌜ now (stream .exit) ≡ transferred writing (blocksIn b) to from (now («data» .entry)) (now (stream .entry)) ⌝ }
 {
     if blocks::is_one_short(b) {
         write_one(stream, to, data, from, b);

@@ -5,21 +5,21 @@ use Rattle.block_table.specs.Blocks.{Shape, totalSize, rowHolds, joined}
 use Rattle.block_table.proofs.Rows.{row-sound}
 use Rattle.blocks.specs.declared.Blocks.{Blocks}
 use Rattle.blocks.specs.Blockwise.{firstRefused, countOf, blocksOf, corrected, leftOf, numberOf, correctionsOf}
-use Rattle.blocks.specs.Inner.{Pass, Corrects}
+use Rattle.blocks.specs.Inner.{StreamOutcome, Corrects}
 use Rattle.blocks.proofs.Rule.{corrected-front}
-use Rattle.blocks.proofs.Corrects.{told, passed-is}
+use Rattle.blocks.proofs.Corrects.{answerFrom, outcome-is}
 use Rattle.blocks.proofs.Theorems.{zero-or-six, left-accepted}
 
-told-number : (k n : ℕ) → (k ≡ 0) ⊎ (k ≡ 6) → numberOf (told k n) ≡ k
+answer-from-number : (k n : ℕ) → (k ≡ 0) ⊎ (k ≡ 6) → numberOf (answerFrom k n) ≡ k
 unfolding numberOf
-told-number zero n h = refl
-told-number (suc k) n (inl e) = absurd (omega arith)
-told-number (suc k) n (inr e) = sym e
+answer-from-number zero n h = refl
+answer-from-number (suc k) n (inl e) = absurd (omega arith)
+answer-from-number (suc k) n (inr e) = sym e
 
-told-count : (k n : ℕ) → k ≡ 0 → correctionsOf (told k n) ≡ n
+answer-from-count : (k n : ℕ) → k ≡ 0 → correctionsOf (answerFrom k n) ≡ n
 unfolding correctionsOf
-told-count zero n e = refl
-told-count (suc k) n e = absurd (omega arith)
+answer-from-count zero n e = refl
+answer-from-count (suc k) n e = absurd (omega arith)
 
 pub row-answered : (bs : List Shape) (s s′ : List ℕ) (x : Blocks) → T (rowHolds bs (totalSize bs)) → totalSize bs ≤ length s → Corrects bs 0 s s′ x
     → (numberOf x ≡ firstRefused (corrected bs (take (totalSize bs) s)))
@@ -29,14 +29,14 @@ pub row-answered : (bs : List Shape) (s s′ : List ℕ) (x : Blocks) → T (row
 row-answered bs s s′ x t h C =
     let os = corrected bs s in
     let f = corrected-front bs s h in
-    let q = C .is ∙ passed-is bs 0 s (omega arith) in
-    let answer : x ≡ told (firstRefused os) (countOf os) = ap (λ (p : Pass). p .answer) q in
-    let left : s′ ≡ leftOf bs s = ap (λ (p : Pass). p .stream) q in
+    let q = C .is ∙ outcome-is bs 0 s (omega arith) in
+    let answer : x ≡ answerFrom (firstRefused os) (countOf os) = ap (λ (p : StreamOutcome). p .answer) q in
+    let left : s′ ≡ leftOf bs s = ap (λ (p : StreamOutcome). p .stream) q in
     let z = zero-or-six bs (row-sound bs (totalSize bs) t) (take (totalSize bs) s) (length-take-le (totalSize bs) s h) in
-    let n : numberOf x ≡ firstRefused os = ap numberOf answer ∙ told-number (firstRefused os) (countOf os) (rw f at z) in (
+    let n : numberOf x ≡ firstRefused os = ap numberOf answer ∙ answer-from-number (firstRefused os) (countOf os) (rw f at z) in (
       n ∙ ap firstRefused (sym f),
       λ e. (
-        ap correctionsOf answer ∙ told-count (firstRefused os) (countOf os) (sym n ∙ e) ∙ ap countOf (sym f),
+        ap correctionsOf answer ∙ answer-from-count (firstRefused os) (countOf os) (sym n ∙ e) ∙ ap countOf (sym f),
         left ∙ left-accepted bs s (sym n ∙ e) ∙ ap (λ (l : List BlockOutcome). joined (blocksOf l) ++ drop (totalSize bs) s) (sym f),
       ),
       left,

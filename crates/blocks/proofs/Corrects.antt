@@ -7,14 +7,14 @@ use Rattle.reed_solomon.proofs.Nearest.{some-near}
 use Rattle.corrector.specs.Correct.{BlockOutcome, refusedBlock, settled, correctOf, outcome}
 use Rattle.corrector.specs.declared.Correction.{Correction}
 use Rattle.corrector.specs.declared.Correction.the-variants as Correction
-use Rattle.parity.proofs.Followed.{distance-le}
+use Rattle.parity.proofs.ParityBytes.{distance-le}
 use Rattle.block_table.specs.Blocks.{Shape, size, totalSize, batch, cut, joined}
 use Rattle.block_table.proofs.Rows.{total-append}
 use Rattle.block_table.proofs.Cuts.{Shaped, cut-shaped, length-joined}
 use Rattle.blocks.specs.declared.Blocks.{Blocks}
 use Rattle.blocks.specs.declared.Blocks.the-variants.{Corrected, Refused}
 use Rattle.blocks.specs.Blockwise.{outcomes, firstRefused, countOf, blocksOf, corrected, leftOf, correctionsOf}
-use Rattle.blocks.specs.Inner.{spliced, Pass, answerOf, more, plus, onward, outcomeAt, leftAt, passed, Corrects}
+use Rattle.blocks.specs.Inner.{spliced, StreamOutcome, answerOf, more, addCorrections, onward, outcomeAt, leftAt, outcomeFrom, Corrects}
 use Rattle.blocks.proofs.Splice.{part-back, opened, spliced-front, spliced-behind, spliced-length}
 
 -- ---- one block
@@ -87,57 +87,57 @@ more-more : (n m : ℕ) (r : Blocks) → more n (more m r) ≡ more (n + m) r
 more-more n m (Corrected k) = let e : n + (m + k) ≡ n + m + k = omega arith in ap Corrected e
 more-more n m Refused = refl
 
-plus-zero : (q : Pass) → plus 0 q ≡ q
-plus-zero q = λ i. record { answer = more-zero (q .answer) i; stream = q .stream }
+add-corrections-zero : (q : StreamOutcome) → addCorrections 0 q ≡ q
+add-corrections-zero q = λ i. record { answer = more-zero (q .answer) i; stream = q .stream }
 
 -- an answer that leaves a stream, and what is done with it then
-abbrev follow : Blocks → List ℕ → (List ℕ → Pass) → Pass
-follow (Corrected m) s f = plus m (f s)
+abbrev follow : Blocks → List ℕ → (List ℕ → StreamOutcome) → StreamOutcome
+follow (Corrected m) s f = addCorrections m (f s)
 follow Refused s f = record { answer = Refused; stream = s }
 
-onward-follow : (n c : ℕ) (s : List ℕ) (r : Blocks) (t : List ℕ) (f : List ℕ → Pass)
+onward-follow : (n c : ℕ) (s : List ℕ) (r : Blocks) (t : List ℕ) (f : List ℕ → StreamOutcome)
     → let q = onward n c s (record { answer = r; stream = t }) in onward n c s (follow r t f) ≡ follow (q .answer) (q .stream) f
 onward-follow (suc n) c s r t f = refl
 onward-follow zero c s Refused t f = refl
 onward-follow zero c s (Corrected m) t f = λ i. record { answer = more-more c m (f t .answer) i; stream = f t .stream }
 
-passed-append : (bs cs : List Shape) (a : ℕ) (s : List ℕ)
-    → passed (bs ++ cs) a s ≡ follow (passed bs a s .answer) (passed bs a s .stream) (passed cs (a + totalSize bs))
-unfolding passed totalSize
-passed-append [] cs a s =
-    sym (plus-zero (passed cs a s)) ∙ ap (λ (k : ℕ). plus 0 (passed cs k s)) (sym (add-zero a))
-passed-append (b ∷ bs) cs a s =
+outcome-append : (bs cs : List Shape) (a : ℕ) (s : List ℕ)
+    → outcomeFrom (bs ++ cs) a s ≡ follow (outcomeFrom bs a s .answer) (outcomeFrom bs a s .stream) (outcomeFrom cs (a + totalSize bs))
+unfolding outcomeFrom totalSize
+outcome-append [] cs a s =
+    sym (add-corrections-zero (outcomeFrom cs a s)) ∙ ap (λ (k : ℕ). addCorrections 0 (outcomeFrom cs k s)) (sym (add-zero a))
+outcome-append (b ∷ bs) cs a s =
     let o = outcomeAt b a s in
     let s₁ = leftAt b a s in
-    let q = passed bs (a + size b) s₁ in
+    let q = outcomeFrom bs (a + size b) s₁ in
     let u = onward (o .number) (o .count) s₁ q in
-    ap (onward (o .number) (o .count) s₁) (passed-append bs cs (a + size b) s₁)
-    ∙ onward-follow (o .number) (o .count) s₁ (q .answer) (q .stream) (passed cs (a + size b + totalSize bs))
-    ∙ ap (λ (k : ℕ). follow (u .answer) (u .stream) (passed cs k)) (add-assoc a (size b) (totalSize bs))
+    ap (onward (o .number) (o .count) s₁) (outcome-append bs cs (a + size b) s₁)
+    ∙ onward-follow (o .number) (o .count) s₁ (q .answer) (q .stream) (outcomeFrom cs (a + size b + totalSize bs))
+    ∙ ap (λ (k : ℕ). follow (u .answer) (u .stream) (outcomeFrom cs k)) (add-assoc a (size b) (totalSize bs))
 
 -- ---- what a pass comes to
 
-abbrev pub told : ℕ → ℕ → Blocks
-told zero n = Corrected n
-told (suc k) n = Refused
+abbrev pub answerFrom : ℕ → ℕ → Blocks
+answerFrom zero n = Corrected n
+answerFrom (suc k) n = Refused
 
-onward-told : (n c k m : ℕ) (pre w u t : List ℕ)
-    → onward n c ((pre ++ w) ++ t) (record { answer = told k m; stream = (pre ++ w) ++ u })
-    ≡ record { answer = told (first n k) (c + m); stream = pre ++ (w ++ cond (eqb n 0) u t) }
-onward-told zero c zero m pre w u t = λ i. record { answer = Corrected (c + m); stream = append-assoc pre w u i }
-onward-told zero c (suc k) m pre w u t = λ i. record { answer = Refused; stream = append-assoc pre w u i }
-onward-told (suc n) c k m pre w u t =
+onward-answer : (n c k m : ℕ) (pre w u t : List ℕ)
+    → onward n c ((pre ++ w) ++ t) (record { answer = answerFrom k m; stream = (pre ++ w) ++ u })
+    ≡ record { answer = answerFrom (first n k) (c + m); stream = pre ++ (w ++ cond (eqb n 0) u t) }
+onward-answer zero c zero m pre w u t = λ i. record { answer = Corrected (c + m); stream = append-assoc pre w u i }
+onward-answer zero c (suc k) m pre w u t = λ i. record { answer = Refused; stream = append-assoc pre w u i }
+onward-answer (suc n) c k m pre w u t =
     (λ i. record { answer = Refused; stream = append-assoc pre w t i })
-    ∙ ap (λ (x : Bool). record { answer = told (cond x k (suc n)) (c + m); stream = pre ++ (w ++ cond x u t) }) (sym (eqb·suc-zero n))
+    ∙ ap (λ (x : Bool). record { answer = answerFrom (cond x k (suc n)) (c + m); stream = pre ++ (w ++ cond x u t) }) (sym (eqb·suc-zero n))
 
-pub passed-is : (bs : List Shape) (a : ℕ) (s : List ℕ) → a + totalSize bs ≤ length s
-    → passed bs a s ≡ record {
-      answer = told (firstRefused (corrected bs (drop a s))) (countOf (corrected bs (drop a s)));
+pub outcome-is : (bs : List Shape) (a : ℕ) (s : List ℕ) → a + totalSize bs ≤ length s
+    → outcomeFrom bs a s ≡ record {
+      answer = answerFrom (firstRefused (corrected bs (drop a s))) (countOf (corrected bs (drop a s)));
       stream = take a s ++ leftOf bs (drop a s);
     }
-unfolding passed outcomes cut firstRefused countOf leftOf totalSize zipWith
-passed-is [] a s h = ap (λ (l : List ℕ). record { answer = Corrected 0; stream = l }) (sym (take-append-drop a s))
-passed-is (b ∷ bs) a s h =
+unfolding outcomeFrom outcomes cut firstRefused countOf leftOf totalSize zipWith
+outcome-is [] a s h = ap (λ (l : List ℕ). record { answer = Corrected 0; stream = l }) (sym (take-append-drop a s))
+outcome-is (b ∷ bs) a s h =
     let o = outcomeAt b a s in
     let s₁ = leftAt b a s in
     let t = drop (size b) (drop a s) in
@@ -147,77 +147,77 @@ passed-is (b ∷ bs) a s h =
     let e : drop (a + size b) s₁ ≡ t = spliced-behind a (size b) (o .block) s n room ∙ sym (drop-drop (size b) a s) in
     let f : s₁ ≡ (take a s ++ o .block) ++ t =
     opened a (size b) (o .block) s n room ∙ ap (λ (l : List ℕ). (take a s ++ o .block) ++ l) (sym (drop-drop (size b) a s)) in
-    ap₂ (λ (u : List ℕ) (q : Pass). onward (o .number) (o .count) u q) f
-    (passed-is bs (a + size b) s₁ (omega (arith, spliced-length a (size b) (o .block) s n room))
-    ∙ ap₂ (λ (p u : List ℕ). record { answer = told (firstRefused (corrected bs u)) (countOf (corrected bs u)); stream = p ++ leftOf bs u })
+    ap₂ (λ (u : List ℕ) (q : StreamOutcome). onward (o .number) (o .count) u q) f
+    (outcome-is bs (a + size b) s₁ (omega (arith, spliced-length a (size b) (o .block) s n room))
+    ∙ ap₂ (λ (p u : List ℕ). record { answer = answerFrom (firstRefused (corrected bs u)) (countOf (corrected bs u)); stream = p ++ leftOf bs u })
     (spliced-front a (size b) (o .block) s n room) e)
-    ∙ onward-told (o .number) (o .count) (firstRefused (corrected bs t)) (countOf (corrected bs t)) (take a s) (o .block) (leftOf bs t) t
+    ∙ onward-answer (o .number) (o .count) (firstRefused (corrected bs t)) (countOf (corrected bs t)) (take a s) (o .block) (leftOf bs t) t
 
-told-le : (k n : ℕ) → correctionsOf (told k n) ≤ n
+answer-from-le : (k n : ℕ) → correctionsOf (answerFrom k n) ≤ n
 unfolding correctionsOf
-told-le zero n = omega arith
-told-le (suc k) n = zero-le
+answer-from-le zero n = omega arith
+answer-from-le (suc k) n = zero-le
 
 -- no more corrections than codewords
 pub corrects-le : {bs : List Shape} {a : ℕ} {s s′ : List ℕ} {r : Blocks} → Corrects bs a s s′ r → a + totalSize bs ≤ length s → correctionsOf r ≤ totalSize bs
 corrects-le {bs} {a} {s} {s′} {r} C h =
     omega (
       arith,
-      ap (λ (q : Pass). correctionsOf (q .answer)) (C .is ∙ passed-is bs a s h),
-      told-le (firstRefused (corrected bs (drop a s))) (countOf (corrected bs (drop a s))),
+      ap (λ (q : StreamOutcome). correctionsOf (q .answer)) (C .is ∙ outcome-is bs a s h),
+      answer-from-le (firstRefused (corrected bs (drop a s))) (countOf (corrected bs (drop a s))),
       count-le bs (drop a s),
     )
 
 -- ---- a loop over blocks
 
 -- Where a pass over bs from a on stands: rest is left to do from a′ on, after n corrections.
-pub record Passing (bs : List Shape) (a : ℕ) (s : List ℕ) (rest : List Shape) (a′ n : ℕ) (s′ : List ℕ) : Type 0 where
-  pub same : passed bs a s ≡ plus n (passed rest a′ s′)
+pub record BlocksLeft (bs : List Shape) (a : ℕ) (s : List ℕ) (rest : List Shape) (a′ n : ℕ) (s′ : List ℕ) : Type 0 where
+  pub same : outcomeFrom bs a s ≡ addCorrections n (outcomeFrom rest a′ s′)
   pub size : length s′ ≡ length s
   pub room : a′ + totalSize rest ≤ length s
   pub few : n ≤ a′
 
-pub passing-start : (bs : List Shape) (a : ℕ) (s : List ℕ) → a + totalSize bs ≤ length s → Passing bs a s bs a 0 s
-passing-start bs a s h = record { same = sym (plus-zero (passed bs a s)); size = refl; room = h; few = zero-le }
+pub blocks-left-start : (bs : List Shape) (a : ℕ) (s : List ℕ) → a + totalSize bs ≤ length s → BlocksLeft bs a s bs a 0 s
+blocks-left-start bs a s h = record { same = sym (add-corrections-zero (outcomeFrom bs a s)); size = refl; room = h; few = zero-le }
 
-module _ {bs : List Shape} {a : ℕ} {s : List ℕ} {rest : List Shape} {a′ n : ℕ} {s′ : List ℕ} (P : Passing bs a s rest a′ n s′)
+module _ {bs : List Shape} {a : ℕ} {s : List ℕ} {rest : List Shape} {a′ n : ℕ} {s′ : List ℕ} (P : BlocksLeft bs a s rest a′ n s′)
     (cs ds : List Shape) (e : rest ≡ cs ++ ds) where
-  pub passing-room : a′ + totalSize cs + totalSize ds ≤ length s
-  passing-room = omega (arith, ap totalSize e, total-append cs ds)
+  pub blocks-left-room : a′ + totalSize cs + totalSize ds ≤ length s
+  blocks-left-room = omega (arith, ap totalSize e, total-append cs ds)
 
-  whole : {s″ : List ℕ} {r : Blocks} → Corrects cs a′ s′ s″ r → passed bs a s ≡ plus n (follow r s″ (passed ds (a′ + totalSize cs)))
+  whole : {s″ : List ℕ} {r : Blocks} → Corrects cs a′ s′ s″ r → outcomeFrom bs a s ≡ addCorrections n (follow r s″ (outcomeFrom ds (a′ + totalSize cs)))
   whole C =
       P .same
-      ∙ ap (plus n) (ap (λ (l : List Shape). passed l a′ s′) e ∙ passed-append cs ds a′ s′
-      ∙ ap (λ (q : Pass). follow (q .answer) (q .stream) (passed ds (a′ + totalSize cs))) (sym (C .is)))
+      ∙ ap (addCorrections n) (ap (λ (l : List Shape). outcomeFrom l a′ s′) e ∙ outcome-append cs ds a′ s′
+      ∙ ap (λ (q : StreamOutcome). follow (q .answer) (q .stream) (outcomeFrom ds (a′ + totalSize cs))) (sym (C .is)))
 
-  pub passing-next : {s″ : List ℕ} {r : Blocks} (m a″ : ℕ) → Corrects cs a′ s′ s″ r → r ≡ Corrected m → length s″ ≡ length s′
-      → a″ ≡ a′ + totalSize cs → Passing bs a s ds a″ (n + m) s″
+  pub blocks-left-next : {s″ : List ℕ} {r : Blocks} (m a″ : ℕ) → Corrects cs a′ s′ s″ r → r ≡ Corrected m → length s″ ≡ length s′
+      → a″ ≡ a′ + totalSize cs → BlocksLeft bs a s ds a″ (n + m) s″
   unfolding correctionsOf
-  passing-next {s″} {r} m a″ C f k l = record {
+  blocks-left-next {s″} {r} m a″ C f k l = record {
     same =
-        whole C ∙ ap₂ (λ (x : Blocks) (y : ℕ). plus n (follow x s″ (passed ds y))) f (sym l)
-        ∙ (λ i. record { answer = more-more n m (passed ds a″ s″ .answer) i; stream = passed ds a″ s″ .stream });
+        whole C ∙ ap₂ (λ (x : Blocks) (y : ℕ). addCorrections n (follow x s″ (outcomeFrom ds y))) f (sym l)
+        ∙ (λ i. record { answer = more-more n m (outcomeFrom ds a″ s″ .answer) i; stream = outcomeFrom ds a″ s″ .stream });
     size = k ∙ P .size;
-    room = omega (arith, passing-room);
-    few = omega (arith, ap correctionsOf f, corrects-le C (omega (arith, passing-room, P .size)));
+    room = omega (arith, blocks-left-room);
+    few = omega (arith, ap correctionsOf f, corrects-le C (omega (arith, blocks-left-room, P .size)));
   }
 
-  pub passing-stop : {s″ : List ℕ} {r : Blocks} → Corrects cs a′ s′ s″ r → r ≡ Refused → Corrects bs a s s″ Refused
-  passing-stop {s″} C f = record { is = sym (whole C ∙ ap (λ (x : Blocks). plus n (follow x s″ (passed ds (a′ + totalSize cs)))) f) }
+  pub blocks-left-stop : {s″ : List ℕ} {r : Blocks} → Corrects cs a′ s′ s″ r → r ≡ Refused → Corrects bs a s s″ Refused
+  blocks-left-stop {s″} C f = record { is = sym (whole C ∙ ap (λ (x : Blocks). addCorrections n (follow x s″ (outcomeFrom ds (a′ + totalSize cs)))) f) }
 
-pub passing-end : {bs : List Shape} {a : ℕ} {s : List ℕ} {rest : List Shape} {a′ n : ℕ} {s′ : List ℕ} → Passing bs a s rest a′ n s′ → rest ≡ []
+pub blocks-left-end : {bs : List Shape} {a : ℕ} {s : List ℕ} {rest : List Shape} {a′ n : ℕ} {s′ : List ℕ} → BlocksLeft bs a s rest a′ n s′ → rest ≡ []
     → Corrects bs a s s′ (Corrected n)
-unfolding passed
-passing-end {a′ = a′} {n = n} {s′ = s′} P e = record {
-  is = sym (P .same ∙ ap (λ (l : List Shape). plus n (passed l a′ s′)) e ∙ ap (λ (k : ℕ). record { answer = Corrected k; stream = s′ }) (add-zero n));
+unfolding outcomeFrom
+blocks-left-end {a′ = a′} {n = n} {s′ = s′} P e = record {
+  is = sym (P .same ∙ ap (λ (l : List Shape). addCorrections n (outcomeFrom l a′ s′)) e ∙ ap (λ (k : ℕ). record { answer = Corrected k; stream = s′ }) (add-zero n));
 }
 
 -- ---- one block, as the corrector leaves it
 
 pub one-corrects : (d p a e : ℕ) (s xs : List ℕ) (c : Correction) (r : Blocks) → e ≡ a + (d + p) → r ≡ answerOf c
     → outcome c xs ≡ correctOf 0x163 1 p (take (e - a) (drop a s)) → Corrects (batch 1 d p) a s (take a s ++ (xs ++ drop (e - a) (drop a s))) r
-unfolding passed batch answerOf outcome refusedBlock
+unfolding outcomeFrom batch answerOf outcome refusedBlock
 one-corrects d p a e s xs c r h f g = record {
   is =
       ap₂ (λ (x : Blocks) (y : List ℕ). record { answer = x; stream = y }) f (part-back a (d + p) e s xs h)
@@ -226,7 +226,7 @@ one-corrects d p a e s xs c r h f g = record {
       (g ∙ (let n : e - a ≡ d + p = omega arith in ap (λ (k : ℕ). correctOf 0x163 1 p (take k (drop a s))) n));
 }
   where
-    after : BlockOutcome → Pass
+    after : BlockOutcome → StreamOutcome
     after o = let s₁ = spliced a (d + p) (o .block) s in onward (o .number) (o .count) s₁ (record { answer = Corrected 0; stream = s₁ })
 
     go : (c : Correction) → record { answer = answerOf c; stream = spliced a (d + p) xs s } ≡ after (outcome c xs)

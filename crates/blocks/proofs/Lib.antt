@@ -2,8 +2,8 @@
 pub mod Splice
 pub mod Rule
 pub mod Corrects
-pub mod Pours
-pub mod Settle
+pub mod Transfers
+pub mod RefusedStreams
 pub mod Written
 pub mod Theorems
 pub mod Answers

@@ -13,7 +13,7 @@ use Rattle.blocks.specs.Blockwise.{firstRefused, countOf, blocksOf, corr
 use Rattle.blocks.specs.Blockwise.{parityAt}
 use Rattle.blocks.proofs.Corrects.{block-facts, blocks-shaped, joined-size, left-behind}
 use Rattle.blocks.proofs.Rule.{cut-front}
-use Rattle.blocks.proofs.Settle.{Coded, lost-refused, each-settled, either, coded-shaped, coded-each}
+use Rattle.blocks.proofs.RefusedStreams.{Coded, lost-refused, each-settled, either, coded-shaped, coded-each}
 use Rattle.blocks.proofs.Written.{encoded-coded, joined-bytes}
 use Rattle.blocks.specs.Inner.{correctedData}
 

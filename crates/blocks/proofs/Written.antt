@@ -1,16 +1,16 @@
 -- The blocks that are written: codewords that begin with their data. Assumes nothing.
 use Rattle.general.proofs.Names.{_≡_, sym, ap, ap₂, subst, _∙_, List, [], _∷_, flatMap, zipWith, ℕ, _+_, _≤_, arith, T, length, take, drop, length-append}
 use Rattle.general.proofs.Names.{length-drop, take-at, getD-drop, length-take-le}
-use Rattle.field.proofs.Instances.{passes-163}
+use Rattle.field.proofs.Instances.{primitive-163}
 use Rattle.reed_solomon.specs.Block.{isCodeword, parityOf}
 use Rattle.reed_solomon.proofs.Search.{Bytes}
-use Rattle.parity.proofs.Followed.{append-bytes, take-bytes}
+use Rattle.parity.proofs.ParityBytes.{append-bytes, take-bytes}
 use Rattle.parity.proofs.Theorems.{has-parity, parity-makes-codeword}
 use Rattle.block_table.specs.Blocks.{Shape, size, totalData, joined, cutData}
 use Rattle.block_table.specs.Inner.{Sound, more}
 use Rattle.block_table.proofs.Cuts.{Begins}
 use Rattle.blocks.specs.Blockwise.{withParities}
-use Rattle.blocks.proofs.Settle.{Coded}
+use Rattle.blocks.proofs.RefusedStreams.{Coded}
 use Rattle.parity.specs.Inner.{withParity}
 
 pub drop-bytes : (k : ℕ) (xs : List ℕ) → Bytes xs → Bytes (drop k xs)
@@ -21,11 +21,11 @@ block-written : (b : Shape) (d : List ℕ) → size b ≤ 255 → Bytes d → le
     → let w = withParity d (parityOf 0x163 1 (b .parity) d) in
     ((length w ≡ size b) × Bytes w × T (isCodeword 0x163 1 (b .parity) w)) × (take (b .info) w ≡ d)
 block-written b d small bytes l =
-    let r = has-parity 0x163 passes-163 1 (b .parity) d bytes (omega arith) in
+    let r = has-parity 0x163 primitive-163 1 (b .parity) d bytes (omega arith) in
     subst
     (λ (w : List ℕ). ((length w ≡ size b) × Bytes w × T (isCodeword 0x163 1 (b .parity) w)) × (take (b .info) w ≡ d))
     (sym (ap (withParity d) (r .1))) (
-      (length-append d (r .0) ∙ ap₂ _+_ l (r .2), append-bytes d (r .0) bytes (r .3), parity-makes-codeword 0x163 passes-163 1 (b .parity) d (r .0) (r .1)),
+      (length-append d (r .0) ∙ ap₂ _+_ l (r .2), append-bytes d (r .0) bytes (r .3), parity-makes-codeword 0x163 primitive-163 1 (b .parity) d (r .0) (r .1)),
       take-at d (r .0) (b .info) l,
     )
 

@@ -47,7 +47,7 @@ spliced a n xs s = take a s ++ (xs ++ drop (a + n) s)
 -- Blocks corrected one after the other.
 
 -- the answer for blocks, and the stream that is left
-pub record Pass : Type 0 where
+pub record StreamOutcome : Type 0 where
   pub answer : Blocks
   pub stream : List ℕ
 
@@ -62,12 +62,12 @@ abbrev pub more : ℕ → Blocks → Blocks
 more n (Corrected m) = Corrected (n + m)
 more n Refused = Refused
 
-abbrev pub plus : ℕ → Pass → Pass
-plus n q = record { answer = more n (q .answer); stream = q .stream }
+abbrev pub addCorrections : ℕ → StreamOutcome → StreamOutcome
+addCorrections n q = record { answer = more n (q .answer); stream = q .stream }
 
 -- behind a block with a refusal number, or 0, that leaves the stream s: what the other blocks come to, or nothing more
-abbrev pub onward : ℕ → ℕ → List ℕ → Pass → Pass
-onward zero n s q = plus n q
+abbrev pub onward : ℕ → ℕ → List ℕ → StreamOutcome → StreamOutcome
+onward zero n s q = addCorrections n q
 onward (suc k) n s q = record { answer = Refused; stream = s }
 
 -- what the corrector gives for the block at the place a
@@ -78,25 +78,25 @@ abbrev pub leftAt : Shape → ℕ → List ℕ → List ℕ
 leftAt b a s = spliced a (size b) (outcomeAt b a s .block) s
 
 -- the blocks from a on
-unfoldable pub passed : List Shape → ℕ → List ℕ → Pass
-passed [] a s = record { answer = Corrected 0; stream = s }
-passed (b ∷ bs) a s = onward (outcomeAt b a s .number) (outcomeAt b a s .count) (leftAt b a s) (passed bs (a + size b) (leftAt b a s))
+unfoldable pub outcomeFrom : List Shape → ℕ → List ℕ → StreamOutcome
+outcomeFrom [] a s = record { answer = Corrected 0; stream = s }
+outcomeFrom (b ∷ bs) a s = onward (outcomeAt b a s .number) (outcomeAt b a s .count) (leftAt b a s) (outcomeFrom bs (a + size b) (leftAt b a s))
 
 pub record Corrects (bs : List Shape) (a : ℕ) (s s′ : List ℕ) (r : Blocks) : Type 0 where
-  pub is : record { answer = r; stream = s′ } ≡ passed bs a s
+  pub is : record { answer = r; stream = s′ } ≡ outcomeFrom bs a s
 
 -- Something of each block of t put in its place in s, one after the other.
 
 -- how many codewords a block fills in s, how many it has in t, and what it makes of those
-pub record Way : Type 0 where
+pub record Transfer : Type 0 where
   pub fills : Shape → ℕ
   pub takes : Shape → ℕ
   pub makes : Shape → List ℕ → List ℕ
 
-abbrev pub gathering : Way
+abbrev pub gathering : Transfer
 gathering = record { fills = λ b. b .info; takes = λ b. size b; makes = λ b t. take (b .info) t }
 
-abbrev pub writing : Way
+abbrev pub writing : Transfer
 writing = record {
   fills = λ b. size b;
   takes = λ b. b .info;
@@ -107,11 +107,11 @@ unfoldable pub sum : (Shape → ℕ) → List Shape → ℕ
 sum f bs = foldr (λ b n. f b + n) 0 bs
 
 -- the blocks of t from f on, put into s from a on
-unfoldable pub poured : Way → List Shape → ℕ → ℕ → List ℕ → List ℕ → List ℕ
-poured w [] a f t s = s
-poured w (b ∷ bs) a f t s = poured w bs (a + w .fills b) (f + w .takes b) t (spliced a (w .fills b) (w .makes b (drop f t)) s)
+unfoldable pub transferred : Transfer → List Shape → ℕ → ℕ → List ℕ → List ℕ → List ℕ
+transferred w [] a f t s = s
+transferred w (b ∷ bs) a f t s = transferred w bs (a + w .fills b) (f + w .takes b) t (spliced a (w .fills b) (w .makes b (drop f t)) s)
 
 -- there is room for them
-pub record Room (w : Way) (bs : List Shape) (a f : ℕ) (t s : List ℕ) : Type 0 where
+pub record TransferRoom (w : Transfer) (bs : List Shape) (a f : ℕ) (t s : List ℕ) : Type 0 where
   pub into : a + sum (w .fills) bs ≤ length s
   pub out : f + sum (w .takes) bs ≤ length t

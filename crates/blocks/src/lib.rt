@@ -9,7 +9,7 @@ ghost use lib.ListN.{length, take, drop};
 ghost use Rattle.remainder.specs.Words.{Prepared};
 ghost use Rattle.block_table.specs.Blocks.{batch, shapes, totalSize, totalData, rowHolds, cut, joined, dataParts};
 ghost use Rattle.blocks.specs.Blockwise.{corrected, firstRefused, countOf, blocksOf, leftOf, numberOf, correctionsOf};
-ghost use Rattle.blocks.specs.Inner.{Reads, blocksIn, spliced, answerOf, Corrects, gathering, poured, Room};
+ghost use Rattle.blocks.specs.Inner.{Reads, blocksIn, spliced, answerOf, Corrects, gathering, transferred, TransferRoom};
 use corrector::Correction;
 
 // What became of the blocks: the count of all corrections, or refusal 6 (SPECIFICATION 2.7).
@@ -156,8 +156,8 @@ pub fn copy(dst: &mut [u8], to: usize, src: &[u8], from: usize, n: usize)
 
 // The data parts of a batch whose first block begins at `from`, joined from `to` on.
 fn gather_batch(out: &mut [u8], to: usize, stream: &[u8], from: usize, b: Batch)
-    requires { ⌜ Room gathering (blocksIn b) to from (now stream) (now out) ⌝ }
-    ensures { λ _. ⌜ now (out .exit) ≡ poured gathering (blocksIn b) to from (now (stream .entry)) (now (out .entry)) ⌝ }
+    requires { ⌜ TransferRoom gathering (blocksIn b) to from (now stream) (now out) ⌝ }
+    ensures { λ _. ⌜ now (out .exit) ≡ transferred gathering (blocksIn b) to from (now (stream .entry)) (now (out .entry)) ⌝ }
 {
     let mut into = to;
     let mut at = from;

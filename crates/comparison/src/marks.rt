@@ -26,7 +26,7 @@ pub struct Near {
     pub distance: usize,
 }
 
-fn wide(x: u32) -> usize
+fn as_usize(x: u32) -> usize
     ensures { λ r. ⌜ r ≡ x ⌝ }
 {
     x as usize
@@ -95,7 +95,7 @@ fn nearest(a: NearestInfo) -> Near
             number: 0,
             level,
             mask,
-            distance: wide(distance),
+            distance: as_usize(distance),
         },
         NearestInfo::NoVersion => Near {
             number: 1,

@@ -1,7 +1,7 @@
 -- The errors that are found at the zeros of a locator, taken off the syndromes and added to the block. Assumes nothing.
 use Rattle.general.proofs.Names.{_≡_, refl, sym, ap, ap₂, _∙_, _≢_, true, false, false≢true, true≢false, List, ℕ, suc, _-_, _≤_, _<_, arith, ℕ-discrete}
 use Rattle.general.proofs.Names.{length, ext-getD, xor-self, xor-zero-r}
-use Rattle.field.proofs.Field.{Passes}
+use Rattle.field.proofs.Field.{Primitive}
 use Rattle.general.specs.Each.{Each}
 use Rattle.reed_solomon.specs.Sum.{_⊕_, seq, degree, syndrome}
 use Rattle.reed_solomon.specs.Inner.{Syndromes, isClean, locatorAt, ValuesAt, zerosOf, Locates, ErrorAt, Errors, withoutAll, repaired}
@@ -14,7 +14,7 @@ use Rattle.reed_solomon.proofs.Clean.{clean-yes, clean-zero}
 use Rattle.reed_solomon.proofs.Locates.{error-is}
 use Rattle.corrector.specs.Inner.{Applied}
 
-module _ (poly : ℕ) (P : Passes poly) (first parity : ℕ) (w : List ℕ) (small : length w ≤ 255) (bw : Bytes w)
+module _ (poly : ℕ) (P : Primitive poly) (first parity : ℕ) (w : List ℕ) (small : length w ≤ 255) (bw : Bytes w)
     (s : List ℕ) (Y : Syndromes poly first parity w s) (h : List ℕ) (l : ℕ) (e₁ : List ℕ) (E₁ : ValuesAt poly h l (length w) e₁) where
   abbrev R : ℕ → ℕ
   R k = locatorAt poly h l (degree (length w) k)

@@ -12,7 +12,7 @@ use Rattle.symbol.specs.Layout.{dataModules}
 use Rattle.symbol.proofs.DataModules.{module-hit, module-miss}
 use Rattle.codewords.specs.Codewords.{placed}
 use Rattle.placement.specs.Walk.{eightOf, run, behind, bytesOf, Skipped}
-use Rattle.drawing.specs.Puts.{patternOf, getD₀, Drawn, Placing, PutBit, PutEight, Blank, Puts, PutsAll}
+use Rattle.drawing.specs.Puts.{patternOf, getD₀, PatternsFrom, Placing, PutBit, PutEight, RowBuffers, Puts, PutsAll}
 use Rattle.drawing.specs.declared.Cursor.{Cursor}
 use Rattle.placement.proofs.Walk.{length-run, run-ext, run-front}
 use Rattle.placement.proofs.Eights.{bytes-eight, eight-zero, xor-eight}
@@ -184,12 +184,12 @@ module _ {m : ℕ → ℕ} {ks whole after sq ds : List ℕ} {c : ℕ} (p : Plac
             ∙ sym (ap (λ (u : List ℕ). take c sq ++ u) (ap (placed m c (drop c ks)) e ∙ place-hits m n c ks rest d h z)) ∙ p .is;
         left = sym (ap₂ drop (modules-hits n c ks h z) e ∙ sym (ap (λ (i : ℕ). drop (i + dataModules (drop (c + n) ks)) (run n d ++ rest)) (length-run n d))
             ∙ drop-append-add (run n d) rest (dataModules (drop (c + n) ks))) ∙ p .left;
-        drawn = record {
+        patterns = record {
           is = λ k lo hi.
               let g : c + n + (k - (c + n)) ≡ k = omega arith in
               ap (λ (i : ℕ). getD sq′ i 0) (sym g) ∙ sym (getD-drop (c + n) sq′ (k - (c + n)) 0) ∙ ap (λ (u : List ℕ). getD u (k - (c + n)) 0) back
               ∙ getD-drop (c + n) sq (k - (c + n)) 0 ∙ ap (λ (i : ℕ). getD sq i 0) g
-              ∙ p .drawn .is k (omega arith) hi;
+              ∙ p .patterns .is k (omega arith) hi;
         };
       }
 
@@ -197,7 +197,7 @@ module _ {m : ℕ → ℕ} {ks whole after sq ds : List ℕ} {c : ℕ} (p : Plac
   placing-miss : c < length ks → (getD ks c 0 ≡ 0 → ds ≡ []) → Placing m ks whole after sq ds (suc c)
   placing-miss h z =
       let front : take (suc c) sq ≡ take c sq ++ (patternOf (getD ks c 0) ∷ []) =
-      take-suc sq c 0 (omega arith) ∙ ap (λ (x : ℕ). take c sq ++ (x ∷ [])) (p .drawn .is c (omega arith) h) in
+      take-suc sq c 0 (omega arith) ∙ ap (λ (x : ℕ). take c sq ++ (x ∷ [])) (p .patterns .is c (omega arith) h) in
       record {
         size = p .size;
         few = h;
@@ -205,7 +205,7 @@ module _ {m : ℕ → ℕ} {ks whole after sq ds : List ℕ} {c : ℕ} (p : Plac
             ∙ append-assoc (take c sq) (patternOf (getD ks c 0) ∷ []) (placed m (suc c) (drop (suc c) ks) ds)
             ∙ sym (ap (λ (u : List ℕ). take c sq ++ u) (place-miss m c ks ds h z)) ∙ p .is;
         left = counted ∙ p .left;
-        drawn = record { is = λ k lo hi. p .drawn .is k (omega arith) hi };
+        patterns = record { is = λ k lo hi. p .patterns .is k (omega arith) hi };
       }
     where
       counted : drop (dataModules (drop (suc c) ks)) ds ≡ drop (dataModules (drop c ks)) ds
@@ -291,11 +291,11 @@ pub puts-end : {ks row cw a b c : List ℕ} {p q : Cursor} {bit : ℕ} → Puts 
 puts-end f g = record { go = λ whole after k. g .go whole after (f .go whole after k) }
 
 -- a whole row
-pub placing-begun : (m : ℕ → ℕ) (ks sq ds : List ℕ) → length sq ≡ length ks → Drawn ks sq 0 → Placing m ks (placed m 0 ks ds) (drop (dataModules ks) ds) sq ds 0
-placing-begun m ks sq ds e d = record { size = e; few = omega arith; is = refl; left = refl; drawn = d }
+pub placing-begun : (m : ℕ → ℕ) (ks sq ds : List ℕ) → length sq ≡ length ks → PatternsFrom ks sq 0 → Placing m ks (placed m 0 ks ds) (drop (dataModules ks) ds) sq ds 0
+placing-begun m ks sq ds e d = record { size = e; few = omega arith; is = refl; left = refl; patterns = d }
 
-pub blank-kept : {sq sq′ ks row cw : List ℕ} → length sq′ ≡ length sq → Blank sq ks row cw → Blank sq′ ks row cw
-blank-kept e b = record { side = b .side; size = e ∙ b .size; room = b .room; masks = b .masks; few = b .few }
+pub row-buffers-kept : {sq sq′ ks row cw : List ℕ} → length sq′ ≡ length sq → RowBuffers sq ks row cw → RowBuffers sq′ ks row cw
+row-buffers-kept e b = record { side = b .side; size = e ∙ b .size; room = b .room; masks = b .masks; few = b .few }
 
 pub pattern-light : (k : ℕ) → k < 3 → 0 ≡ patternOf k
 unfolding patternOf

@@ -6,7 +6,7 @@ use Rattle.symbol.specs.Layout.{dataModules}
 use Rattle.symbol.proofs.DataModules.{module-miss, modules-append}
 use Rattle.codewords.specs.Codewords.{placed}
 use Rattle.masks.specs.Columns.{Row}
-use Rattle.drawing.specs.Puts.{patternOf, getD₀, Drawn, Placing, Blank}
+use Rattle.drawing.specs.Puts.{patternOf, getD₀, PatternsFrom, Placing, RowBuffers}
 use Rattle.codewords.proofs.Placement.{length-placed}
 use Rattle.placement.proofs.Rows.{part, part-front, part-length, part-at, row-next, Agree, agree-first, agree-later}
 
@@ -42,16 +42,16 @@ placed-masks m n i j (suc (suc zero) ∷ us) ds h = ap (λ (l : List ℕ). 0 ∷
 placed-masks m n i j (suc (suc (suc k)) ∷ us) ds h =
     ap (λ (l : List ℕ). 1 ∷ l) (placed-masks m n (suc i) (suc j) us ds (agree-later m n i j (suc (suc (suc k))) us h))
 
-pub row-drawn : {ks sq : List ℕ} (at side : ℕ) → Drawn ks sq at → at + side ≤ length ks → Drawn (part at (at + side) ks) (part at (at + side) sq) 0
-row-drawn {ks} {sq} at side d h = record {
+pub row-patterns : {ks sq : List ℕ} (at side : ℕ) → PatternsFrom ks sq at → at + side ≤ length ks → PatternsFrom (part at (at + side) ks) (part at (at + side) sq) 0
+row-patterns {ks} {sq} at side d h = record {
   is = λ k lo hi.
       let l : k < side = omega (arith, part-length at side ks h) in
       part-at at side k sq l ∙ d .is (at + k) (omega arith) (omega arith) ∙ ap patternOf (sym (part-at at side k ks l));
 }
 
-pub row-blank : {mask : ℕ} {row cw : List ℕ} (ks sq : List ℕ) (at side : ℕ) → length sq ≡ length ks → Row mask row → side ≤ 189 → at + side ≤ length ks
-    → length cw ≤ 65535 → Blank (part at (at + side) sq) (part at (at + side) ks) row cw
-row-blank {mask} ks sq at side e r s h f =
+pub row-buffers : {mask : ℕ} {row cw : List ℕ} (ks sq : List ℕ) (at side : ℕ) → length sq ≡ length ks → Row mask row → side ≤ 189 → at + side ≤ length ks
+    → length cw ≤ 65535 → RowBuffers (part at (at + side) sq) (part at (at + side) ks) row cw
+row-buffers {mask} ks sq at side e r s h f =
     let k : length (part at (at + side) ks) ≡ side = part-length at side ks h in
     record { side = omega arith; size = part-length at side sq (omega arith) ∙ sym k; room = r .size; masks = r .small; few = f }
 
@@ -92,12 +92,12 @@ placing-row {whole} {after} {sq} {sq′} {ds} {ds′} {new} m ks row i side p h 
           ∙ ap (λ (u : List ℕ). take at sq ++ u) (sym both) ∙ p .is;
       left = ap (drop (dataModules vs)) f ∙ drop-drop (dataModules vs) (dataModules us) ds
           ∙ sym (ap (λ (k : ℕ). drop k ds) (ap dataModules whole-row ∙ modules-append us vs)) ∙ p .left;
-      drawn = record {
+      patterns = record {
         is = λ k lo hi.
             let z : i * side + side + (k - (i * side + side)) ≡ k = omega arith in
             ap (λ (j : ℕ). getD sq′ j 0) (sym z) ∙ sym (getD-drop (at + side) sq′ (k - (at + side)) 0) ∙ ap (λ (u : List ℕ). getD u (k - (at + side)) 0) back
             ∙ getD-drop (at + side) sq (k - (at + side)) 0 ∙ ap (λ (j : ℕ). getD sq j 0) z
-            ∙ p .drawn .is k (omega arith) hi;
+            ∙ p .patterns .is k (omega arith) hi;
       };
     })
 

@@ -23,7 +23,7 @@ abbrev pub getD₀ : List ℕ → ℕ → ℕ
 getD₀ s k = getD s k 0
 
 -- patterns from a place on
-pub record Drawn (ks sq : List ℕ) (from : ℕ) : Type 0 where
+pub record PatternsFrom (ks sq : List ℕ) (from : ℕ) : Type 0 where
   pub is : (k : ℕ) → from ≤ k → k < length ks → getD sq k 0 ≡ patternOf (getD ks k 0)
 
 -- what stands before a place, and what is to be placed from there on, are the whole; `after` are the bits left then
@@ -32,7 +32,7 @@ pub record Placing (m : ℕ → ℕ) (ks whole after sq ds : List ℕ) (c : ℕ)
   pub few : c ≤ length ks
   pub is : take c sq ++ placed m c (drop c ks) ds ≡ whole
   pub left : drop (dataModules (drop c ks)) ds ≡ after
-  pub drawn : Drawn ks sq c
+  pub patterns : PatternsFrom ks sq c
 
 -- a bit is put, where one is left
 pub record PutBit (at bit inverted : ℕ) (cw sq sq′ : List ℕ) (r : ℕ) : Type 0 where
@@ -46,7 +46,7 @@ pub record PutEight (row cw sq sq′ : List ℕ) (p q : Cursor) : Type 0 where
   pub is : sq′ ≡ sets sq (p .column) (run 8 (λ k. bitXor (getD (bitsOf cw) (p .bit + k) 0) (getD row (p .column + k) 0)))
 
 -- a row of a square, its kinds, its mask in a buffer, and codewords
-pub record Blank (sq ks row cw : List ℕ) : Type 0 where
+pub record RowBuffers (sq ks row cw : List ℕ) : Type 0 where
   pub side : length ks ≤ 192
   pub size : length sq ≡ length ks
   pub room : length row ≡ 192

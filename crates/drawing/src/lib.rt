@@ -9,7 +9,7 @@ ghost use Rattle.bits.specs.Bits.{bitsOf, lowBits, value};
 ghost use Rattle.symbol.specs.Layout.{dataModules};
 ghost use Rattle.codewords.specs.Codewords.{maskBit, placed};
 ghost use Rattle.placement.specs.Walk.{eightOf, behind, bytesOf};
-ghost use Rattle.drawing.specs.Puts.{patternOf, getD₀, Drawn, PutBit, PutEight, Blank, Puts, PutsAll};
+ghost use Rattle.drawing.specs.Puts.{patternOf, getD₀, PatternsFrom, PutBit, PutEight, RowBuffers, Puts, PutsAll};
 
 // Where a row is written: the column, and the next bit of the codewords.
 pub struct Cursor {
@@ -30,7 +30,7 @@ fn pattern(kind: u8) -> u8
 // The patterns of a square, all modules alike: so the compiler takes sixteen at once, and the walk touches data modules only.
 fn draw(square: &mut [u8], kinds: &[u8])
     requires { ⌜ length (now square) ≡ length (now kinds) ⌝ }
-    ensures { λ _. ⌜ Drawn (now (kinds .entry)) (now (square .exit)) 0 ⌝ }
+    ensures { λ _. ⌜ PatternsFrom (now (kinds .entry)) (now (square .exit)) 0 ⌝ }
 {
     let mut i = 0;
     while i < square.len() {
@@ -45,7 +45,7 @@ fn window(codewords: &[u8], bit: usize) -> usize
     ensures { λ r. ⌜ r ≡ value 0 (take 8 (drop bit (bitsOf (now (codewords .entry))))) ⌝ }
 {
     let i = bit / 8;
-    let v = bits::wide(codewords[i]) * 256 + bits::wide(codewords[i + 1]);
+    let v = bits::as_usize(codewords[i]) * 256 + bits::as_usize(codewords[i + 1]);
     (v >> (8 - bit % 8)) % 256
 }
 
@@ -87,7 +87,7 @@ fn put_bit(square: &mut [u8], at: usize, codewords: &[u8], bit: usize, inverted:
 
 // One module. `row` is the row's mask.
 fn put_one(square: &mut [u8], kinds: &[u8], row: &[u8], codewords: &[u8], p: Cursor) -> Cursor
-    requires { ⌜ Blank (now square) (now kinds) (now row) (now codewords) × (p .column < length (now kinds)) ⌝ }
+    requires { ⌜ RowBuffers (now square) (now kinds) (now row) (now codewords) × (p .column < length (now kinds)) ⌝ }
     ensures { λ q. ⌜ (p .column < q .column) × (q .column ≤ length (now (kinds .entry)))
         × Puts (now (kinds .entry)) (now (row .entry)) (now (codewords .entry)) (now (square .entry)) (now (square .exit)) p q ⌝ }
 {
@@ -121,7 +121,7 @@ fn put_eight(square: &mut [u8], row: &[u8], codewords: &[u8], p: Cursor) -> Curs
 
 // Eight data modules, or all modules up to the next that is data, or one.
 fn put_step(square: &mut [u8], kinds: &[u8], row: &[u8], codewords: &[u8], p: Cursor) -> Cursor
-    requires { ⌜ Blank (now square) (now kinds) (now row) (now codewords) × (p .column + 8 ≤ length (now kinds)) ⌝ }
+    requires { ⌜ RowBuffers (now square) (now kinds) (now row) (now codewords) × (p .column + 8 ≤ length (now kinds)) ⌝ }
     ensures { λ q. ⌜ (p .column < q .column) × (q .column ≤ length (now (kinds .entry)))
         × Puts (now (kinds .entry)) (now (row .entry)) (now (codewords .entry)) (now (square .entry)) (now (square .exit)) p q ⌝ }
 {
@@ -143,7 +143,7 @@ fn put_step(square: &mut [u8], kinds: &[u8], row: &[u8], codewords: &[u8], p: Cu
 
 // The last modules of a row.
 fn put_last(square: &mut [u8], kinds: &[u8], row: &[u8], codewords: &[u8], first: Cursor) -> usize
-    requires { ⌜ Blank (now square) (now kinds) (now row) (now codewords) × (first .column ≤ length (now kinds)) ⌝ }
+    requires { ⌜ RowBuffers (now square) (now kinds) (now row) (now codewords) × (first .column ≤ length (now kinds)) ⌝ }
     ensures { λ bit. ⌜ PutsAll (now (kinds .entry)) (now (row .entry)) (now (codewords .entry)) (now (square .entry)) (now (square .exit)) first bit ⌝ }
 {
     let mut p = first;
@@ -155,7 +155,7 @@ fn put_last(square: &mut [u8], kinds: &[u8], row: &[u8], codewords: &[u8], first
 
 // One row, from a bit of the codewords on; answers the next bit.
 fn put_row(square: &mut [u8], kinds: &[u8], row: &[u8], codewords: &[u8], bit: usize) -> usize
-    requires { ⌜ Blank (now square) (now kinds) (now row) (now codewords) × Drawn (now kinds) (now square) 0 ⌝ }
+    requires { ⌜ RowBuffers (now square) (now kinds) (now row) (now codewords) × PatternsFrom (now kinds) (now square) 0 ⌝ }
     ensures { λ r. ⌜ (now (square .exit) ≡ placed (getD₀ (now (row .entry))) 0 (now (kinds .entry)) (drop bit (bitsOf (now (codewords .entry)))))
         × (drop r (bitsOf (now (codewords .entry))) ≡ drop (dataModules (now (kinds .entry))) (drop bit (bitsOf (now (codewords .entry))))) ⌝ }
 {
@@ -169,7 +169,7 @@ fn put_row(square: &mut [u8], kinds: &[u8], row: &[u8], codewords: &[u8], bit: u
 
 // All rows of a square with its patterns.
 fn place_rows(square: &mut [u8], kinds: &[u8], codewords: &[u8], side: usize, mask: usize)
-    requires { ⌜ Drawn (now kinds) (now square) 0 × (length (now square) ≡ length (now kinds)) × (0 < side) × (side ≤ 189)
+    requires { ⌜ PatternsFrom (now kinds) (now square) 0 × (length (now square) ≡ length (now kinds)) × (0 < side) × (side ≤ 189)
         × (length (now square) ≡ side * side) × (length (now codewords) ≤ 65535) ⌝ }
     ensures { λ _. ⌜ now (square .exit) ≡ placed (maskBit side mask) 0 (now (kinds .entry)) (bitsOf (now (codewords .entry))) ⌝ }
 {

@@ -1,5 +1,5 @@
 -- The files of laws, those that others rest on first.
-pub mod Doing
+pub mod WordsLeft
 pub mod Runs
 pub mod Zeros
 pub mod Segments

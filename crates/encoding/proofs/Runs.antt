@@ -7,7 +7,7 @@ use Rattle.script.specs.Writer.{numericWords, fourCode, modeHas, modeBits, eciB
 use Rattle.script.proofs.Runs.{four-long}
 use Rattle.script.specs.Characters.{wordsOf, hasAll, widthOf, beginsIn}
 use Rattle.encoding.specs.Written.{Written}
-use Rattle.encoding.proofs.Doing.{two-words}
+use Rattle.encoding.proofs.WordsLeft.{two-words}
 
 -- room for a part, and for what comes behind it
 pub first-room : (n v i m : ℕ) (ys : List ℕ) → i + length (lowBits n v ++ ys) ≤ m → i + n ≤ m

@@ -12,7 +12,7 @@ pub record Written (s : List ℕ) (i : ℕ) (bs : List ℕ) (r : ℕ) (t : List 
   pub bits : take r (bitsOf t) ≡ take i (bitsOf s) ++ bs
 
 -- to write the words us of w bits into the bytes t from the position a on is what is left of writing ws into s from i on
-pub record Doing (w : ℕ) (s : List ℕ) (i : ℕ) (ws t : List ℕ) (a : ℕ) (us : List ℕ) : Type 0 where
+pub record WordsLeft (w : ℕ) (s : List ℕ) (i : ℕ) (ws t : List ℕ) (a : ℕ) (us : List ℕ) : Type 0 where
   pub place : a + w * length us ≡ i + w * length ws
   pub bits : take a (bitsOf t) ++ wordBits w us ≡ take i (bitsOf s) ++ wordBits w ws
 

@@ -12,7 +12,7 @@ ghost use Rattle.script.specs.Characters.{wordsOf, hasAll, widthOf, switchOf, e
 ghost use Rattle.segments.specs.Script.{run, eci};
 ghost use Rattle.script.specs.Check.{commandsOf};
 ghost use Rattle.script.specs.Inner.{Fits, scriptData};
-ghost use Rattle.encoding.specs.Written.{Written, Doing, groupAt};
+ghost use Rattle.encoding.specs.Written.{Written, WordsLeft, groupAt};
 ghost use Rattle.general.specs.Lists.{all};
 
 // Writes the n low bits of a number, and says where the next go.
@@ -79,7 +79,7 @@ fn digit(run: &[u8], j: usize) -> usize
     requires { ⌜ j < length (now run) ⌝ }
     ensures { λ r. ⌜ (r ≡ getD (now (run .entry)) j 0 - 48) × (r < 256) ⌝ }
 {
-    script::values::saturating_sub(bits::wide(run[j]), 48)
+    script::values::saturating_sub(bits::as_usize(run[j]), 48)
 }
 
 // The three digits from a place of a run on, as a number.
@@ -93,7 +93,7 @@ fn group(run: &[u8], j: usize) -> usize
 // The digits of a run, as far as there are six, with two groups of three in one word: fewer words wait for each other.
 fn write_sixes(buf: &mut [u8], from: usize, run: &[u8]) -> usize
     requires { ⌜ (length (now buf) ≤ 4096) × (from + 10 * length (numericWords (now run)) ≤ 8 * length (now buf)) ⌝ }
-    ensures { λ r. ⌜ Doing 10 (now (buf .entry)) from (numericWords (now (run .entry))) (now (buf .exit)) r
+    ensures { λ r. ⌜ WordsLeft 10 (now (buf .entry)) from (numericWords (now (run .entry))) (now (buf .exit)) r
         (numericWords (drop (length (now (run .entry)) / 6 * 6) (now (run .entry)))) ⌝ }
 {
     let mut at = from;
@@ -148,7 +148,7 @@ fn write_bytes(buf: &mut [u8], from: usize, run: &[u8]) -> usize
     let mut at = from;
     let mut j: usize = 0;
     while j < run.len() {
-        at = put(buf, at, 8, bits::wide(run[j]));
+        at = put(buf, at, 8, bits::as_usize(run[j]));
         j += 1;
     }
     at

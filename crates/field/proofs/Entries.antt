@@ -4,7 +4,7 @@ use Rattle.general.proofs.Names.{decLt, T, bitXor, xor-block, xor-zero-l, xor-s
 use Rattle.general.proofs.Names.{List·getD-append, getD-append-add}
 use Rattle.field.specs.Field.{raised, timesAlpha, power, powers, log, times, mul, orderTest}
 use Rattle.field.specs.Table.{logEntry, tableOf, polyOf, Field}
-use Rattle.field.proofs.Field.{Passes, passes, powers-length, powers-at, power-lt, power-log, mul-power, mul-comm, mul-assoc, mul-inverse}
+use Rattle.field.proofs.Field.{Primitive, primitive, powers-length, powers-at, power-lt, power-log, mul-power, mul-comm, mul-assoc, mul-inverse}
 use Rattle.field.proofs.Field.{mul-one, times-zero}
 use Rattle.general.specs.Each.{table}
 use Rattle.general.proofs.Lists.{length-table, getD-table}
@@ -41,8 +41,8 @@ module _ (t : List ℕ) (F : Field t) where
   abbrev poly : ℕ
   poly = polyOf t
 
-  pub the-field : Passes (polyOf t)
-  the-field = passes (polyOf t) (F .test)
+  pub the-field : Primitive (polyOf t)
+  the-field = primitive (polyOf t) (F .test)
 
   log-at : (a : ℕ) → a < 256 → getD t a 0 ≡ logEntry poly a
   unfolding tableOf
@@ -117,7 +117,7 @@ alpha-eight poly l h =
 -- so the table of a polynomial is the table of a field, and says which
 pub poly-of-table : (poly : ℕ) → T (orderTest poly) → polyOf (tableOf poly) ≡ poly
 poly-of-table poly test =
-    let P = passes poly test in
+    let P = primitive poly test in
     omega (arith, table-power poly 8 (omega arith), alpha-eight poly (P .low) (P .high), P .low)
 
 pub field-of : (poly : ℕ) → T (orderTest poly) → Field (tableOf poly)

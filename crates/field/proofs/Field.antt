@@ -16,8 +16,8 @@ below-at zero f t k h = absurd (omega arith)
 below-at (suc n) f t k h = elim (eq-or-lt-of-le (le-of-suc-le-suc h))
     [ inl e ↦ subst (λ (m : ℕ). T (f m)) (sym e) (T-and (f n) (below n f) t .0) | inr l ↦ below-at n f (T-and (f n) (below n f) t .1) k l ]
 
--- what the test says
-pub record Passes (poly : ℕ) : Type 0 where
+-- the polynomial is primitive: what the test says
+pub record Primitive (poly : ℕ) : Type 0 where
   pub low : 256 ≤ poly
   pub high : poly < 512
   pub last : power poly 255 ≡ 1
@@ -33,9 +33,9 @@ once-at : (ps : List ℕ) → T (isOnce ps) → (k : ℕ) → k < 255 → find (
 unfolding isOnce
 once-at ps t k h = eqb→eq (find (getD ps k 0) ps) k (below-at 255 (λ (k : ℕ). eqb (find (getD ps k 0) ps) k) t k h)
 
-pub passes : (poly : ℕ) → T (orderTest poly) → Passes poly
+pub primitive : (poly : ℕ) → T (orderTest poly) → Primitive poly
 unfolding orderTest log
-passes poly t =
+primitive poly t =
     let t1 = T-and (leb 256 poly) (ltb poly 512 && (eqb (power poly 255) 1 && (isOnto (powers poly 255 1) && isOnce (powers poly 255 1)))) t in
     let t2 = T-and (ltb poly 512) (eqb (power poly 255) 1 && (isOnto (powers poly 255 1) && isOnce (powers poly 255 1))) (t1 .1) in
     let t3 = T-and (eqb (power poly 255) 1) (isOnto (powers poly 255 1) && isOnce (powers poly 255 1)) (t2 .1) in
@@ -156,7 +156,7 @@ over-high poly zero hl hh h = refl
 over-high poly (suc zero) hl hh h = omega arith
 over-high poly (suc (suc t)) hl hh h = absurd (omega arith)
 
-module _ (poly : ℕ) (P : Passes poly) where
+module _ (poly : ℕ) (P : Primitive poly) where
   timesAlpha-lt : (a : ℕ) → a < 256 → timesAlpha poly a < 256
   timesAlpha-lt a h =
       let t : a * 2 / 256 ≡ a / 128 = omega arith in

@@ -2,14 +2,14 @@
 use lib.Dec.{T}
 use Rattle.field.specs.Field.{timesAlpha, raised, powers, find, below, isOnto, isOnce, orderTest}
 
-pub passes-163 : T (orderTest 0x163)
+pub primitive-163 : T (orderTest 0x163)
 unfolding orderTest isOnto isOnce powers find below raised timesAlpha
-passes-163 = tt
+primitive-163 = tt
 
-pub passes-11D : T (orderTest 0x11D)
+pub primitive-11D : T (orderTest 0x11D)
 unfolding orderTest isOnto isOnce powers find below raised timesAlpha
-passes-11D = tt
+primitive-11D = tt
 
-pub passes-12D : T (orderTest 0x12D)
+pub primitive-12D : T (orderTest 0x12D)
 unfolding orderTest isOnto isOnce powers find below raised timesAlpha
-passes-12D = tt
+primitive-12D = tt

@@ -3,11 +3,11 @@
 use Rattle.general.proofs.Names.{_≡_, refl, sym, ap, ap₂, _∙_, _≢_, ℕ, zero, suc, _+_, _-_, _%_, _<_, arith, T, bitXor}
 use Rattle.field.specs.Field.{timesAlpha, raised, power, log, times, mul, orderTest}
 use Rattle.field.proofs.Field as field
-use Rattle.field.proofs.Field.{Passes, passes}
+use Rattle.field.proofs.Field.{Primitive, primitive}
 
 module _ (poly : ℕ) (test : T (orderTest poly)) where
-  abbrev P : Passes poly
-  P = passes poly test
+  abbrev P : Primitive poly
+  P = primitive poly test
 
   two : power poly 1 ≡ 2
   unfolding raised timesAlpha

@@ -100,7 +100,7 @@ fn word_of(d: u64) -> u64
     (d * 65536 + c) * 64
 }
 
-fn wide(x: usize) -> u64
+fn as_u64(x: usize) -> u64
     ensures { λ r. ⌜ r ≡ x ⌝ }
 {
     x as u64
@@ -129,7 +129,7 @@ pub fn info_bits(version: usize, level: usize, mask: usize) -> InfoBits
     if !is_info(version, level, mask) {
         return InfoBits::OutOfRange;
     }
-    let d = wide((version + 20) * 16 + level * 4 + mask);
+    let d = as_u64((version + 20) * 16 + level * 4 + mask);
     InfoBits::Word(word_of(d))
 }
 
@@ -177,7 +177,7 @@ fn nearest_word(version: usize, first: u64, second: u64) -> Best
     ensures { λ r. ⌜ Found (wordDistance version first second) (nearestWord version first second) r ⌝ }
 {
     let differences = DIFFERENCES;
-    let word = word_of(wide((version + 20) * 16));
+    let word = word_of(as_u64((version + 20) * 16));
     let mut best = Best {
         word: 0,
         distance: distance(word, first, second),
@@ -252,7 +252,7 @@ pub fn info_position(side: usize, second: bool, n: usize) -> usize
     i
 }
 
-fn wide8(x: u8) -> u64
+fn byte_as_u64(x: u8) -> u64
     ensures { λ r. ⌜ r ≡ x ⌝ }
 {
     x as u64
@@ -269,7 +269,7 @@ fn read_arm(square: &[u8], side: usize, second: bool, word: u64, from: usize, to
     let mut n = from;
     while n < to {
         let i = info_position(side, second, n);
-        w = w * 2 + wide8(square[i]);
+        w = w * 2 + byte_as_u64(square[i]);
         n += 1;
     }
     w

@@ -5,7 +5,7 @@ use Rattle.symbol.specs.Version.{isSide, sideVersion}
 use Rattle.information.specs.Information.{isInfo}
 use Rattle.reed_solomon.specs.Block.{distance, nearest}
 use Rattle.corrector.specs.Correct.{BlockOutcome, settled}
-use Rattle.field.proofs.Instances.{passes-163}
+use Rattle.field.proofs.Instances.{primitive-163}
 use Rattle.reed_solomon.proofs.Nearest.{near-none, near-reach}
 use Rattle.reed_solomon.proofs.Theorems.{found-in-reach, in-reach-found, no-block-has-two}
 use Rattle.block_table.specs.Blocks.{Shape, shapesOf, totalSize, cut, dataParts}
@@ -14,13 +14,13 @@ use Rattle.block_table.proofs.Cuts.{Shaped, cut-shaped}
 use Rattle.block_table.proofs.Theorems.{shapes-total, shapes-sound}
 use Rattle.blocks.specs.Blockwise.{firstRefused, countOf, blocksOf, corrected, blockAt, parityAt}
 use Rattle.blocks.proofs.Corrects.{blocks-shaped}
-use Rattle.blocks.proofs.Settle.{block-small, at-settled}
+use Rattle.blocks.proofs.RefusedStreams.{block-small, at-settled}
 use Rattle.blocks.proofs.Theorems as blocks
 use Rattle.segments.specs.Segments.{segmentsOf}
 use Rattle.segments.specs.Script.{Segment, payloadOf, scriptOf}
 use Rattle.segments.specs.FromData.{DataOutcome as Given, refusedData as refusedData, inBuffers, isBroken, fromData}
 use Rattle.marks.specs.Read.{Reading, refused, unless, streamFrom, blocksIn, readRefusal, knownRefusal}
-use Rattle.marks.specs.Read.{told, bodyOf, withReceipt, readOf, readKnownOf}
+use Rattle.marks.specs.Read.{outcomeReading, bodyOf, withReceipt, readOf, readKnownOf}
 use Rattle.marks.specs.Promise.{InReach, EachInReach, setTo, correctionsAt}
 use Rattle.marks.proofs.Modules.{stream-length}
 use Rattle.marks.proofs.Refusals.{true-unless, first-none}
@@ -81,9 +81,9 @@ module _ (v l k d : ℕ) (sq p s : List ℕ) (low : 1 ≤ v) (high : v ≤ 84) (
   size : length (streamFrom v k sq) ≡ totalSize (shapesOf v l)
   size = stream-length v k sq ∙ sym (shapes-total v l low high level)
 
-  body-told : firstRefused (corrected bs stream) ≡ 0 → bodyOf v l k d sq p s ≡ told v l k d (countOf (corrected bs stream)) (fromData (correctedData bs stream) p s)
+  body-outcome : firstRefused (corrected bs stream) ≡ 0 → bodyOf v l k d sq p s ≡ outcomeReading v l k d (countOf (corrected bs stream)) (fromData (correctedData bs stream) p s)
   unfolding bodyOf blocksIn
-  body-told e = simp (eq-eqb (firstRefused (corrected bs stream)) 0 e)
+  body-outcome e = simp (eq-eqb (firstRefused (corrected bs stream)) 0 e)
 
   body-refused : firstRefused (corrected bs stream) ≡ 6 → bodyOf v l k d sq p s ≡ refused 6 p s
   unfolding bodyOf blocksIn
@@ -97,7 +97,7 @@ module _ (v l k d : ℕ) (sq p s : List ℕ) (low : 1 ≤ v) (high : v ≤ 84) (
   shaped = cut-shaped bs stream (omega (arith, size))
 
   found : (j : ℕ) → j < length bs → (w : List ℕ) → InReach v l k sq j w → nearest 0x163 1 (parityAt bs j) (blockAt (blocksIn v l k sq) j) ≡ some w
-  found j h w = in-reach-found 0x163 passes-163 1 (parityAt bs j) (blockAt (blocksIn v l k sq) j) w (small j h)
+  found j h w = in-reach-found 0x163 primitive-163 1 (parityAt bs j) (blockAt (blocksIn v l k sq) j) w (small j h)
 
   -- 6 where some block has no codeword in reach, and only there
   pub lost-six : (j : ℕ) → j < length bs → ((w : List ℕ) → InReach v l k sq j w → ⊥) → bodyOf v l k d sq p s ≡ refused 6 p s
@@ -107,18 +107,18 @@ module _ (v l k d : ℕ) (sq p s : List ℕ) (low : 1 ≤ v) (high : v ≤ 84) (
       (near-none 0x163 1 (parityAt bs j) (blockAt (blocksIn v l k sq) j) (λ w N. f w (near-reach 0x163 1 (parityAt bs j) (blockAt (blocksIn v l k sq) j) w N))))
 
   pub six-lost : bodyOf v l k d sq p s .number ≡ 6 → (j : ℕ) × (j < length bs) × ((w : List ℕ) → InReach v l k sq j w → ⊥)
-  unfolding blocksIn told
+  unfolding blocksIn outcomeReading
   six-lost e = elim (blocks.zero-or-six bs sound stream size) [
     | inr z ↦ (let x = blocks.six-then-lost bs sound stream size z in (x .0, x .1, λ w N. not-both w (x .2) (found (x .0) (x .1) w N)))
-    | inl z ↦ absurd (data-not-six (correctedData bs stream) p s (sym (ap (λ (r : Reading). r .number) (body-told z)) ∙ e))
+    | inl z ↦ absurd (data-not-six (correctedData bs stream) p s (sym (ap (λ (r : Reading). r .number) (body-outcome z)) ∙ e))
   ]
 
   -- where each has one, each is set to it
-  pub each-told : (ws : List (List ℕ)) → EachInReach v l k sq ws → bodyOf v l k d sq p s ≡ setTo v l k d sq ws p s
+  pub each-body : (ws : List (List ℕ)) → EachInReach v l k sq ws → bodyOf v l k d sq p s ≡ setTo v l k d sq ws p s
   unfolding blocksIn
-  each-told ws E =
+  each-body ws E =
       let q = blocks.each-then-set bs sound stream size ws (E .number) (λ j h. found j h (blockAt ws j) (E .each j h)) in
-      body-told (q .0) ∙ ap₂ (λ (c : ℕ) (us : List (List ℕ)). told v l k d c (fromData (dataParts bs us) p s)) (q .2) (q .1)
+      body-outcome (q .0) ∙ ap₂ (λ (c : ℕ) (us : List (List ℕ)). outcomeReading v l k d c (fromData (dataParts bs us) p s)) (q .2) (q .1)
 
   -- and where the answer is not 6, each has one
   pub other-each : bodyOf v l k d sq p s .number ≢ 6 → (ws : List (List ℕ)) × EachInReach v l k sq ws
@@ -129,7 +129,7 @@ module _ (v l k d : ℕ) (sq p s : List ℕ) (low : 1 ≤ v) (high : v ≤ 84) (
       blocksOf (corrected bs stream),
       record {
         number = shaped-number bs (blocksOf (corrected bs stream)) (blocks-shaped bs (cut bs stream) shaped);
-        each = λ j h. found-in-reach 0x163 passes-163 1 (parityAt bs j) (blockAt (cut bs stream) j) (blockAt (blocksOf (corrected bs stream)) j)
+        each = λ j h. found-in-reach 0x163 primitive-163 1 (parityAt bs j) (blockAt (cut bs stream) j) (blockAt (blocksOf (corrected bs stream)) j)
             (blocks.zero-then-each bs sound stream size z .0 j h);
       },
     )
@@ -143,7 +143,7 @@ module _ (v l k d : ℕ) (sq p s : List ℕ) (low : 1 ≤ v) (high : v ≤ 84) (
 
   -- no block has two
   pub no-two : (j : ℕ) → j < length bs → (u w : List ℕ) → InReach v l k sq j u → InReach v l k sq j w → u ≡ w
-  no-two j h u w = no-block-has-two 0x163 passes-163 1 (parityAt bs j) (blockAt (blocksIn v l k sq) j) u w (small j h)
+  no-two j h u w = no-block-has-two 0x163 primitive-163 1 (parityAt bs j) (blockAt (blocksIn v l k sq) j) u w (small j h)
 
 -- ---- a square that passes the first refusals of Read a square
 

@@ -20,7 +20,7 @@ use Rattle.script.specs.Check.{commandsOf}
 use Rattle.script.proofs.Theorems.{encoded-data, round-trip}
 use Rattle.marks.specs.Receipt.{receiptOf}
 use Rattle.marks.specs.Read.{Reading, refused, firstRefusal, unless, streamFrom, blocksIn}
-use Rattle.marks.specs.Read.{readRefusal, knownRefusal, told, bodyOf, withReceipt, readOf, readKnownOf}
+use Rattle.marks.specs.Read.{readRefusal, knownRefusal, outcomeReading, bodyOf, withReceipt, readOf, readKnownOf}
 use Rattle.marks.specs.Write.{roomOf, markOf, writeOf}
 use Rattle.marks.specs.Promise.{blockCount, parityIn, changedAt, changed}
 use Rattle.marks.proofs.Refusals.{unless-true, first-skips, both-true, leb-fact}
@@ -39,8 +39,8 @@ data-le [] = omega arith
 data-le (b ∷ bs) = omega (arith, data-le bs)
 
 -- what is read where a script and its payload were written
-abbrev pub given : ℕ → ℕ → ℕ → ℕ → ℕ → List ℕ → List ℕ → List ℕ → List ℕ → Reading
-given v l k count d script payload p s = record {
+abbrev pub writtenReading : ℕ → ℕ → ℕ → ℕ → ℕ → List ℕ → List ℕ → List ℕ → List ℕ → Reading
+writtenReading v l k count d script payload p s = record {
   number = 0;
   receipt = receiptOf v l k count d (length payload) (length script);
   payload = payload ++ drop (length payload) p;
@@ -110,16 +110,16 @@ module _ (v l k : ℕ) (script payload before : List ℕ) (bytes : Below 256 scr
     abbrev stream : List ℕ
     stream = streamFrom v k square
 
-    body-back : (d : ℕ) → bodyOf v l k d square p s ≡ given v l k count d script payload p s
-    unfolding bodyOf told blocksIn
+    body-back : (d : ℕ) → bodyOf v l k d square p s ≡ writtenReading v l k count d script payload p s
+    unfolding bodyOf outcomeReading blocksIn
     body-back d =
         let near : (j : ℕ) → j < length bs → distance (blockAt (cut bs stream) j) (blockAt (cut bs (streamOf bs ds)) j) ≤ parityAt bs j / 2 =
         λ j h. subst (λ (x : List ℕ). distance (blockAt (cut bs stream) j) (blockAt (cut bs x) j) ≤ parityAt bs j / 2) mark-stream (reach j h) in
         let I = in-reach bs sound ds ds-bytes ds-length stream (stream-length v k square ∙ sym sized) near in
         let c : countOf (corrected bs stream) ≡ count = I .3 ∙ ap (λ (x : List ℕ). differences (cut bs stream) (cut bs x)) (sym mark-stream) in
-        ap (λ (b : Bool). cond b (told v l k d (countOf (corrected bs stream)) (fromData (correctedData bs stream) p s))
+        ap (λ (b : Bool). cond b (outcomeReading v l k d (countOf (corrected bs stream)) (fromData (correctedData bs stream) p s))
         (refused (firstRefused (corrected bs stream)) p s)) (eq-eqb (firstRefused (corrected bs stream)) 0 (I .0))
-        ∙ ap₂ (told v l k d) c
+        ∙ ap₂ (outcomeReading v l k d) c
         (ap (λ (x : List ℕ). fromData x p s) (I .2) ∙ round-trip script payload (roomOf v l) p s bytes (W .fits) room-small room-p room-s)
 
     module _ (r : List ℕ) (receipt : length r ≡ 12) where
@@ -136,7 +136,7 @@ module _ (v l k : ℕ) (script payload before : List ℕ) (bytes : Below 256 scr
           (square-tests (unless (hasBlocks v l) 1 ∷ []) (none-of (unless (hasBlocks v l) 1) [] (unless-true (hasBlocks v l) 1 (W .blocked)) none-left))
 
       -- with the three known, whatever the information modules are
-      pub known-back : readKnownOf square v l k p s r ≡ given v l k count 0 script payload p s
+      pub known-back : readKnownOf square v l k p s r ≡ writtenReading v l k count 0 script payload p s
       unfolding readKnownOf
       known-back = accepted-body r p s (knownRefusal v l k square) (bodyOf v l k 0 square p s) receipt known-zero ∙ body-back 0
 
@@ -166,7 +166,7 @@ module _ (v l k : ℕ) (script payload before : List ℕ) (bytes : Below 256 scr
             (none-of (unless (hasBlocks v′ (levelIn v′ square)) 1) [] (unless-true (hasBlocks v′ (levelIn v′ square)) 1 blocked) none-left)))
 
         -- with at most 8 information modules flipped
-        pub read-back : readOf square (sideOf v) p s r ≡ given v l k count (distanceIn v square) script payload p s
+        pub read-back : readOf square (sideOf v) p s r ≡ writtenReading v l k count (distanceIn v square) script payload p s
         unfolding readOf
         read-back =
             accepted-body r p s (readRefusal (sideOf v) square) (bodyOf v′ (levelIn v′ square) (maskIn v′ square) (distanceIn v′ square) square p s) receipt read-zero
@@ -194,13 +194,13 @@ module _ (v l k : ℕ) (script payload before mark : List ℕ) (bytes : Below 25
   reach′ j h = subst (λ (m : List ℕ). changedAt v l k square m j ≤ parityIn v l j / 2) is-mark (reach j h)
 
   pub mark-read : infoFlips (layoutOf v) mark square ≤ 8
-      → readOf square (sideOf v) p s r ≡ given v l k (changed v l k square mark) (distanceIn v square) script payload p s
+      → readOf square (sideOf v) p s r ≡ writtenReading v l k (changed v l k square mark) (distanceIn v square) script payload p s
   mark-read few =
       read-back v l k script payload before bytes is-written square sized′ modules reach′ p s room-p room-s r receipt
       (subst (λ (m : List ℕ). infoFlips (layoutOf v) m square ≤ 8) is-mark few)
-      ∙ ap (λ (m : List ℕ). given v l k (changed v l k square m) (distanceIn v square) script payload p s) (sym is-mark)
+      ∙ ap (λ (m : List ℕ). writtenReading v l k (changed v l k square m) (distanceIn v square) script payload p s) (sym is-mark)
 
-  pub mark-known : readKnownOf square v l k p s r ≡ given v l k (changed v l k square mark) 0 script payload p s
+  pub mark-known : readKnownOf square v l k p s r ≡ writtenReading v l k (changed v l k square mark) 0 script payload p s
   mark-known =
       known-back v l k script payload before bytes is-written square sized′ modules reach′ p s room-p room-s r receipt
-      ∙ ap (λ (m : List ℕ). given v l k (changed v l k square m) 0 script payload p s) (sym is-mark)
+      ∙ ap (λ (m : List ℕ). writtenReading v l k (changed v l k square m) 0 script payload p s) (sym is-mark)

@@ -93,7 +93,7 @@ module _ (sq : List ℕ) (side : ℕ) (p s r : List ℕ) (receipt : length r ≡
   -- When each has one, each is set to it: payload and script, or the refusal, are what Segments from data gives for their data parts, and
   -- the count is the number of places in which the square's blocks differ from them ..
   pub each-is-set : (ws : List (List ℕ)) → EachInReach version level mask sq ws → readOf sq side p s r ≡ setTo version level mask flips sq ws p s
-  each-is-set ws E = body ∙ any.each-told version level mask flips sq p s low high (level-range version sq) ws E
+  each-is-set ws E = body ∙ any.each-body version level mask flips sq p s low high (level-range version sq) ws E
 
   -- .. and each has one wherever the answer is not 6.
   pub not-six-is-set : readOf sq side p s r .number ≢ 6
@@ -129,7 +129,7 @@ module _ (sq : List ℕ) (v l k : ℕ) (p s r : List ℕ) (receipt : length r �
   known-corrections-are = any.corrections v l k 0 sq p s (in-range .low) (in-range .high) (in-range .level)
 
   pub known-each-is-set : (ws : List (List ℕ)) → EachInReach v l k sq ws → readKnownOf sq v l k p s r ≡ setTo v l k 0 sq ws p s
-  known-each-is-set ws E = known-body ∙ any.each-told v l k 0 sq p s (in-range .low) (in-range .high) (in-range .level) ws E
+  known-each-is-set ws E = known-body ∙ any.each-body v l k 0 sq p s (in-range .low) (in-range .high) (in-range .level) ws E
 
   pub known-not-six-is-set : readKnownOf sq v l k p s r .number ≢ 6
       → (ws : List (List ℕ)) × EachInReach v l k sq ws × (readKnownOf sq v l k p s r ≡ setTo v l k 0 sq ws p s)

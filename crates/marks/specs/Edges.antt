@@ -11,19 +11,19 @@ use Rattle.segments.specs.FromData.{DataOutcome, fromData}
 use Rattle.script.specs.Writer.{same}
 
 pub record Edge : Type 0 where
-  pub given : List ℕ
+  pub actual : List ℕ
   pub expected : List ℕ
 
 -- a number as the one element of a list
 abbrev pub one : ℕ → ℕ → Edge
-one given expected = record { given = given ∷ []; expected = expected ∷ [] }
+one actual expected = record { actual = actual ∷ []; expected = expected ∷ [] }
 
 -- what Segments from data gives: the refusal number and the payload
 unfoldable pub payloadIn : DataOutcome → List ℕ
 payloadIn o = o .number ∷ take (o .payloadLength) (o .payload)
 
 abbrev pub reads : List ℕ → List ℕ → Edge
-reads ds expected = record { given = payloadIn (fromData ds (replicate 8 0) (replicate 8 0)); expected = expected }
+reads ds expected = record { actual = payloadIn (fromData ds (replicate 8 0) (replicate 8 0)); expected = expected }
 
 unfoldable pub edges : List Edge
 edges =
@@ -50,4 +50,4 @@ edges =
 
 unfoldable pub hold : List Edge → Bool
 hold [] = true
-hold (e ∷ es) = same (e .given) (e .expected) && hold es
+hold (e ∷ es) = same (e .actual) (e .expected) && hold es

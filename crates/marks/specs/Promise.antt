@@ -9,7 +9,7 @@ use Rattle.corrector.specs.Correct.{correctOf}
 use Rattle.block_table.specs.Blocks.{shapesOf, dataParts}
 use Rattle.blocks.specs.Blockwise.{differences}
 use Rattle.segments.specs.FromData.{fromData}
-use Rattle.marks.specs.Read.{Reading, blocksIn, told}
+use Rattle.marks.specs.Read.{Reading, blocksIn, outcomeReading}
 
 -- how many blocks a version and level have
 abbrev pub blockCount : ℕ → ℕ → ℕ
@@ -42,7 +42,7 @@ pub record EachInReach (v level mask : ℕ) (sq : List ℕ) (ws : List (List ℕ
 -- payload and script, or the refusal, are what Segments from data gives for their data parts
 abbrev pub setTo : ℕ → ℕ → ℕ → ℕ → List ℕ → List (List ℕ) → List ℕ → List ℕ → Reading
 setTo v level mask d sq ws p s =
-    told v level mask d (differences (blocksIn v level mask sq) ws) (fromData (dataParts (shapesOf v level) ws) p s)
+    outcomeReading v level mask d (differences (blocksIn v level mask sq) ws) (fromData (dataParts (shapesOf v level) ws) p s)
 
 -- how many codewords of block j Correct a block sets right
 abbrev pub correctionsAt : ℕ → ℕ → ℕ → List ℕ → ℕ → ℕ

@@ -70,8 +70,8 @@ knownRefusal v level mask sq =
     (unless (isInfo v level mask) 1 ∷ unless (eqb (length sq) (sideOf v * sideOf v)) 2 ∷ unless (all (λ m. leb m 1) sq) 3 ∷ unless (hasBlocks v level) 1 ∷ [])
 
 -- what the segments of the corrected blocks give, with the count of their corrections
-unfoldable pub told : ℕ → ℕ → ℕ → ℕ → ℕ → DataOutcome → Reading
-told v level mask distance count o =
+unfoldable pub outcomeReading : ℕ → ℕ → ℕ → ℕ → ℕ → DataOutcome → Reading
+outcomeReading v level mask distance count o =
     readingOf (o .number)
     (cond (eqb (o .number) 0) (receiptOf v level mask count distance (o .payloadLength) (o .scriptLength)) (refusalReceipt (o .number)))
     (o .payload) (o .script)
@@ -81,7 +81,7 @@ unfoldable pub bodyOf : ℕ → ℕ → ℕ → ℕ → List ℕ → List ℕ �
 bodyOf v level mask distance sq p s =
     let os = outcomes (shapesOf v level) (blocksIn v level mask sq) in
     cond (eqb (firstRefused os) 0)
-    (told v level mask distance (countOf os) (fromData (dataParts (shapesOf v level) (blocksOf os)) p s))
+    (outcomeReading v level mask distance (countOf os) (fromData (dataParts (shapesOf v level) (blocksOf os)) p s))
     (refused (firstRefused os) p s)
 
 -- 2 if the receipt has not 12 bytes, and nothing is written at all

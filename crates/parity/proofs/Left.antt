@@ -3,8 +3,8 @@ use Rattle.general.proofs.Names.{_≡_, sym, ap, ap₂, _∙_, if-pos, if-neg, 
 use Rattle.general.proofs.Names.{decLt, length, take, drop, length-drop, take-append-drop, List·getD-eq-default, ext-getD, getD-drop, getD-take}
 use Rattle.general.proofs.Names.{length-take-le, bitXor, xor-zero-r, xor-zero-l}
 use Rattle.field.specs.Field.{power, mul}
-use Rattle.field.proofs.Field.{Passes, passes, mul-lt, mul-sum, mul-assoc, mul-power, mul-none, mul-comm, mul-one, power-pos, power-lt, sum-lt}
-use Rattle.field.proofs.Instances.{passes-163}
+use Rattle.field.proofs.Field.{Primitive, primitive, mul-lt, mul-sum, mul-assoc, mul-power, mul-none, mul-comm, mul-one, power-pos, power-lt, sum-lt}
+use Rattle.field.proofs.Instances.{primitive-163}
 use Rattle.field.proofs.Entries.{mul-left-zero}
 use Rattle.field.proofs.Xor.{xor-assoc}
 use Rattle.reed_solomon.specs.Sum.{_⊕_, seq}
@@ -17,9 +17,9 @@ use Rattle.remainder.specs.Words.{behind, byteAt, tabled, Leaves}
 use Rattle.remainder.proofs.Lowered.{bytes-value, behind-from, power-first}
 use Rattle.parity.specs.Encode.{writtenOf}
 use Rattle.parity.specs.Inner.{behindOf}
-use Rattle.parity.proofs.Followed.{take-bytes, written-by}
+use Rattle.parity.proofs.ParityBytes.{take-bytes, written-by}
 
-eval-lt : (poly : ℕ) → Passes poly → (x acc : ℕ) (ys : List ℕ) → acc < 256 → Bytes ys → evalFrom poly x acc ys < 256
+eval-lt : (poly : ℕ) → Primitive poly → (x acc : ℕ) (ys : List ℕ) → acc < 256 → Bytes ys → evalFrom poly x acc ys < 256
 unfolding evalFrom
 eval-lt poly P x acc [] h b = h
 eval-lt poly P x acc (y ∷ ys) h b = eval-lt poly P x (bitXor (mul poly acc x) y) ys (sum-lt (mul poly acc x) y (mul-lt poly P acc x) (b 0)) (λ i. b (suc i))
@@ -33,7 +33,7 @@ pub behind-high : (k : ℕ) (src : List ℕ) (i x : ℕ) → k ≤ i → behindO
 unfolding behindOf
 behind-high k src i x h = if-neg (decLt i k) (omega arith) x (seq src (i - k))
 
-module _ (poly : ℕ) (P : Passes poly) (m : ℕ) where
+module _ (poly : ℕ) (P : Primitive poly) (m : ℕ) where
   abbrev x : ℕ
   x = power poly m
 
@@ -70,8 +70,8 @@ module _ (poly : ℕ) (P : Passes poly) (m : ℕ) where
 -- the register r that the division leaves of ds, its bytes b, and those of them that are kept
 module _ (m parity : ℕ) (ds b : List ℕ) (r : Register) (bd : Bytes ds) (bb : Bytes b) (size : length b ≡ 32) (are : (i : ℕ) → i < 32 → seq b i ≡ byteAt r i)
     (zeros : (i : ℕ) → parity ≤ i → i < 32 → seq b i ≡ 0) where
-  P : Passes 0x163
-  P = passes 0x163 passes-163
+  P : Primitive 0x163
+  P = primitive 0x163 primitive-163
 
   past : (i : ℕ) → seq (drop parity b) i ≡ 0
   past i = getD-drop parity b i 0 ∙ elim (decLt (parity + i) 32) [
@@ -98,7 +98,7 @@ pub left-written : (k : ℕ) (block block′ b : List ℕ) (r : Register) → By
     → Leaves (length block - k) k block r → length b ≡ 32 → ((i : ℕ) → i < 32 → seq b i ≡ byteAt r i) → ((i : ℕ) → length block - k ≤ i → i < 32 → seq b i ≡ 0)
     → Each (behindOf k b) (length block) block block′ → block′ ≡ writtenOf 0x163 1 (length block - k) block
 left-written k block block′ b r bs small h T L size are zeros E =
-    written-by 0x163 (passes 0x163 passes-163) 1 k block block′ bs small h stay
+    written-by 0x163 (primitive 0x163 primitive-163) 1 k block block′ bs small h stay
     (record {
       test = zero-codeword 0x163 1 p (take k block ++ drop k block′) (λ j l.
           ap (λ (q : List ℕ). eval 0x163 (power 0x163 (1 + j)) (take k block ++ q)) kept

@@ -1,6 +1,6 @@
 -- Laws of the parity of data, for any field whose polynomial passes the order test and any first root.
 pub mod Remainder
-pub mod Followed
+pub mod ParityBytes
 pub mod Fit
 pub mod Left
 pub mod Theorems

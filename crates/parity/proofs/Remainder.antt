@@ -3,7 +3,7 @@ use Rattle.general.proofs.Names.{_≡_, refl, sym, ap, ap₂, _∙_, subst, fun
 use Rattle.general.proofs.Names.{add-zero, add-suc, ℕ-discrete, decLt, xor-self, xor-zero-l, xor-zero-r}
 use Rattle.field.specs.Field.{power, mul}
 use Rattle.field.proofs.Xor.{xor-swap}
-use Rattle.field.proofs.Field.{Passes, mul-lt, mul-assoc, mul-one, sum-lt}
+use Rattle.field.proofs.Field.{Primitive, mul-lt, mul-assoc, mul-one, sum-lt}
 use Rattle.field.proofs.Field.{mul-sum as sum-mul}
 use Rattle.field.proofs.Entries.{mul-left-zero, mul-right-zero}
 use Rattle.reed_solomon.specs.Sum.{_⊕_, seq, horner}
@@ -60,7 +60,7 @@ module _ (poly x : ℕ) where
         (let e : n ≡ m + (suc d + (n - (m + suc d))) = omega arith in ap (horner poly (moved m g) x) e)
         ∙ horner-moved g m (suc d + (n - (m + suc d))) ∙ horner-behind (n - (m + suc d))
 
-  module _ (P : Passes poly) where
+  module _ (P : Primitive poly) where
     horner-stepped : (q m : ℕ) (f g : ℕ → ℕ) (n : ℕ) → horner poly (stepped poly q m f g) x n ≡ horner poly f x n ⊕ mul poly q (horner poly (moved m g) x n)
     unfolding horner stepped
     horner-stepped q m f g zero = sym (mul-right-zero poly q)
@@ -93,7 +93,7 @@ rooted-stepped poly a f (suc i) = stepped-high poly a 1 f f (suc i) (omega arith
     ∙ (let e : suc i - 1 ≡ i = omega arith in ap (λ (k : ℕ). f (suc i) ⊕ mul poly a (f k)) e)
 
 -- times x + α^(first + n)
-pub generator-next : (poly : ℕ) → Passes poly → (first n : ℕ) (g : ℕ → ℕ) → Generator poly first n g
+pub generator-next : (poly : ℕ) → Primitive poly → (first n : ℕ) (g : ℕ → ℕ) → Generator poly first n g
     → Generator poly first (n + 1) (stepped poly (power poly (first + n)) 1 g g)
 generator-next poly P first n g G = record {
   monic = record {
@@ -118,7 +118,7 @@ generator-next poly P first n g G = record {
     ]
 
 -- the same on arrays
-pub multiplied : (poly : ℕ) → Passes poly → (first n a : ℕ) (g g′ : List ℕ) → Generator poly first n (seq g) → a ≡ power poly (first + n)
+pub multiplied : (poly : ℕ) → Primitive poly → (first n a : ℕ) (g g′ : List ℕ) → Generator poly first n (seq g) → a ≡ power poly (first + n)
     → Each (added poly a 1 g) (n + 2) g g′ → Generator poly first (n + 1) (seq g′)
 multiplied poly P first n a g g′ G e E =
     subst (Generator poly first (n + 1))
@@ -133,7 +133,7 @@ generator-monic poly first n m g G h k = generator-end poly first n m g G h k .m
 
 -- ---- division
 
-module _ (poly : ℕ) (P : Passes poly) (d : ℕ) (g : ℕ → ℕ) (M : Monic d g) (n : ℕ) (w : ℕ → ℕ) where
+module _ (poly : ℕ) (P : Primitive poly) (d : ℕ) (g : ℕ → ℕ) (M : Monic d g) (n : ℕ) (w : ℕ → ℕ) where
   pub divided-start : ((i : ℕ) → w i < 256) → Divided poly d g n 0 w w
   divided-start b = record { bytes = b; front = λ j h. absurd (omega arith); same = λ x z. refl }
 
@@ -159,7 +159,7 @@ module _ (poly : ℕ) (P : Passes poly) (d : ℕ) (g : ℕ → ℕ) (M : Monic d
           ∙ ap (λ (y : ℕ). w′ i ⊕ y) (mul-one poly P (w′ i) ∙ (let b : w′ i % 256 ≡ w′ i = omega (arith, D .bytes i) in b)) ∙ xor-self (w′ i)
 
 -- the same on arrays
-pub reduced : (poly : ℕ) → Passes poly → (d n i : ℕ) (g w w′ w″ : List ℕ) → Monic d (seq g) → Divided poly d (seq g) n i (seq w) (seq w′) → i + suc d ≤ n
+pub reduced : (poly : ℕ) → Primitive poly → (d n i : ℕ) (g w w′ w″ : List ℕ) → Monic d (seq g) → Divided poly d (seq g) n i (seq w) (seq w′) → i + suc d ≤ n
     → Each (added poly (seq w′ i) i g) (i + d + 1) w′ w″ → Divided poly d (seq g) n (i + 1) (seq w) (seq w″)
 reduced poly P d n i g w w′ w″ M D h E =
     subst (Divided poly d (seq g) n (i + 1) (seq w)) (sym (whole poly (seq w′ i) i d (i + d + 1) w′ w″ g E (M .tail) (omega arith)))
@@ -169,7 +169,7 @@ pub divided-end : (poly d : ℕ) (g : ℕ → ℕ) (n i k : ℕ) (w w′ : ℕ �
 divided-end poly d g n i k w w′ D h l = let e : i ≡ k = omega arith in subst (λ (x : ℕ). Divided poly d g n x w w′) e D
 
 -- data w with zeros behind them, and the rest w′ of their division: data followed by the rest are zero wherever g is
-pub joined-root : (poly : ℕ) → Passes poly → (d : ℕ) (g : ℕ → ℕ) (n k : ℕ) (w w′ b : ℕ → ℕ) → Divided poly d g n k w w′
+pub joined-root : (poly : ℕ) → Primitive poly → (d : ℕ) (g : ℕ → ℕ) (n k : ℕ) (w w′ b : ℕ → ℕ) → Divided poly d g n k w w′
     → ((i : ℕ) → k ≤ i → w i ≡ 0) → ((i : ℕ) → i < k → b i ≡ w i) → ((i : ℕ) → k ≤ i → i < n → b i ≡ w′ i)
     → (x : ℕ) → horner poly g x (suc d) ≡ 0 → horner poly b x n ≡ 0
 joined-root poly P d g n k w w′ b D z front back x r =

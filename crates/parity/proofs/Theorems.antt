@@ -2,34 +2,34 @@
 -- first root, and data of bytes with at most 255 places together with their parity. Assumes nothing.
 use Rattle.general.proofs.Names.{_≡_, sym, ap, _∙_, subst, some, List, _++_, ℕ, _+_, _-_, _≤_, arith, T, length, length-append, length-take-le, take-at}
 use Rattle.field.specs.Field.{orderTest}
-use Rattle.field.proofs.Field.{passes}
+use Rattle.field.proofs.Field.{primitive}
 use Rattle.reed_solomon.specs.Block.{isCodeword, parityOf}
 use Rattle.reed_solomon.proofs.Search.{Bytes, found-passing}
 use Rattle.parity.specs.Encode.{dataPart, writtenOf}
-use Rattle.parity.proofs.Followed.{append-bytes, take-bytes, Follows, follows-one, follows-found, some-follows}
+use Rattle.parity.proofs.ParityBytes.{append-bytes, take-bytes, CompletesCodeword, completes-one, completes-found, some-completes}
 use Rattle.parity.specs.Inner.{withParity}
 
 module _ (poly : ℕ) (test : T (orderTest poly)) (first parity : ℕ) (ds : List ℕ) where
-  follows-of : (p : List ℕ) → parityOf poly first parity ds ≡ some p → Follows poly first parity ds p
+  completes-of : (p : List ℕ) → parityOf poly first parity ds ≡ some p → CompletesCodeword poly first parity ds p
   unfolding parityOf
-  follows-of p e = found-passing (λ p. isCodeword poly first parity (ds ++ p)) parity p e
+  completes-of p e = found-passing (λ p. isCodeword poly first parity (ds ++ p)) parity p e
 
   -- Data have a parity: the search finds bytes, as many as it should.
   pub has-parity : Bytes ds → length ds + parity ≤ 255
       → (p : List ℕ) × (parityOf poly first parity ds ≡ some p) × (length p ≡ parity) × Bytes p
   has-parity b small =
-      let r = some-follows poly (passes poly test) first parity ds b in
-      (r .0, follows-found poly (passes poly test) first parity ds b small (r .0) (r .1), r .1 .size, r .1 .bytes)
+      let r = some-completes poly (primitive poly test) first parity ds b in
+      (r .0, completes-found poly (primitive poly test) first parity ds b small (r .0) (r .1), r .1 .size, r .1 .bytes)
 
   -- Data followed by their parity are a codeword.
   pub parity-makes-codeword : (p : List ℕ) → parityOf poly first parity ds ≡ some p → T (isCodeword poly first parity (ds ++ p))
-  parity-makes-codeword p e = follows-of p e .test
+  parity-makes-codeword p e = completes-of p e .test
 
   -- It is the only codeword with these data.
   pub only-codeword : Bytes ds → length ds + parity ≤ 255 → (p q : List ℕ) → parityOf poly first parity ds ≡ some p → length q ≡ parity → Bytes q
       → T (isCodeword poly first parity (ds ++ q)) → q ≡ p
   only-codeword b small p q e size bytes t =
-      follows-one poly (passes poly test) first parity ds b small q p (record { test = t; size = size; bytes = bytes }) (follows-of p e)
+      completes-one poly (primitive poly test) first parity ds b small q p (record { test = t; size = size; bytes = bytes }) (completes-of p e)
 
 -- What is written is a codeword of the same length with the same data.
 pub written-codeword : (poly : ℕ) → T (orderTest poly) → (first parity : ℕ) (block : List ℕ) → Bytes block → parity ≤ length block → length block ≤ 255

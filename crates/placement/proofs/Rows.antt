@@ -9,7 +9,7 @@ use Rattle.bits.proofs.Words.{length-low}
 use Rattle.bits.proofs.Bytes.{take-small}
 use Rattle.codewords.specs.Codewords.{maskAt, maskBit, dataBits}
 use Rattle.masks.specs.Columns.{Row}
-use Rattle.placement.specs.Walk.{bitsFrom, Legible, Pending, Words, Walk, Masked, Aligned, rowBits, Goes}
+use Rattle.placement.specs.Walk.{bitsFrom, BitsAndKinds, FewPending, Words, Walk, Masked, Aligned, rowBits, ReadsColumns}
 use Rattle.placement.specs.declared.Run.{Run}
 
 -- Parts of a list.
@@ -48,7 +48,7 @@ pub masked : {row : List ℕ} (sq : List ℕ) (at side : ℕ) → ((k : ℕ) →
     → Masked (part at (at + side) sq) row
 masked sq at side g r s h = record { side = omega (arith, part-length at side sq h); modules = part-small at (at + side) sq g; masks = r }
 
-pub aligned : {mask : ℕ} {ks sq row : List ℕ} (at side : ℕ) → Legible ks sq → Row mask row → side ≤ 189 → at + side ≤ length sq
+pub aligned : {mask : ℕ} {ks sq row : List ℕ} (at side : ℕ) → BitsAndKinds ks sq → Row mask row → side ≤ 189 → at + side ≤ length sq
     → Aligned (part at (at + side) ks) (part at (at + side) sq) row
 aligned {mask} {ks} {sq} {row} at side g r s h =
     let k : length (part at (at + side) ks) ≡ side = part-length at side ks (omega arith) in
@@ -115,7 +115,7 @@ bits-none m ks sq i h = ap (dataBits m i (drop i ks)) (drop-of-length-le sq {i =
 
 -- The walk over all rows.
 
-pub rows-pending : {r : Run} → r .value ≡ 0 → r .bits ≡ 0 → Pending r
+pub rows-pending : {r : Run} → r .value ≡ 0 → r .bits ≡ 0 → FewPending r
 rows-pending {r} v b = record { few = omega arith; small = omega (arith, pow-pos (8 + r .bits)) }
 
 -- the column does not matter
@@ -143,7 +143,7 @@ module _ {total : ℕ} {all out out′ row : List ℕ} {r s : Run} (m : ℕ → 
   pub row-turn : ((c : ℕ) → c < side → getD (rowIn i side ks) c 0 ≡ 0 → getD row c 0 ≡ m (i * side + c))
       → rowBits (rowIn i side ks) (rowIn i side sq) row (r .column) ≡ rowBits (rowIn i side ks) (rowIn i side sq) row 0
       → rowBits (rowIn i side ks) (rowIn i side sq) row (s .column) ≡ []
-      → Goes (rowIn i side ks) (rowIn i side sq) row out out′ r s → Walk total all out (bitsFrom m ks sq (i * side)) r
+      → ReadsColumns (rowIn i side ks) (rowIn i side sq) row out out′ r s → Walk total all out (bitsFrom m ks sq (i * side)) r
       → Walk total all out′ (bitsFrom m ks sq ((i + 1) * side)) s
   row-turn e a b go w =
       let rest = bitsFrom m ks sq (i * side + side) in
@@ -153,14 +153,14 @@ module _ {total : ℕ} {all out out′ row : List ℕ} {r s : Run} (m : ℕ → 
 
   -- all columns are read
   pub rows-turn : ((c : ℕ) → c < side → getD row c 0 ≡ m (i * side + c)) → r .column ≡ 0 → s .column ≡ length (rowIn i side ks)
-      → Goes (rowIn i side ks) (rowIn i side sq) row out out′ r s → Walk total all out (bitsFrom m ks sq (i * side)) r
+      → ReadsColumns (rowIn i side ks) (rowIn i side sq) row out out′ r s → Walk total all out (bitsFrom m ks sq (i * side)) r
       → Walk total all out′ (bitsFrom m ks sq ((i + 1) * side)) s
   rows-turn e a b =
       row-turn (λ c q d. e c q) (ap (rowBits (rowIn i side ks) (rowIn i side sq) row) a)
       (bits-none (λ k. getD row k 0) (rowIn i side ks) (rowIn i side sq) (s .column)
       (omega (arith, part-length (i * side) side sq h, part-length (i * side) side ks (omega arith))))
 
-pub rows-done : {total : ℕ} {all out : List ℕ} {r : Run} (m : ℕ → ℕ) (ks sq : List ℕ) (i : ℕ) → length sq ≤ i → Pending r
+pub rows-done : {total : ℕ} {all out : List ℕ} {r : Run} (m : ℕ → ℕ) (ks sq : List ℕ) (i : ℕ) → length sq ≤ i → FewPending r
     → Walk total all out (bitsFrom m ks sq i) r → out ≡ firstWords 8 total all
 unfolding firstWords groups
 rows-done {total} {all} {out} {r} m ks sq i h p k =

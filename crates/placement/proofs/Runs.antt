@@ -6,10 +6,10 @@ use lib.Count.{trailingZeros, under, trailing-le}
 use lib.Pow.{shr-shr, mod-pow-add, mod-mod-pow, field}
 use Rattle.general.proofs.Finite.{upTo, every}
 use Rattle.bits.specs.Bits.{value}
-use Rattle.placement.specs.Walk.{eightOf, run, behind, unmaskedAt, Gathered, Pushed, Aligned, Skipped, Goes, Leads, NoData, Next, Moves}
+use Rattle.placement.specs.Walk.{eightOf, run, behind, unmaskedAt, Gathered, Pushed, Aligned, Skipped, ReadsColumns, ZeroBytesFirst, NoData, Next, ReadsNext}
 use Rattle.placement.specs.declared.Run.{Run}
 use Rattle.placement.proofs.Eights.{eight-byte, eight-down}
-use Rattle.placement.proofs.Walk.{run-small, run-at, run-front, first-value, gathered-is, bits-small, goes-push, goes-skip}
+use Rattle.placement.proofs.Walk.{run-small, run-at, run-front, first-value, gathered-is, bits-small, reads-push, reads-skip}
 
 -- Zeros at a number's end.
 
@@ -35,8 +35,8 @@ trailing-most (suc k) n (suc j) h e =
     let low : n % 2 ≡ 0 = omega arith in
     subst (λ (d : ℕ). suc j ≤ under d (trailingZeros k (n / 2))) (sym low) (suc-le-suc (trailing-most k (n / 2) j (omega arith) (omega arith)))
 
-pub leads : (x : ℕ) → Leads x (trailingZeros 64 x / 8)
-leads x =
+pub zero-bytes-first : (x : ℕ) → ZeroBytesFirst x (trailingZeros 64 x / 8)
+zero-bytes-first x =
     let t = trailingZeros 64 x in
     let few = trailing-le 64 x in
     let e : trailingZeros 64 x ≡ trailingZeros 64 x % 8 + 8 * (trailingZeros 64 x / 8) = omega arith in
@@ -47,8 +47,8 @@ leads x =
       first = λ z. omega (arith, trailing-most 64 x 8 (omega arith) z);
     }
 
-lead-byte : {x w : ℕ} → Leads x w → (j : ℕ) → j < w → x / 2 ^ (8 * j) % 256 ≡ 0
-lead-byte {x} {w} l j h =
+first-byte-zero : {x w : ℕ} → ZeroBytesFirst x w → (j : ℕ) → j < w → x / 2 ^ (8 * j) % 256 ≡ 0
+first-byte-zero {x} {w} l j h =
     let n = 8 + 8 * j in
     let e : 8 * w ≡ 8 * (w - 1 - j) + (8 + 8 * j) = omega arith in
     let z : x % 2 ^ (8 + 8 * j) ≡ 0 =
@@ -91,11 +91,11 @@ holes-at k j p h z =
     let and = ap (λ (y : ℕ). y % 2) (and-shr (bitOr k (k / 2)) bits n) ∙ and-mod (bitOr k (k / 2) / 2 ^ n) (bits / 2 ^ n) 1 ∙ ap₂ bitAnd or m in
     ap (λ (y : ℕ). y % 2) (xor-shr (bitAnd (bitOr k (k / 2)) bits) bits n) ∙ xor-mod (bitAnd (bitOr k (k / 2)) bits / 2 ^ n) (bits / 2 ^ n) 1 ∙ ap₂ bitXor and m
 
-pub no-data-are : {k w : ℕ} → Leads (holes k) w → NoData k w
+pub no-data-are : {k w : ℕ} → ZeroBytesFirst (holes k) w → NoData k w
 no-data-are {k} {w} l = record {
   least = l .first (holes-first k);
   most = l .most;
-  none = λ j p h z. omega (arith, lead-byte l j h, holes-at k j p (omega arith) z);
+  none = λ j p h z. omega (arith, first-byte-zero l j h, holes-at k j p (omega arith) z);
 }
 
 -- From column to column.
@@ -130,23 +130,23 @@ first-are {sq = sq} {row = row} {b = b} {c = c} n g w h l =
     ∙ ap (value 0) (run-front w b (unmaskedAt sq row c) (λ i q. n .bits i (omega arith)))
 
 module _ {k x left : ℕ} {out : List ℕ} {r s : Run} (some : 0 < left) (few : left ≤ 8) where
-  pub moves-push : {out′ : List ℕ} {l g : ℕ} (w : ℕ) → Leads k l → w ≤ l → w ≤ left → 0 < w → Gathered x g → s .column ≡ r .column + w
-      → Pushed w (g / 2 ^ (8 - w)) out out′ r s → Moves k x left out out′ r s
-  moves-push {g = g} w l a b p e f q = record {
+  pub reads-next-push : {out′ : List ℕ} {l g : ℕ} (w : ℕ) → ZeroBytesFirst k l → w ≤ l → w ≤ left → 0 < w → Gathered x g → s .column ≡ r .column + w
+      → Pushed w (g / 2 ^ (8 - w)) out out′ r s → ReadsNext k x left out out′ r s
+  reads-next-push {g = g} w l a b p e f q = record {
     go = λ ks sq row u n. (
       omega arith,
       omega arith,
-      goes-push (n .aligned .masked) (n .aligned .size) w (g / 2 ^ (8 - w)) (omega arith)
-          (λ j h. sym (byte-is ks (r .column) (n .bytes) (n .kinds) j (omega arith)) ∙ lead-byte l j (omega arith)) (first-are n e w b few) f q,
+      reads-push (n .aligned .masked) (n .aligned .size) w (g / 2 ^ (8 - w)) (omega arith)
+          (λ j h. sym (byte-is ks (r .column) (n .bytes) (n .kinds) j (omega arith)) ∙ first-byte-zero l j (omega arith)) (first-are n e w b few) f q,
     );
   }
 
-  pub moves-skip : {w : ℕ} → Leads k 0 → NoData k w → s .column ≡ r .column + w → s .n ≡ r .n → s .value ≡ r .value → s .bits ≡ r .bits
-      → Moves k x left out out r s
-  moves-skip {w} l u e f g h = record {
+  pub reads-next-skip : {w : ℕ} → ZeroBytesFirst k 0 → NoData k w → s .column ≡ r .column + w → s .n ≡ r .n → s .value ≡ r .value → s .bits ≡ r .bits
+      → ReadsNext k x left out out r s
+  reads-next-skip {w} l u e f g h = record {
     go = λ ks sq row b n.
         let q = subst (Skipped ks (r .column)) (sym e) (passed ks (r .column) (n .bytes) (n .kinds) (omega arith) (λ z. omega (arith, l .first z)) u) in
-        (omega arith, q .most, goes-skip (n .aligned .masked) (n .aligned .size) q f g h);
+        (omega arith, q .most, reads-skip (n .aligned .masked) (n .aligned .size) q f g h);
   }
 
 -- Eight bytes of a list that end with it, shifted down.
@@ -166,8 +166,8 @@ module _ {ks sq row : List ℕ} (a : Aligned ks sq row) (bytes : (i : ℕ) → g
 
   pub last-moves : {out out′ : List ℕ} {r s : Run} {k x : ℕ} → r .column < length ks → length ks ≤ r .column + 8
       → k ≡ eightOf (behind ks (length ks - 8)) → x ≡ eightOf (unmaskedAt sq row (length ks - 8))
-      → Moves (k / 2 ^ (64 - 8 * (length ks - r .column))) (x / 2 ^ (64 - 8 * (length ks - r .column))) (length ks - r .column) out out′ r s
-      → (r .column < s .column) × (s .column ≤ length ks) × Goes ks sq row out out′ r s
+      → ReadsNext (k / 2 ^ (64 - 8 * (length ks - r .column))) (x / 2 ^ (64 - 8 * (length ks - r .column))) (length ks - r .column) out out′ r s
+      → (r .column < s .column) × (s .column ≤ length ks) × ReadsColumns ks sq row out out′ r s
   unfolding run
   last-moves {r = r} lo hi e f m =
       let left = length ks - r .column in

@@ -8,8 +8,8 @@ use Rattle.bits.specs.Bits.{lowBits, value, firstWords, groups}
 use Rattle.bits.proofs.Words.{length-low, low-back}
 use Rattle.bits.proofs.Bytes.{value-add, value-small, low-value}
 use Rattle.codewords.specs.Codewords.{dataBits}
-use Rattle.placement.specs.Walk.{bitsFrom, byteOf, eightOf, run, behind, Gathered, Pending, Words, Walk, Stored, Pushed, Masked, unmaskedAt, Skipped}
-use Rattle.placement.specs.Walk.{rowBits, Goes}
+use Rattle.placement.specs.Walk.{bitsFrom, byteOf, eightOf, run, behind, Gathered, FewPending, Words, Walk, Stored, Pushed, Masked, unmaskedAt, Skipped}
+use Rattle.placement.specs.Walk.{rowBits, ReadsColumns}
 use Rattle.placement.specs.declared.Run.{Run}
 use Rattle.placement.proofs.Eights.{xor-eight}
 
@@ -155,7 +155,7 @@ module _ {total : ℕ} {all out : List ℕ} {n : ℕ} where
 
 -- Bits pushed behind pending ones.
 
-module _ {r : Run} (p : Pending r) (w x : ℕ) (short : w ≤ 8) (hx : x < 2 ^ w) where
+module _ {r : Run} (p : FewPending r) (w x : ℕ) (short : w ≤ 8) (hx : x < 2 ^ w) where
   pub shifted-lt : r .value * 2 ^ w < 2 ^ (8 + r .bits + w)
   shifted-lt = shl-lt (8 + r .bits) w (p .small)
 
@@ -176,7 +176,7 @@ module _ {r : Run} (p : Pending r) (w x : ℕ) (short : w ≤ 8) (hx : x < 2 ^ w
 
   -- still fewer than eight
   pub few-pushed : {s : Run} {out : List ℕ} → s .value ≡ r .value * 2 ^ w + x → s .bits ≡ r .bits + w → s .n ≡ r .n → r .bits + w < 8
-      → Pending s × Pushed w x out out r s
+      → FewPending s × Pushed w x out out r s
   few-pushed {s} {out} v b n h = (
     record { few = omega arith; small = subst (λ (k : ℕ). s .value < 2 ^ (8 + k)) (sym b) (subst (λ (y : ℕ). y < 2 ^ (8 + (r .bits + w))) (sym v) sum-lt) },
     record {
@@ -189,7 +189,7 @@ module _ {r : Run} (p : Pending r) (w x : ℕ) (short : w ≤ 8) (hx : x < 2 ^ w
 
   -- a codeword, and what is left
   pub full-pushed : {s : Run} {out out′ : List ℕ} (left : ℕ) → r .bits + w ≡ 8 + left → s .value ≡ (r .value * 2 ^ w + x) % 256 → s .bits ≡ left
-      → Stored (r .n) ((r .value * 2 ^ w + x) / 2 ^ left % 256) out out′ (s .n) → Pending s × Pushed w x out out′ r s
+      → Stored (r .n) ((r .value * 2 ^ w + x) / 2 ^ left % 256) out out′ (s .n) → FewPending s × Pushed w x out out′ r s
   full-pushed {s} {out} {out′} left l v b st = (
     record { few = omega arith; small = omega (arith, pow-le-pow-right {n = 2} (lit< tt) {i = 8} {j = 8 + s .bits} (omega arith)) },
     record {
@@ -269,9 +269,9 @@ module _ {sq row : List ℕ} (a : Masked sq row) where
 
 module _ {ks sq row : List ℕ} (a : Masked sq row) (size : length sq ≡ length ks) where
   -- n data modules pushed
-  pub goes-push : {out out′ : List ℕ} {r s : Run} (n x : ℕ) → r .column + n ≤ length ks → ((k : ℕ) → k < n → getD ks (r .column + k) 0 ≡ 0)
-      → x ≡ value 0 (run n (unmaskedAt sq row (r .column))) → s .column ≡ r .column + n → Pushed n x out out′ r s → Goes ks sq row out out′ r s
-  goes-push {out} {out′} {r} {s} n x h z e f q = record {
+  pub reads-push : {out out′ : List ℕ} {r s : Run} (n x : ℕ) → r .column + n ≤ length ks → ((k : ℕ) → k < n → getD ks (r .column + k) 0 ≡ 0)
+      → x ≡ value 0 (run n (unmaskedAt sq row (r .column))) → s .column ≡ r .column + n → Pushed n x out out′ r s → ReadsColumns ks sq row out out′ r s
+  reads-push {out} {out′} {r} {s} n x h z e f q = record {
     go = λ total all rest k.
         let b : rowBits ks sq row (r .column) ≡ lowBits n x ++ rowBits ks sq row (s .column) =
         from-hits (λ k. getD row k 0) ks sq (omega arith) n (r .column) (omega arith) z
@@ -281,9 +281,9 @@ module _ {ks sq row : List ℕ} (a : Masked sq row) (size : length sq ≡ length
   }
 
   -- modules that are no data passed
-  pub goes-skip : {out : List ℕ} {r s : Run} → Skipped ks (r .column) (s .column)
-      → s .n ≡ r .n → s .value ≡ r .value → s .bits ≡ r .bits → Goes ks sq row out out r s
-  goes-skip {out} {r} {s} q n v b = record {
+  pub reads-skip : {out : List ℕ} {r s : Run} → Skipped ks (r .column) (s .column)
+      → s .n ≡ r .n → s .value ≡ r .value → s .bits ≡ r .bits → ReadsColumns ks sq row out out r s
+  reads-skip {out} {r} {s} q n v b = record {
     go = λ total all rest k. record {
       words = subst (λ (i : ℕ). Words total all out (lowBits (s .bits) (s .value) ++ (rowBits ks sq row (s .column) ++ rest)) i) (sym n)
           (same-words (ap₂ (λ (l t : List ℕ). l ++ (t ++ rest)) (sym (ap₂ lowBits b v)) passed) (k .words));
@@ -296,8 +296,8 @@ module _ {ks sq row : List ℕ} (a : Masked sq row) (size : length sq ≡ length
           from-misses (λ k. getD row k 0) ks sq (omega arith) (s .column - r .column) (r .column) (omega arith) (λ k l h. q .none k l (omega arith))
           ∙ ap (rowBits ks sq row) e
 
-pub goes-none : {ks sq row out : List ℕ} {r : Run} → Goes ks sq row out out r r
-goes-none = record { go = λ total all rest k. k }
+pub reads-none : {ks sq row out : List ℕ} {r : Run} → ReadsColumns ks sq row out out r r
+reads-none = record { go = λ total all rest k. k }
 
-pub goes-on : {ks sq row a b c : List ℕ} {r s t : Run} → Goes ks sq row a b r s → Goes ks sq row b c s t → Goes ks sq row a c r t
-goes-on f g = record { go = λ total all rest k. g .go total all rest (f .go total all rest k) }
+pub reads-on : {ks sq row a b c : List ℕ} {r s t : Run} → ReadsColumns ks sq row a b r s → ReadsColumns ks sq row b c s t → ReadsColumns ks sq row a c r t
+reads-on f g = record { go = λ total all rest k. g .go total all rest (f .go total all rest k) }

@@ -45,7 +45,7 @@ pub record Gathered (x r : ℕ) : Type 0 where
 -- Reading.
 
 -- a square of bits and at least as many kinds
-pub record Legible (ks sq : List ℕ) : Type 0 where
+pub record BitsAndKinds (ks sq : List ℕ) : Type 0 where
   pub kinds : length sq ≤ length ks
   pub few : length sq ≤ 65535
   pub bits : (i : ℕ) → getD sq i 0 < 2
@@ -55,7 +55,7 @@ abbrev pub bitsFrom : (ℕ → ℕ) → List ℕ → List ℕ → ℕ → List �
 bitsFrom m ks sq i = dataBits m i (drop i ks) (drop i sq)
 
 -- fewer than eight bits are pending, with at most eight others above them
-pub record Pending (r : Run) : Type 0 where
+pub record FewPending (r : Run) : Type 0 where
   pub few : r .bits < 8
   pub small : r .value < 2 ^ (8 + r .bits)
 
@@ -105,14 +105,14 @@ abbrev pub rowBits : List ℕ → List ℕ → List ℕ → ℕ → List ℕ
 rowBits ks sq row c = bitsFrom (λ k. getD row k 0) ks sq c
 
 -- from one column of a row to another, whatever is behind the row
-pub record Goes (ks sq row out out′ : List ℕ) (r s : Run) : Type 0 where
+pub record ReadsColumns (ks sq row out out′ : List ℕ) (r s : Run) : Type 0 where
   pub go : (total : ℕ) (all rest : List ℕ) → Walk total all out (rowBits ks sq row (r .column) ++ rest) r
       → Walk total all out′ (rowBits ks sq row (s .column) ++ rest) s
 
 -- Runs of modules of one sort.
 
 -- the first w bytes of x are 0, and w is not 0 where the first byte is
-pub record Leads (x w : ℕ) : Type 0 where
+pub record ZeroBytesFirst (x w : ℕ) : Type 0 where
   pub most : w ≤ 8
   pub zeros : x % 2 ^ (8 * w) ≡ 0
   pub first : x % 256 ≡ 0 → 1 ≤ w
@@ -134,6 +134,6 @@ pub record Next (ks sq row : List ℕ) (b : ℕ → ℕ) (c k x left : ℕ) : Ty
   pub bits : (i : ℕ) → i < left → b i ≡ unmaskedAt sq row c i
 
 -- some of them are passed, in every such row
-pub record Moves (k x left : ℕ) (out out′ : List ℕ) (r s : Run) : Type 0 where
+pub record ReadsNext (k x left : ℕ) (out out′ : List ℕ) (r s : Run) : Type 0 where
   pub go : (ks sq row : List ℕ) (b : ℕ → ℕ) → Next ks sq row b (r .column) k x left
-      → (r .column < s .column) × (s .column ≤ length ks) × Goes ks sq row out out′ r s
+      → (r .column < s .column) × (s .column ≤ length ks) × ReadsColumns ks sq row out out′ r s

@@ -5,7 +5,7 @@ ghost use mathlib.Core.List.{_++_};
 ghost use Prim.Native.Nat.{ℕ, _+_, _*_, _^_, _≤_, _<_};
 ghost use lib.ListN.{length, drop};
 ghost use Rattle.codewords.specs.Codewords.{maskBit, dataBits};
-ghost use Rattle.placement.specs.Walk.{Legible, fourOf, eightOf, behind, Gathered, Pending, Stored, Pushed, Masked, unmaskedAt, Aligned, Goes, Leads, NoData, Moves};
+ghost use Rattle.placement.specs.Walk.{BitsAndKinds, fourOf, eightOf, behind, Gathered, FewPending, Stored, Pushed, Masked, unmaskedAt, Aligned, ReadsColumns, ZeroBytesFirst, NoData, ReadsNext};
 ghost use Rattle.bits.specs.Bits.{firstWords};
 
 // Where a row is read: the column, the codewords so far, and the first bits of the next, which are the lowest of `value`.
@@ -19,7 +19,10 @@ pub struct Run {
 fn four(a: u8, b: u8, c: u8, d: u8) -> usize
     ensures { λ r. ⌜ (r ≡ fourOf a b c d) × (r < 4294967296) ⌝ }
 {
-    bits::wide(a) + bits::wide(b) * 256 + bits::wide(c) * 65536 + bits::wide(d) * 16777216
+    bits::as_usize(a)
+        + bits::as_usize(b) * 256
+        + bits::as_usize(c) * 65536
+        + bits::as_usize(d) * 16777216
 }
 
 // Eight bytes as one number: a single load. It is a function of its own so that the loads are merged before the number is compared.
@@ -53,8 +56,8 @@ fn store(out: &mut [u8], n: usize, x: usize) -> usize
 
 // The w bits of x behind those read so far. Bits that are stored may stay in `value` above the others.
 pub fn push(out: &mut [u8], r: Run, x: usize, w: usize) -> Run
-    requires { ⌜ Pending r × (w ≤ 8) × (x < 2 ^ w) × (r .column < 65536) ⌝ }
-    ensures { λ s. ⌜ Pending s × (s .column ≡ r .column + w) × Pushed w x (now (out .entry)) (now (out .exit)) r s ⌝ }
+    requires { ⌜ FewPending r × (w ≤ 8) × (x < 2 ^ w) × (r .column < 65536) ⌝ }
+    ensures { λ s. ⌜ FewPending s × (s .column ≡ r .column + w) × Pushed w x (now (out .entry)) (now (out .exit)) r s ⌝ }
 {
     let v = (r.value << w) + x;
     let bits = r.bits + w;
@@ -94,8 +97,8 @@ fn least(a: usize, b: usize) -> usize
 }
 
 // How many of the bytes of x come before the first that is not 0.
-fn lead(x: usize) -> usize
-    ensures { λ r. ⌜ Leads x r ⌝ }
+fn zero_bytes(x: usize) -> usize
+    ensures { λ r. ⌜ ZeroBytesFirst x r ⌝ }
 {
     (u64::trailing_zeros(x as u64) as usize) / 8
 }
@@ -105,15 +108,15 @@ fn lead(x: usize) -> usize
 pub fn no_data(k: usize) -> usize
     ensures { λ r. ⌜ NoData k r ⌝ }
 {
-    lead(((k | (k / 2)) & 0x0101010101010100) ^ 0x0101010101010100)
+    zero_bytes(((k | (k / 2)) & 0x0101010101010100) ^ 0x0101010101010100)
 }
 
 // The data modules that come first of the next `left` columns, or the others up to the first of them; k and x have their kinds and bits.
 fn advance(out: &mut [u8], k: usize, x: usize, left: usize, r: Run) -> Run
-    requires { ⌜ Pending r × (0 < left) × (left ≤ 8) × (r .column ≤ 192) ⌝ }
-    ensures { λ s. ⌜ Pending s × Moves k x left (now (out .entry)) (now (out .exit)) r s ⌝ }
+    requires { ⌜ FewPending r × (0 < left) × (left ≤ 8) × (r .column ≤ 192) ⌝ }
+    ensures { λ s. ⌜ FewPending s × ReadsNext k x left (now (out .entry)) (now (out .exit)) r s ⌝ }
 {
-    let w = least(lead(k), left);
+    let w = least(zero_bytes(k), left);
     if w == 0 {
         return Run {
             column: r.column + no_data(k),
@@ -127,9 +130,9 @@ fn advance(out: &mut [u8], k: usize, x: usize, left: usize, r: Run) -> Run
 
 // Eight data modules, or as above.
 fn step(out: &mut [u8], kinds: &[u8], square: &[u8], row: &[u8], r: Run) -> Run
-    requires { ⌜ Aligned (now kinds) (now square) (now row) × Pending r × (r .column + 8 ≤ length (now kinds)) ⌝ }
-    ensures { λ s. ⌜ Pending s × (r .column < s .column) × (s .column ≤ length (now (kinds .entry)))
-        × Goes (now (kinds .entry)) (now (square .entry)) (now (row .entry)) (now (out .entry)) (now (out .exit)) r s ⌝ }
+    requires { ⌜ Aligned (now kinds) (now square) (now row) × FewPending r × (r .column + 8 ≤ length (now kinds)) ⌝ }
+    ensures { λ s. ⌜ FewPending s × (r .column < s .column) × (s .column ≤ length (now (kinds .entry)))
+        × ReadsColumns (now (kinds .entry)) (now (square .entry)) (now (row .entry)) (now (out .entry)) (now (out .exit)) r s ⌝ }
 {
     let c = r.column;
     let k = eight(kinds, c);
@@ -142,10 +145,10 @@ fn step(out: &mut [u8], kinds: &[u8], square: &[u8], row: &[u8], r: Run) -> Run
 
 // The last modules of a row, fewer than eight: the eight that end the row are shifted down.
 fn read_last(out: &mut [u8], kinds: &[u8], square: &[u8], row: &[u8], first: Run) -> Run
-    requires { ⌜ Aligned (now kinds) (now square) (now row) × Pending first × (first .column ≤ length (now kinds)) × (8 ≤ length (now kinds))
+    requires { ⌜ Aligned (now kinds) (now square) (now row) × FewPending first × (first .column ≤ length (now kinds)) × (8 ≤ length (now kinds))
         × (length (now kinds) ≤ first .column + 8) ⌝ }
-    ensures { λ s. ⌜ Pending s × (s .column ≡ length (now (kinds .entry)))
-        × Goes (now (kinds .entry)) (now (square .entry)) (now (row .entry)) (now (out .entry)) (now (out .exit)) first s ⌝ }
+    ensures { λ s. ⌜ FewPending s × (s .column ≡ length (now (kinds .entry)))
+        × ReadsColumns (now (kinds .entry)) (now (square .entry)) (now (row .entry)) (now (out .entry)) (now (out .exit)) first s ⌝ }
 {
     let end = kinds.len();
     let k = eight(kinds, end - 8);
@@ -171,9 +174,9 @@ pub fn groups_end(side: usize) -> usize
 
 // One row.
 fn read_row(out: &mut [u8], kinds: &[u8], square: &[u8], row: &[u8], first: Run) -> Run
-    requires { ⌜ Aligned (now kinds) (now square) (now row) × Pending first × (first .column ≡ 0) × (8 ≤ length (now kinds)) ⌝ }
-    ensures { λ s. ⌜ Pending s × (s .column ≡ length (now (kinds .entry)))
-        × Goes (now (kinds .entry)) (now (square .entry)) (now (row .entry)) (now (out .entry)) (now (out .exit)) first s ⌝ }
+    requires { ⌜ Aligned (now kinds) (now square) (now row) × FewPending first × (first .column ≡ 0) × (8 ≤ length (now kinds)) ⌝ }
+    ensures { λ s. ⌜ FewPending s × (s .column ≡ length (now (kinds .entry)))
+        × ReadsColumns (now (kinds .entry)) (now (square .entry)) (now (row .entry)) (now (out .entry)) (now (out .exit)) first s ⌝ }
 {
     let end = groups_end(kinds.len());
     let mut r = first;
@@ -185,7 +188,7 @@ fn read_row(out: &mut [u8], kinds: &[u8], square: &[u8], row: &[u8], first: Run)
 
 // As many codewords of a square as `out` has room for.
 fn read_rows(out: &mut [u8], kinds: &[u8], square: &[u8], side: usize, mask: usize)
-    requires { ⌜ Legible (now kinds) (now square) × (8 ≤ side) × (side ≤ 189) × (length (now square) ≡ side * side)
+    requires { ⌜ BitsAndKinds (now kinds) (now square) × (8 ≤ side) × (side ≤ 189) × (length (now square) ≡ side * side)
         × (8 * length (now out) ≤ length (dataBits (maskBit side mask) 0 (now kinds) (now square))) ⌝ }
     ensures { λ _. ⌜ now (out .exit) ≡ firstWords 8 (length (now (out .entry))) (dataBits (maskBit side mask) 0 (now (kinds .entry)) (now (square .entry))) ⌝ }
 {
@@ -224,7 +227,7 @@ pub fn read_codewords(
     side: usize,
     mask: usize,
 )
-    requires { ⌜ Legible (now kinds) (now square) × (8 ≤ side) × (side ≤ 189) × (length (now square) ≡ side * side) ⌝ }
+    requires { ⌜ BitsAndKinds (now kinds) (now square) × (8 ≤ side) × (side ≤ 189) × (length (now square) ≡ side * side) ⌝ }
     requires { ⌜ (total ≤ length (now out)) × (8 * total ≤ length (dataBits (maskBit side mask) 0 (now kinds) (now square))) ⌝ }
     ensures { λ _. ⌜ now (out .exit) ≡ firstWords 8 total (dataBits (maskBit side mask) 0 (now (kinds .entry)) (now (square .entry))) ++ drop total
         (now (out .entry)) ⌝ }

@@ -2,20 +2,20 @@
 use Rattle.general.proofs.Names.{_≡_, refl, sym, ap, _∙_, inl, inr, _≢_, Bool, true, false, List, [], _∷_, ℕ, _+_, _*_, _≤_, _<_, arith, ℕ-discrete, decLt}
 use Rattle.general.proofs.Names.{eq-eqb, ne-eqb, eqb, length, getD, List·getD-eq-default}
 use Rattle.marks.specs.Read.{firstRefusal, unless}
-use Rattle.reader.specs.Inner.{Greater, Greatest}
+use Rattle.reader.specs.Inner.{GreaterOf, GreatestByte}
 use Rattle.marks.proofs.Refusals.{unless-true, first-skips, first-takes}
 use Rattle.marks.proofs.Modules.{modules-below, below-modules}
 use Rattle.marks.specs.Inner.{areModules}
 
 -- the greatest of the first n bytes
-pub record Greatest-to (sq : List ℕ) (n r : ℕ) : Type 0 where
+pub record GreatestByteUpTo (sq : List ℕ) (n r : ℕ) : Type 0 where
   pub all : (i : ℕ) → i < n → getD sq i 0 ≤ r
   pub some : 0 < r → (i : ℕ) × (getD sq i 0 ≡ r)
 
-pub greatest-start : (sq : List ℕ) → Greatest-to sq 0 0
+pub greatest-start : (sq : List ℕ) → GreatestByteUpTo sq 0 0
 greatest-start sq = record { all = λ i h. absurd (omega arith); some = λ h. absurd (omega arith) }
 
-pub greatest-next : (sq : List ℕ) (n r r′ : ℕ) → Greatest-to sq n r → Greater r (getD sq n 0) r′ → Greatest-to sq (n + 1) r′
+pub greatest-next : (sq : List ℕ) (n r r′ : ℕ) → GreatestByteUpTo sq n r → GreaterOf r (getD sq n 0) r′ → GreatestByteUpTo sq (n + 1) r′
 greatest-next sq n r r′ G H = record {
   all = λ i h. elim (ℕ-discrete i n) [
     | yes e ↦ omega (arith, ap (λ (x : ℕ). getD sq x 0) e, H .right)
@@ -27,7 +27,7 @@ greatest-next sq n r r′ G H = record {
   ];
 }
 
-pub greatest-end : (sq : List ℕ) (n r : ℕ) → Greatest-to sq n r → length sq ≤ n → Greatest sq r
+pub greatest-end : (sq : List ℕ) (n r : ℕ) → GreatestByteUpTo sq n r → length sq ≤ n → GreatestByte sq r
 greatest-end sq n r G h = record {
   all = λ i. elim (decLt i n) [
     | yes l ↦ G .all i l
@@ -36,10 +36,10 @@ greatest-end sq n r G h = record {
   some = G .some;
 }
 
-pub all-modules : (sq : List ℕ) (r : ℕ) → Greatest sq r → r ≤ 1 → areModules sq ≡ true
+pub all-modules : (sq : List ℕ) (r : ℕ) → GreatestByte sq r → r ≤ 1 → areModules sq ≡ true
 all-modules sq r G h = below-modules sq (λ i. omega (arith, G .all i))
 
-pub not-modules : (sq : List ℕ) (r : ℕ) → Greatest sq r → 1 < r → areModules sq ≡ false
+pub not-modules : (sq : List ℕ) (r : ℕ) → GreatestByte sq r → 1 < r → areModules sq ≡ false
 not-modules sq r G h = go (areModules sq) refl
   where
     go : (b : Bool) → areModules sq ≡ b → b ≡ false

@@ -1,3 +1,3 @@
 -- Laws of the readings' inner functions.
 pub mod Bytes
-pub mod Opens
+pub mod FirstRefusals

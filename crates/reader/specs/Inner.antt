@@ -9,13 +9,13 @@ use Rattle.receipts.specs.declared.Mark.{Mark}
 use Rattle.marks.specs.Inner.{levelIn, maskIn, distanceIn}
 
 -- the greater of two
-pub record Greater (a b r : ℕ) : Type 0 where
+pub record GreaterOf (a b r : ℕ) : Type 0 where
   pub left : a ≤ r
   pub right : b ≤ r
   pub one : (r ≡ a) ⊎ (r ≡ b)
 
 -- r is the greatest byte
-pub record Greatest (sq : List ℕ) (r : ℕ) : Type 0 where
+pub record GreatestByte (sq : List ℕ) (r : ℕ) : Type 0 where
   pub all : (i : ℕ) → getD sq i 0 ≤ r
   pub some : 0 < r → (i : ℕ) × (getD sq i 0 ≡ r)
 
@@ -27,5 +27,5 @@ pub record Nearest (v : ℕ) (sq : List ℕ) (m : Mark) : Type 0 where
   pub distance : m .distance ≡ distanceIn v sq
 
 -- a buffer holds the layout of any version whose squares have this one's size
-pub record Roomy (sq ks : List ℕ) : Type 0 where
+pub record FitsLayout (sq ks : List ℕ) : Type 0 where
   pub room : (v : ℕ) → v ≤ 84 → length sq ≡ sideOf v * sideOf v → sideOf v * sideOf v ≤ length ks

@@ -6,8 +6,8 @@ ghost use lib.Dec.{eqb};
 ghost use lib.ListN.{length, getD};
 ghost use Rattle.symbol.specs.Version.{sideOf};
 ghost use Rattle.marks.specs.Read.{firstRefusal, unless, readingOf, readOf, readKnownOf};
-ghost use Rattle.telling.specs.Inner.{Fitting, bodyOr1};
-ghost use Rattle.reader.specs.Inner.{Greater, Greatest, Nearest, Roomy};
+ghost use Rattle.decoding.specs.Inner.{PassesFirstRefusals, bodyOr1};
+ghost use Rattle.reader.specs.Inner.{GreaterOf, GreatestByte, Nearest, FitsLayout};
 ghost use Rattle.marks.specs.Inner.{areModules};
 use information::NearestInfo;
 use receipts::Mark;
@@ -15,14 +15,14 @@ use symbol::FromSide;
 use symbol::Version;
 
 fn greater(a: u8, b: u8) -> u8
-    ensures { λ r. ⌜ Greater a b r ⌝ }
+    ensures { λ r. ⌜ GreaterOf a b r ⌝ }
 {
     if a < b { b } else { a }
 }
 
 // The greatest byte, with no early exit: a test of each byte would be slower.
 fn greatest(square: &[u8]) -> u8
-    ensures { λ r. ⌜ Greatest (now (square .entry)) r ⌝ }
+    ensures { λ r. ⌜ GreatestByte (now (square .entry)) r ⌝ }
 {
     let mut top = 0;
     let mut i = 0;
@@ -56,11 +56,11 @@ fn finish_in(
     script: &mut [u8],
     receipt: &mut [u8],
 ) -> usize
-    requires { ⌜ Fitting m (now square) × (length (now receipt) ≡ 12) × (sideOf (m .version) * sideOf (m .version) ≤ length (now kinds)) ⌝ }
+    requires { ⌜ PassesFirstRefusals m (now square) × (length (now receipt) ≡ 12) × (sideOf (m .version) * sideOf (m .version) ≤ length (now kinds)) ⌝ }
     ensures { λ r. ⌜ readingOf r (now (receipt .exit)) (now (payload .exit)) (now (script .exit))
         ≡ bodyOr1 m (now (square .entry)) (now (payload .entry)) (now (script .entry)) ⌝ }
 {
-    let t = telling::tell(kinds, square, m, payload, script);
+    let t = decoding::decode(kinds, square, m, payload, script);
     let number = t.number;
     receipts::write_receipt(receipt, m, t);
     number
@@ -103,7 +103,7 @@ fn read_square_in(
     script: &mut [u8],
     receipt: &mut [u8],
 ) -> usize
-    requires { ⌜ Roomy (now square) (now kinds) ⌝ }
+    requires { ⌜ FitsLayout (now square) (now kinds) ⌝ }
     ensures { λ r. ⌜ readingOf r (now (receipt .exit)) (now (payload .exit)) (now (script .exit))
         ≡ readOf (now (square .entry)) side (now (payload .entry)) (now (script .entry)) (now (receipt .entry)) ⌝ }
 {
@@ -133,7 +133,7 @@ fn read_known_in(
     script: &mut [u8],
     receipt: &mut [u8],
 ) -> usize
-    requires { ⌜ Roomy (now square) (now kinds) × (m .distance ≡ 0) ⌝ }
+    requires { ⌜ FitsLayout (now square) (now kinds) × (m .distance ≡ 0) ⌝ }
     ensures { λ r. ⌜ readingOf r (now (receipt .exit)) (now (payload .exit)) (now (script .exit))
         ≡ readKnownOf (now (square .entry)) (m .version) (m .level) (m .mask) (now (payload .entry)) (now (script .entry)) (now (receipt .entry)) ⌝ }
 {

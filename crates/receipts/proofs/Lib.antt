@@ -1,3 +1,3 @@
--- Laws of the receipt and of what is told.
+-- Laws of the receipt and of the answer for a square.
 pub mod Receipts
 pub mod Answers

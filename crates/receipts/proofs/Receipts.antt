@@ -5,7 +5,7 @@ use Rattle.general.specs.Each.{Each}
 use Rattle.marks.specs.Receipt.{receiptOf, refusalReceipt}
 use Rattle.receipts.specs.Inner.{receiptIn}
 use Rattle.receipts.specs.declared.Mark.{Mark}
-use Rattle.receipts.specs.declared.Told.{Told}
+use Rattle.receipts.specs.declared.SquareAnswer.{SquareAnswer}
 
 byte : (x n : ℕ) → x ≡ n % 256 → n < 256 → x ≡ n
 byte x n e h = omega arith
@@ -33,11 +33,11 @@ refusal-is n x h e = ap (λ (y : ℕ). y ∷ replicate 11 0) (byte x n e h)
 pub put-end : (i : ℕ) (r₀ r bytes : List ℕ) → Each (copied bytes) i r₀ r → 12 ≤ i → length r₀ ≡ 12 → length bytes ≡ 12 → r ≡ bytes
 put-end i r₀ r bytes E h a b = ext-getD 0 r bytes (E .size ∙ a ∙ sym b) (λ k l. E .done k (omega (arith, E .size)))
 
-pub in-accepted : (m : Mark) (t : Told) → t .number ≡ 0
+pub in-accepted : (m : Mark) (t : SquareAnswer) → t .number ≡ 0
     → receiptOf (m .version) (m .level) (m .mask) (t .count) (m .distance) (t .payload) (t .script) ≡ receiptIn m t
 unfolding receiptIn
 in-accepted m t e = simp (eq-eqb (t .number) 0 e)
 
-pub in-refused : (m : Mark) (t : Told) → t .number ≢ 0 → refusalReceipt (t .number) ≡ receiptIn m t
+pub in-refused : (m : Mark) (t : SquareAnswer) → t .number ≢ 0 → refusalReceipt (t .number) ≡ receiptIn m t
 unfolding receiptIn
 in-refused m t d = simp (ne-eqb (t .number) 0 d)

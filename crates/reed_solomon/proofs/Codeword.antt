@@ -2,7 +2,7 @@
 use Rattle.general.proofs.Names.{_≡_, refl, sym, ap, ap₂, _∙_, subst, Bool, true, false, _&&_, List, [], _∷_, _++_, ℕ, zero, suc, _+_, _%_, _≤_, _<_, arith}
 use Rattle.general.proofs.Names.{T, eqb, eqb→eq, length, getD, drop, drop-of-length-le, drop-cons, ext-getD, xor-self}
 use Rattle.field.specs.Field.{power, mul, below}
-use Rattle.field.proofs.Field.{Passes, below-at, sum-lt}
+use Rattle.field.proofs.Field.{Primitive, below-at, sum-lt}
 use Rattle.reed_solomon.specs.Sum.{_⊕_, seq, horner, syndrome}
 use Rattle.reed_solomon.proofs.Sum.{Null, add-zero-eq}
 use Rattle.reed_solomon.proofs.Peel.{Out, syndrome-add, only-zero}
@@ -74,7 +74,7 @@ difference-null u v i e o =
     ap (λ (x : ℕ). (x ⊕ seq v i) % 256) (places-out 0 u v e i (let m : i ≡ 0 + i = omega arith in subst (λ (x : ℕ). Out x (places 0 u v)) m o))
     ∙ ap (λ (x : ℕ). x % 256) (xor-self (seq v i))
 
-module _ (poly : ℕ) (P : Passes poly) (first : ℕ) where
+module _ (poly : ℕ) (P : Primitive poly) (first : ℕ) where
   pub eval-syndrome : (w : List ℕ) (j : ℕ) → Bytes w → eval poly (power poly (first + j)) w ≡ syndromeOf poly first w j
   eval-syndrome w j b = eval-horner poly (power poly (first + j)) w ∙ syndrome-value poly P first (length w) (seq w) j b
 

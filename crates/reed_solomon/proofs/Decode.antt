@@ -1,9 +1,9 @@
 -- What the syndromes say of a codeword in reach: the shortest register that makes them locates its errors. Assumes nothing.
 use Rattle.general.proofs.Names.{_≡_, sym, ap, _∙_, subst, _≢_, List, ℕ, suc, _+_, _-_, _%_, _≤_, _<_, arith, T, length, xor-zero-r}
 use Rattle.field.specs.Field.{power, mul}
-use Rattle.field.proofs.Field.{Passes, mul-comm, sum-lt}
+use Rattle.field.proofs.Field.{Primitive, mul-comm, sum-lt}
 use Rattle.reed_solomon.specs.Sum.{_⊕_, seq, degree, locator, syndrome}
-use Rattle.reed_solomon.specs.Register.{Makes}
+use Rattle.reed_solomon.specs.Register.{Generates}
 use Rattle.reed_solomon.proofs.Sum.{Null, add-zero-eq}
 use Rattle.reed_solomon.proofs.Peel.{Out, null-mul, null-div, only-zero}
 use Rattle.reed_solomon.proofs.Register.{discrepancy-ext}
@@ -16,7 +16,7 @@ use Rattle.reed_solomon.proofs.Distance.{places, places-length, differ-
 use Rattle.reed_solomon.proofs.Codeword.{codeword-zero, difference, difference-null, difference-syndrome}
 use Rattle.reed_solomon.proofs.Nearest.{Near}
 
-module _ (poly : ℕ) (P : Passes poly) (first parity : ℕ) (w : List ℕ) (small : length w ≤ 255) (bw : Bytes w)
+module _ (poly : ℕ) (P : Primitive poly) (first parity : ℕ) (w : List ℕ) (small : length w ≤ 255) (bw : Bytes w)
     (s : List ℕ) (Y : Syndromes poly first parity w s) where
   abbrev _⊗_ : ℕ → ℕ → ℕ
   _⊗_ = mul poly
@@ -65,7 +65,7 @@ module _ (poly : ℕ) (P : Passes poly) (first parity : ℕ) (w : List ℕ) (sma
 
       -- the locator is no longer than there are errors
       pub l-le : l ≤ distance w c
-      unfolding Makes
+      unfolding Generates
       l-le =
           subst (λ (x : ℕ). l ≤ x) (places-length 0 w c)
           (F .least (product poly (length w) ks) (length ks)
@@ -75,7 +75,7 @@ module _ (poly : ℕ) (P : Passes poly) (first parity : ℕ) (w : List ℕ) (sma
 
       -- and is zero at each error
       null-at : (k : ℕ) → k < length w → Null (err k ⊗ R k)
-      unfolding Makes
+      unfolding Generates
       null-at =
           only-zero poly P first (length w) small ks 0 (length ks) (λ i. err i ⊗ R i) (omega arith)
           (λ i h o. ap (λ (x : ℕ). x % 256) (null-mul poly P (err i) (R i) (err-null i h o)))

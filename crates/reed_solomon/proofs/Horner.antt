@@ -4,7 +4,7 @@ use Rattle.general.proofs.Names.{_≡_, refl, sym, ap, ap₂, _∙_, subst, _�
 use Rattle.general.proofs.Names.{ℕ-discrete, eq-eqb, ne-eqb, xor-self, xor-zero-r}
 use Rattle.field.specs.Field.{raised, power, mul}
 use Rattle.field.proofs.Xor.{xor-assoc, xor-swap}
-use Rattle.field.proofs.Field.{Passes, mul-lt, mul-comm, mul-assoc, mul-one, mul-power, sum-lt}
+use Rattle.field.proofs.Field.{Primitive, mul-lt, mul-comm, mul-assoc, mul-one, mul-power, sum-lt}
 use Rattle.field.proofs.Field.{mul-sum as sum-mul}
 use Rattle.field.proofs.Entries.{mul-left-zero, mul-right-zero}
 use Rattle.reed_solomon.specs.Sum.{_⊕_, sum, horner, degree, locator, weight, syndrome}
@@ -27,7 +27,7 @@ unfolding horner
 horner-ext poly f g x zero e = refl
 horner-ext poly f g x (suc n) e = ap₂ (λ (a b : ℕ). mul poly a x ⊕ b) (horner-ext poly f g x n (λ i l. e i (omega arith))) (e n (omega arith))
 
-module _ (poly : ℕ) (P : Passes poly) where
+module _ (poly : ℕ) (P : Primitive poly) where
   abbrev _⊗_ : ℕ → ℕ → ℕ
   _⊗_ = mul poly
 

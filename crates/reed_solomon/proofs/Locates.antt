@@ -2,7 +2,7 @@
 -- there is no error. Assumes nothing.
 use Rattle.general.proofs.Names.{_≡_, refl, sym, ap, _∙_, subst, _≢_, List, ℕ, suc, _+_, _-_, _*_, _%_, _≤_, _<_, arith, ℕ-discrete, xor-self}
 use Rattle.field.specs.Field.{power, mul}
-use Rattle.field.proofs.Field.{Passes, mul-comm, mul-assoc, sum-lt}
+use Rattle.field.proofs.Field.{Primitive, mul-comm, mul-assoc, sum-lt}
 use Rattle.field.proofs.Field.{mul-sum as sum-mul}
 use Rattle.reed_solomon.specs.Sum.{_⊕_, seq, horner, degree, weight, syndrome}
 use Rattle.reed_solomon.proofs.Sum.{Null, sum-ext, sum-one, add-zero-eq}
@@ -10,7 +10,7 @@ use Rattle.reed_solomon.proofs.Peel.{null-mul, null-div, power-alive}
 use Rattle.reed_solomon.proofs.Horner.{quotient, horner-one, quotient-root, few-zeros, convolution}
 use Rattle.reed_solomon.specs.Inner.{locatorAt, Locates, dividedAt, numerator, denominator, Magnitude}
 
-cancel-mul : (poly : ℕ) → Passes poly → (a b v : ℕ) → a < 256 → b < 256 → ¬ Null v → mul poly a v ≡ mul poly b v → a ≡ b
+cancel-mul : (poly : ℕ) → Primitive poly → (a b v : ℕ) → a < 256 → b < 256 → ¬ Null v → mul poly a v ≡ mul poly b v → a ≡ b
 cancel-mul poly P a b v ha hb d e =
     add-zero-eq a b (omega (
       arith,
@@ -18,7 +18,7 @@ cancel-mul poly P a b v ha hb d e =
       null-div poly P (a ⊕ b) v (ap (λ (x : ℕ). x % 256) (sum-mul poly P a b v ∙ ap (λ (x : ℕ). x ⊕ mul poly b v) e ∙ xor-self (mul poly b v))) d,
     ))
 
-module _ (poly : ℕ) (P : Passes poly) (first parity n : ℕ) (small : n ≤ 255) (err : ℕ → ℕ) (s h : List ℕ) (l : ℕ)
+module _ (poly : ℕ) (P : Primitive poly) (first parity n : ℕ) (small : n ≤ 255) (err : ℕ → ℕ) (s h : List ℕ) (l : ℕ)
     (A : Locates poly first parity n err s h l) (k : ℕ) (hk : k < n) (zk : locatorAt poly h l (degree n k) ≡ 0) where
   abbrev _⊗_ : ℕ → ℕ → ℕ
   _⊗_ = mul poly

@@ -2,7 +2,7 @@
 use Rattle.general.proofs.Names.{_≡_, refl, ap, ap₂, _∙_, ite, if-pos, if-neg, List, [], _∷_, ℕ, zero, suc, _-_, _%_, _≤_, _<_, arith, ℕ-discrete, length}
 use Rattle.general.proofs.Names.{xor-self}
 use Rattle.field.specs.Field.{mul}
-use Rattle.field.proofs.Field.{Passes, mul-lt}
+use Rattle.field.proofs.Field.{Primitive, mul-lt}
 use Rattle.field.proofs.Entries.{mul-left-zero, mul-right-zero}
 use Rattle.reed_solomon.specs.Sum.{_⊕_, horner, locator, syndrome}
 use Rattle.reed_solomon.specs.Register.{discrepancy, Tail}
@@ -28,7 +28,7 @@ product-tail poly n (k ∷ ks) (suc i) h =
     ap₂ (λ (x y : ℕ). x ⊕ mul poly (locator poly n k) y) (product-tail poly n ks (suc i) (omega arith)) (product-tail poly n ks i (omega arith))
     ∙ mul-right-zero poly (locator poly n k)
 
-module _ (poly : ℕ) (P : Passes poly) (first n : ℕ) where
+module _ (poly : ℕ) (P : Primitive poly) (first n : ℕ) where
   abbrev _⊗_ : ℕ → ℕ → ℕ
   _⊗_ = mul poly
 

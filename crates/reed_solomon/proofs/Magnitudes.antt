@@ -2,7 +2,7 @@
 use Rattle.general.proofs.Names.{_≡_, refl, sym, ap, ap₂, _∙_, subst, subst₃, List, ℕ, suc, _+_, _-_, _*_, _/_, _%_, _≤_, _<_, arith, add-one, mul-le-mul}
 use Rattle.general.proofs.Names.{ℕ-discrete, length, set, length-set, getD-set-same, getD-set-other}
 use Rattle.field.specs.Field.{raised, power, mul}
-use Rattle.field.proofs.Field.{Passes, mul-lt, mul-assoc, mul-one, mul-power, power-period}
+use Rattle.field.proofs.Field.{Primitive, mul-lt, mul-assoc, mul-one, mul-power, power-period}
 use Rattle.reed_solomon.specs.Sum.{_⊕_, seq, sum, horner, degree}
 use Rattle.reed_solomon.proofs.Sum.{sum-next}
 use Rattle.reed_solomon.specs.Inner.{Reduced, stepped, SteppedTwo, dividedAt, numerator, denominator, Magnitude, ErrorAt, Errors}
@@ -72,7 +72,7 @@ pub last-is : (poly d a s m num den u v p : ℕ) → u ≡ mul poly m (power pol
 last-is poly d a s m num den u v p eu ev ep =
     (ap (λ (x : ℕ). num ⊕ x) (ep ∙ ap (λ (x : ℕ). mul poly (x ⊕ a) s) eu), ap₂ _⊕_ ev (ap (λ (x : ℕ). x ⊕ a) eu))
 
-pub two-are : (poly : ℕ) → Passes poly → (d n a b s t m num den u v w y z p q : ℕ) → Reduced (d + d) n → u ≡ mul poly m (power poly d)
+pub two-are : (poly : ℕ) → Primitive poly → (d n a b s t m num den u v w y z p q : ℕ) → Reduced (d + d) n → u ≡ mul poly m (power poly d)
     → v ≡ mul poly m (power poly n) → w ≡ mul poly a (power poly d) → y ≡ mul poly den (power poly n) → z ≡ mul poly (u ⊕ a) (power poly d)
     → p ≡ mul poly (u ⊕ a) s → q ≡ mul poly (v ⊕ (w ⊕ b)) t
     → SteppedTwo poly d a b s t m num den (v ⊕ (w ⊕ b)) ((num ⊕ p) ⊕ q) (y ⊕ (z ⊕ (v ⊕ (w ⊕ b))))
@@ -90,7 +90,7 @@ two-are poly P d n a b s t m num den u v w y z p q R eu ev ew ey ez ep eq =
 pub small-product : (a b : ℕ) → a ≤ 255 → b ≤ 255 → a * b ≤ 65025
 small-product a b ha hb = mul-le-mul ha hb
 
-module _ (poly : ℕ) (P : Passes poly) (first : ℕ) (s f : List ℕ) (l d : ℕ) where
+module _ (poly : ℕ) (P : Primitive poly) (first : ℕ) (s f : List ℕ) (l d : ℕ) where
   pub magnitude-none : denominator poly f l d ≡ 0 → Magnitude poly first s f l d 0
   magnitude-none e = record { byte = omega arith; is = λ h. absurd (omega arith); none = λ z. refl }
 

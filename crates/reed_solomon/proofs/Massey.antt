@@ -3,10 +3,10 @@ use Rattle.general.proofs.Names.{_≡_, refl, sym, ap, _∙_, subst, subst₂, 
 use Rattle.general.proofs.Names.{decLt, length, set, replicate, length-set, length-replicate, getD-replicate, List·getD-eq-default, getD-set-same}
 use Rattle.general.proofs.Names.{getD-set-other, xor-zero-r}
 use Rattle.field.specs.Field.{mul}
-use Rattle.field.proofs.Field.{Passes, mul-lt, sum-lt}
+use Rattle.field.proofs.Field.{Primitive, mul-lt, sum-lt}
 use Rattle.field.proofs.Entries.{mul-right-zero}
 use Rattle.reed_solomon.specs.Sum.{_⊕_, seq}
-use Rattle.reed_solomon.specs.Register.{discrepancy, Makes, Tail, moved, stepped, State}
+use Rattle.reed_solomon.specs.Register.{discrepancy, Generates, Tail, moved, stepped, State}
 use Rattle.reed_solomon.proofs.Register.{moved-low, moved-high, stepped-low, stepped-tail, massey, kept, stayed, grown}
 use Rattle.reed_solomon.specs.Inner.{added, copied, Register, Shortest}
 use Rattle.general.specs.Each.{Each}
@@ -54,11 +54,11 @@ module _ (poly q m top : ℕ) (f₀ g₀ : List ℕ) where
 
 -- ---- what the algorithm keeps
 
-makes-less : (poly : ℕ) (s t : ℕ → ℕ) (r e : ℕ) → Makes poly s (r + 1) t e → Makes poly s r t e
-unfolding Makes
+makes-less : (poly : ℕ) (s t : ℕ → ℕ) (r e : ℕ) → Generates poly s (r + 1) t e → Generates poly s r t e
+unfolding Generates
 makes-less poly s t r e m x a b = m x a (omega arith)
 
-module _ (poly : ℕ) (P : Passes poly) (s : List ℕ) (r : ℕ) (f g : List ℕ) (l rg b : ℕ) (G : Register poly s r f g l rg b) where
+module _ (poly : ℕ) (P : Primitive poly) (s : List ℕ) (r : ℕ) (f g : List ℕ) (l rg b : ℕ) (G : Register poly s r f g l rg b) where
   pub register-kept : discrepancy poly (seq s) (seq f) l r ≡ 0 → Register poly s (r + 1) f g l rg b
   register-kept z = record {
     state = rw add-one (kept poly P (seq s) r l (seq f) rg (rg - l) (seq g) b (G .state) z);
@@ -159,7 +159,7 @@ one-bytes f h z i = elim (ℕ-discrete i 0) [
 
 pub register-start : (poly : ℕ) (s f g : List ℕ) → length f ≡ 256 → ((i : ℕ) → seq f i ≡ 0) → length g ≡ 256 → ((i : ℕ) → seq g i ≡ 0)
     → Register poly s 0 (set f 0 1) (set g 0 1) 0 0 1
-unfolding Tail Makes
+unfolding Tail Generates
 register-start poly s f g hf zf hg zg = record {
   state = record {
     f-tail = λ i h. one-first f hf zf i h;
@@ -190,11 +190,11 @@ pub register-end : (poly : ℕ) (s : List ℕ) (r n : ℕ) (f g : List ℕ) (l r
 register-end poly s r n f g l rg b G h k =
     let e : r ≡ n = omega arith in
     record {
-      makes = subst (λ (m : ℕ). Makes poly (seq s) m (seq f) l) e (G .state .f-makes);
+      makes = subst (λ (m : ℕ). Generates poly (seq s) m (seq f) l) e (G .state .f-makes);
       tail = G .state .f-tail;
       unit = G .unit;
       bytes = G .bytes;
       size = G .size-f;
       within = omega (arith, G .within);
-      least = λ t m q. G .least t m (subst (λ (x : ℕ). Makes poly (seq s) x t m) (sym e) q);
+      least = λ t m q. G .least t m (subst (λ (x : ℕ). Generates poly (seq s) x t m) (sym e) q);
     }

@@ -2,7 +2,7 @@
 use Rattle.general.proofs.Names.{_≡_, sym, subst, _∙_, Bool, _&&_, none, some, List, ℕ, _+_, _/_, _≤_, arith, decLt, T, leb, ltb, eqb, leb→le, le→leb}
 use Rattle.general.proofs.Names.{ltb→lt, lt→ltb, eqb→eq, eqb-refl, length, getD, List·getD-eq-default}
 use Rattle.field.specs.Field.{below}
-use Rattle.field.proofs.Field.{Passes, T-and, below-at}
+use Rattle.field.proofs.Field.{Primitive, T-and, below-at}
 use Rattle.reed_solomon.specs.Block.{isWord, isCodeword, distance, inReach, nearest}
 use Rattle.reed_solomon.proofs.Search.{Bytes, Passing, found-passing, passing-none, passing-some}
 use Rattle.reed_solomon.proofs.Distance.{triangle}
@@ -66,7 +66,7 @@ module _ (poly first parity : ℕ) (block : List ℕ) where
   unfolding nearest
   near-none h = passing-none test (length block) (λ w p. h w (reach-near w (p .test)))
 
-  module _ (P : Passes poly) (short : length block ≤ 255) where
+  module _ (P : Primitive poly) (short : length block ≤ 255) where
     pub near-one : (u v : List ℕ) → Near poly first parity block u → Near poly first parity block v → u ≡ v
     near-one u v N M =
         let t = triangle block u v (sym (N .size)) (sym (M .size)) in

@@ -3,7 +3,7 @@
 use Rattle.general.proofs.Names.{_≡_, sym, ap, ap₂, _∙_, subst, _≢_, List, [], _∷_, ℕ, zero, suc, _+_, _-_, _*_, _%_, _≤_, _<_, arith, le-of-suc-le-suc}
 use Rattle.general.proofs.Names.{not-suc-le-zero, ℕ-discrete, decLt, length, xor-self}
 use Rattle.field.specs.Field.{power, times, mul}
-use Rattle.field.proofs.Field.{Passes, power-lt, power-pos, power-inj, mul-lt, mul-comm, mul-assoc, mul-power, mul-none, sum-lt}
+use Rattle.field.proofs.Field.{Primitive, power-lt, power-pos, power-inj, mul-lt, mul-comm, mul-assoc, mul-power, mul-none, sum-lt}
 use Rattle.field.proofs.Field.{mul-sum as sum-mul}
 use Rattle.field.proofs.Entries.{mul-right-zero}
 use Rattle.reed_solomon.specs.Sum.{_⊕_, degree, locator, weight, syndrome}
@@ -18,7 +18,7 @@ Out i (k ∷ ks) = (i ≢ k) × Out i ks
 unfoldable pub peeled : ℕ → ℕ → ℕ → (ℕ → ℕ) → ℕ → ℕ
 peeled poly n k c i = mul poly (c i) (locator poly n i ⊕ locator poly n k)
 
-module _ (poly : ℕ) (P : Passes poly) where
+module _ (poly : ℕ) (P : Primitive poly) where
   abbrev _⊗_ : ℕ → ℕ → ℕ
   _⊗_ = mul poly
 

@@ -2,11 +2,11 @@
 use Rattle.general.proofs.Names.{_≡_, sym, ap, ap₂, _∙_, if-pos, if-neg, ℕ, suc, _+_, _-_, _%_, _≤_, _<_, arith, ℕ-discrete, decLt, decLe, xor-self}
 use Rattle.general.proofs.Names.{xor-zero-r}
 use Rattle.field.specs.Field.{mul}
-use Rattle.field.proofs.Field.{Passes, mul-assoc}
+use Rattle.field.proofs.Field.{Primitive, mul-assoc}
 use Rattle.field.proofs.Field.{mul-sum as sum-mul}
 use Rattle.field.proofs.Entries.{mul-left-zero, mul-right-zero}
 use Rattle.reed_solomon.specs.Sum.{_⊕_, sum}
-use Rattle.reed_solomon.specs.Register.{discrepancy, Makes, Tail, moved, stepped, State}
+use Rattle.reed_solomon.specs.Register.{discrepancy, Generates, Tail, moved, stepped, State}
 use Rattle.reed_solomon.proofs.Sum.{Null, sum-ext, sum-add, sum-zero, sum-one, sum-swap, sum-more, sum-drop, sum-scale, mul-left}
 use Rattle.reed_solomon.proofs.Peel.{null-div}
 
@@ -38,7 +38,7 @@ unfolding Tail
 stepped-tail poly q f g l lg m l′ tf tg h k i o =
     stepped-high poly q m f g i (omega arith) ∙ ap₂ (λ (x y : ℕ). x ⊕ mul poly q y) (tf i (omega arith)) (tg (i - m) (omega arith)) ∙ mul-right-zero poly q
 
-module _ (poly : ℕ) (P : Passes poly) (s : ℕ → ℕ) where
+module _ (poly : ℕ) (P : Primitive poly) (s : ℕ → ℕ) where
   abbrev _⊗_ : ℕ → ℕ → ℕ
   _⊗_ = mul poly
 
@@ -47,7 +47,7 @@ module _ (poly : ℕ) (P : Passes poly) (s : ℕ → ℕ) where
   miss = discrepancy poly s
 
   abbrev makes : ℕ → (ℕ → ℕ) → ℕ → Type 0
-  makes = Makes poly s
+  makes = Generates poly s
 
   -- the double sum, in either order
   both-ways : (f g : ℕ → ℕ) (l e r : ℕ) → sum (λ i. f i ⊗ miss g e (r - i)) (suc l) ≡ sum (λ j. g j ⊗ miss f l (r - j)) (suc e)
@@ -64,7 +64,7 @@ module _ (poly : ℕ) (P : Passes poly) (s : ℕ → ℕ) where
 
   -- Massey: a register that makes r values and misses the next; whatever makes that one too is long
   pub massey : (f t : ℕ → ℕ) (l e r : ℕ) → makes r f l → ¬ Null (miss f l r) → makes (suc r) t e → ¬ Null (t 0) → r < e + l
-  unfolding Makes
+  unfolding Generates
   massey f t l e r mf d mt t0 = elim (decLt r (e + l)) [
     | yes h ↦ h
     | no h ↦ absurd (t0 (null-div poly P (t 0) (miss f l r)
@@ -108,7 +108,7 @@ module _ (poly : ℕ) (P : Passes poly) (s : ℕ → ℕ) where
   module _ (r l : ℕ) (f : ℕ → ℕ) (rg lg : ℕ) (g : ℕ → ℕ) (b : ℕ) (I : State poly s r l f rg lg g b) where
     -- nothing missed
     pub kept : miss f l r ≡ 0 → State poly s (suc r) l f rg lg g b
-    unfolding Makes
+    unfolding Generates
     kept z = record {
       f-tail = I .f-tail;
       f-makes = λ x h k. elim (ℕ-discrete x r) [ yes e ↦ ap (miss f l) e ∙ z | no d ↦ I .f-makes x h (omega arith) ];
@@ -121,7 +121,7 @@ module _ (poly : ℕ) (P : Passes poly) (s : ℕ → ℕ) where
 
     module _ (q : ℕ) (qb : q ⊗ b ≡ miss f l r) where
       makes-more : (l′ : ℕ) → l ≤ l′ → lg + (suc r - rg) ≤ l′ → makes (suc r) (stepped poly q (suc r - rg) f g) l′
-      unfolding Makes
+      unfolding Generates
       makes-more l′ h k x o p =
           stepped-miss q f g l lg (suc r - rg) l′ x (I .f-tail) (I .g-tail) h k o
           ∙ elim (ℕ-discrete x r) [
@@ -145,7 +145,7 @@ module _ (poly : ℕ) (P : Passes poly) (s : ℕ → ℕ) where
 
       -- missed, and the length grows
       pub grown : l + l ≤ r → State poly s (suc r) (suc r - l) (stepped poly q (suc r - rg) f g) (suc r) l f (miss f l r)
-      unfolding Makes
+      unfolding Generates
       grown h = record {
         f-tail = stepped-tail poly q f g l lg (suc r - rg) (suc r - l) (I .f-tail) (I .g-tail) (omega arith) (omega (arith, I .lens, I .before));
         f-makes = makes-more (suc r - l) (omega arith) (omega (arith, I .lens, I .before));

@@ -2,7 +2,7 @@
 use Rattle.general.proofs.Names.{_≡_, sym, ap, ap₂, _∙_, subst, List, ℕ, suc, _+_, _-_, _*_, _/_, _%_, _≤_, _<_, arith, length, set, xor-zero-r}
 use Rattle.field.specs.Field.{power, mul}
 use Rattle.field.proofs.Xor.{xor-assoc}
-use Rattle.field.proofs.Field.{Passes, mul-assoc, mul-power, power-period}
+use Rattle.field.proofs.Field.{Primitive, mul-assoc, mul-power, power-period}
 use Rattle.field.proofs.Entries.{mul-left-zero}
 use Rattle.reed_solomon.specs.Sum.{_⊕_, seq, sum, degree}
 use Rattle.reed_solomon.proofs.Sum.{sum-next}
@@ -10,7 +10,7 @@ use Rattle.reed_solomon.specs.Inner.{without, withoutAll, repaired}
 use Rattle.general.specs.Each.{Each}
 use Rattle.general.proofs.Each.{each-same, each-next}
 
-module _ (poly : ℕ) (P : Passes poly) (first y d : ℕ) where
+module _ (poly : ℕ) (P : Primitive poly) (first y d : ℕ) where
   -- no error
   pub off-none : (parity : ℕ) (s : List ℕ) → y ≡ 0 → Each (without poly first y d) parity s s
   off-none parity s e =

@@ -3,7 +3,7 @@ use Rattle.general.proofs.Names.{_≡_, refl, sym, ap, ap₂, _∙_, _≢_, ℕ
 use Rattle.general.proofs.Names.{xor-self, xor-zero-r, xor-mod}
 use Rattle.field.specs.Field.{mul}
 use Rattle.field.proofs.Xor.{xor-assoc, xor-swap}
-use Rattle.field.proofs.Field.{Passes, mul-comm, mul-assoc}
+use Rattle.field.proofs.Field.{Primitive, mul-comm, mul-assoc}
 use Rattle.field.proofs.Field.{mul-sum as sum-mul}
 use Rattle.field.proofs.Entries.{mul-right-zero}
 use Rattle.reed_solomon.specs.Sum.{_⊕_, sum}
@@ -75,7 +75,7 @@ Null a = a % 256 ≡ 0
 pub null-add : (a b : ℕ) → Null a → Null b → Null (a ⊕ b)
 null-add a b x y = xor-mod a b 8 ∙ ap₂ _⊕_ x y
 
-module _ (poly : ℕ) (P : Passes poly) where
+module _ (poly : ℕ) (P : Primitive poly) where
   abbrev _⊗_ : ℕ → ℕ → ℕ
   _⊗_ = mul poly
 

@@ -2,7 +2,7 @@
 -- value there. Assumes nothing.
 use Rattle.general.proofs.Names.{_≡_, refl, sym, ap, ap₂, _∙_, subst, List, ℕ, suc, _+_, _-_, _*_, _%_, _≤_, _<_, arith, length, set}
 use Rattle.field.specs.Field.{raised, power, mul}
-use Rattle.field.proofs.Field.{Passes, mul-assoc, mul-one, mul-power}
+use Rattle.field.proofs.Field.{Primitive, mul-assoc, mul-one, mul-power}
 use Rattle.reed_solomon.specs.Sum.{_⊕_, seq, sum, degree}
 use Rattle.reed_solomon.proofs.Sum.{sum-ext, sum-next}
 use Rattle.reed_solomon.proofs.Horner.{horner-sum, horner-lt}
@@ -13,7 +13,7 @@ use Rattle.reed_solomon.proofs.Values.{reduced-power}
 use Rattle.reed_solomon.proofs.Search.{Bytes}
 
 -- a byte times α^0
-byte-one : (poly : ℕ) → Passes poly → (x k : ℕ) → x < 256 → k ≡ 0 → mul poly x (power poly k) ≡ x
+byte-one : (poly : ℕ) → Primitive poly → (x k : ℕ) → x < 256 → k ≡ 0 → mul poly x (power poly k) ≡ x
 unfolding raised
 byte-one poly P x k h e = ap (λ (n : ℕ). mul poly x (power poly n)) e ∙ mul-one poly P x ∙ (let z : x % 256 ≡ x = omega arith in z)
 
@@ -21,7 +21,7 @@ byte-one poly P x k h e = ap (λ (n : ℕ). mul poly x (power poly n)) e ∙ mul
 pub by-one : (poly n t r : ℕ) → r ≡ mul poly t (power poly n) → r ≡ shifted poly n 1 t
 by-one poly n t r h = h ∙ (let e : n ≡ 1 * n = omega arith in ap (λ (x : ℕ). mul poly t (power poly x)) e)
 
-pub by-reduced : (poly : ℕ) → Passes poly → (n k m t r : ℕ) → Reduced (k * n) m → r ≡ mul poly t (power poly m) → r ≡ shifted poly n k t
+pub by-reduced : (poly : ℕ) → Primitive poly → (n k m t r : ℕ) → Reduced (k * n) m → r ≡ mul poly t (power poly m) → r ≡ shifted poly n k t
 by-reduced poly P n k m t r R h = h ∙ ap (mul poly t) (reduced-power poly P (k * n) m R)
 
 pub sums-start : (poly l : ℕ) (terms : List ℕ) → Sums poly l terms 0 0 0 0 0
@@ -43,7 +43,7 @@ sums-next poly l terms i t a b c d a′ b′ c′ d′ S e ea eb ec ed = record 
 pub sums-end : (poly l : ℕ) (terms : List ℕ) (i n a b c d : ℕ) → Sums poly l terms i a b c d → i ≡ n → Sums poly l terms n a b c d
 sums-end poly l terms i n a b c d S e = subst (λ (k : ℕ). Sums poly l terms k a b c d) e S
 
-module _ (poly : ℕ) (P : Passes poly) (f : List ℕ) (l : ℕ) (bytes : Bytes f) where
+module _ (poly : ℕ) (P : Primitive poly) (f : List ℕ) (l : ℕ) (bytes : Bytes f) where
   -- at α^0 they are the coefficients
   pub terms-start : length f ≡ 256 → Terms poly f l 0 f
   terms-start h = record { size = h; are = λ i u. sym (byte-one poly P (seq f i) (0 * (l - i)) (bytes i) (omega arith)) }

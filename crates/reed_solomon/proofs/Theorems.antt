@@ -2,7 +2,7 @@
 -- and blocks of at most 255 bytes. Assumes nothing.
 use Rattle.general.proofs.Names.{_≡_, _≢_, List, some, ℕ, _+_, _≤_, arith, decLe, T, length}
 use Rattle.field.specs.Field.{orderTest}
-use Rattle.field.proofs.Field.{passes}
+use Rattle.field.proofs.Field.{primitive}
 use Rattle.reed_solomon.specs.Block.{isCodeword, distance, inReach, nearest}
 use Rattle.reed_solomon.proofs.Search.{Bytes}
 use Rattle.reed_solomon.proofs.Codeword.{near-equal}
@@ -14,18 +14,18 @@ module _ (poly : ℕ) (test : T (orderTest poly)) (first parity : ℕ) where
       → T (isCodeword poly first parity u) → T (isCodeword poly first parity v) → u ≢ v → parity + 1 ≤ distance u v
   least-distance u v small e bu bv cu cv d = elim (decLe (parity + 1) (distance u v)) [
     | yes h ↦ h
-    | no h ↦ absurd (d (near-equal poly (passes poly test) first parity u v small e bu bv cu cv (omega arith)))
+    | no h ↦ absurd (d (near-equal poly (primitive poly test) first parity u v small e bu bv cu cv (omega arith)))
   ]
 
   -- No block has two codewords in reach.
   pub no-block-has-two : (block u v : List ℕ) → length block ≤ 255
       → T (inReach poly first parity block u) → T (inReach poly first parity block v) → u ≡ v
   no-block-has-two block u v small tu tv =
-      near-one poly first parity block (passes poly test) small u v (reach-near poly first parity block u tu) (reach-near poly first parity block v tv)
+      near-one poly first parity block (primitive poly test) small u v (reach-near poly first parity block u tu) (reach-near poly first parity block v tv)
 
   -- The search finds the codeword in reach: what it finds is one, and if there is one, it finds that one.
   pub found-in-reach : (block w : List ℕ) → nearest poly first parity block ≡ some w → T (inReach poly first parity block w)
   found-in-reach block w e = near-reach poly first parity block w (some-near poly first parity block w e)
 
   pub in-reach-found : (block w : List ℕ) → length block ≤ 255 → T (inReach poly first parity block w) → nearest poly first parity block ≡ some w
-  in-reach-found block w small t = near-some poly first parity block (passes poly test) small w (reach-near poly first parity block w t)
+  in-reach-found block w small t = near-some poly first parity block (primitive poly test) small w (reach-near poly first parity block w t)

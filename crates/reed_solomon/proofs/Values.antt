@@ -2,7 +2,7 @@
 use Rattle.general.proofs.Names.{_≡_, refl, sym, ap, _∙_, List, [], _∷_, _++_, ℕ, suc, _+_, _*_, _≤_, _<_, arith, decLt, length, drop}
 use Rattle.general.proofs.Names.{drop-of-length-le, drop-cons}
 use Rattle.field.specs.Field.{power, mul}
-use Rattle.field.proofs.Field.{Passes, mul-assoc, mul-power, power-period}
+use Rattle.field.proofs.Field.{Primitive, mul-assoc, mul-power, power-period}
 use Rattle.field.proofs.Field.{mul-sum as sum-mul}
 use Rattle.field.proofs.Xor.{xor-assoc}
 use Rattle.reed_solomon.specs.Sum.{_⊕_, seq}
@@ -16,10 +16,10 @@ use Rattle.reed_solomon.proofs.Codeword.{eval-append, eval-horner}
 
 -- ---- several bytes a time: products that do not wait for each other
 
-pub reduced-power : (poly : ℕ) → Passes poly → (n r : ℕ) → Reduced n r → power poly r ≡ power poly n
+pub reduced-power : (poly : ℕ) → Primitive poly → (n r : ℕ) → Reduced n r → power poly r ≡ power poly n
 reduced-power poly P n r R = sym (power-period poly P (R .times) r) ∙ ap (power poly) (sym (R .is))
 
-module _ (poly : ℕ) (P : Passes poly) (n : ℕ) where
+module _ (poly : ℕ) (P : Primitive poly) (n : ℕ) where
   pub two-at-once : (r a b x u v : ℕ) → Reduced (n + n) r → u ≡ mul poly x (power poly r) → v ≡ mul poly a (power poly n)
       → u ⊕ (v ⊕ b) ≡ stepped poly n b (stepped poly n a x)
   two-at-once r a b x u v R eu ev = simp (eu, ev, reduced-power poly P (n + n) r R, sum-mul poly P, mul-assoc poly P, mul-power poly P, xor-assoc)
@@ -67,7 +67,7 @@ module _ (poly first parity : ℕ) (block : List ℕ) (at : ℕ) (s₀ : List �
       (λ j l. ap (evalFrom poly (power poly (first + j)) (seq s j)) (sym (drop-of-length-le block h))))
 
 -- from zeros on, the whole block gives its syndromes
-pub all-advanced : (poly : ℕ) → Passes poly → (first parity : ℕ) (block s₀ s : List ℕ) → length s₀ ≡ 256 → ((i : ℕ) → seq s₀ i ≡ 0) → Bytes block
+pub all-advanced : (poly : ℕ) → Primitive poly → (first parity : ℕ) (block s₀ s : List ℕ) → length s₀ ≡ 256 → ((i : ℕ) → seq s₀ i ≡ 0) → Bytes block
     → Each (advanced poly first block) parity s₀ s → Syndromes poly first parity block s
 all-advanced poly P first parity block s₀ s e z b E = record { size = E .size ∙ e; bytes = byte; are = value }
   where

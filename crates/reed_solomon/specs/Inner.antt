@@ -7,7 +7,7 @@ use lib.Dec.{eqb}
 use lib.ListN.{length}
 use Rattle.field.specs.Field.{power, mul, below}
 use Rattle.reed_solomon.specs.Sum.{_⊕_, seq, sum, horner, degree, syndrome}
-use Rattle.reed_solomon.specs.Register.{Makes, Tail, moved, State}
+use Rattle.reed_solomon.specs.Register.{Generates, Tail, moved, State}
 use Rattle.reed_solomon.specs.Block.{evalFrom, eval}
 
 -- ---- syndromes
@@ -50,17 +50,17 @@ pub record Register (poly : ℕ) (s : List ℕ) (r : ℕ) (f g : List ℕ) (l rg
   pub pos : 0 < b
   pub within : l ≤ r
   pub behind : l ≤ rg
-  pub least : (t : ℕ → ℕ) (e : ℕ) → Makes poly (seq s) r t e → (t 0 % 256 ≡ 0 → ⊥) → l ≤ e
+  pub least : (t : ℕ → ℕ) (e : ℕ) → Generates poly (seq s) r t e → (t 0 % 256 ≡ 0 → ⊥) → l ≤ e
 
 -- the shortest register that makes the first n values of s
 pub record Shortest (poly : ℕ) (s : List ℕ) (n : ℕ) (f : List ℕ) (l : ℕ) : Type 0 where
-  pub makes : Makes poly (seq s) n (seq f) l
+  pub makes : Generates poly (seq s) n (seq f) l
   pub tail : Tail (seq f) l
   pub unit : seq f 0 ≡ 1
   pub bytes : (i : ℕ) → seq f i < 256
   pub size : length f ≡ 256
   pub within : l ≤ n
-  pub least : (t : ℕ → ℕ) (e : ℕ) → Makes poly (seq s) n t e → (t 0 % 256 ≡ 0 → ⊥) → l ≤ e
+  pub least : (t : ℕ → ℕ) (e : ℕ) → Generates poly (seq s) n t e → (t 0 % 256 ≡ 0 → ⊥) → l ≤ e
 
 -- ---- its roots
 

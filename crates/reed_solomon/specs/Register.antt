@@ -11,8 +11,8 @@ unfoldable pub discrepancy : ℕ → (ℕ → ℕ) → (ℕ → ℕ) → ℕ →
 discrepancy poly s f l x = sum (λ i. mul poly (f i) (s (x - i))) (suc l)
 
 -- f of length l makes the first r values of s: from the place l on it misses none
-unfoldable pub Makes : ℕ → (ℕ → ℕ) → ℕ → (ℕ → ℕ) → ℕ → Type 0
-Makes poly s r f l = (x : ℕ) → l ≤ x → x < r → discrepancy poly s f l x ≡ 0
+unfoldable pub Generates : ℕ → (ℕ → ℕ) → ℕ → (ℕ → ℕ) → ℕ → Type 0
+Generates poly s r f l = (x : ℕ) → l ≤ x → x < r → discrepancy poly s f l x ≡ 0
 
 -- f is zero past l
 unfoldable pub Tail : (ℕ → ℕ) → ℕ → Type 0
@@ -30,7 +30,7 @@ stepped poly q m f g i = f i ⊕ mul poly q (moved m g i)
 -- were read, and missed the last of them by b. At the start rg is 0.
 pub record State (poly : ℕ) (s : ℕ → ℕ) (r l : ℕ) (f : ℕ → ℕ) (rg lg : ℕ) (g : ℕ → ℕ) (b : ℕ) : Type 0 where
   pub f-tail : Tail f l
-  pub f-makes : Makes poly s r f l
+  pub f-makes : Generates poly s r f l
   pub g-tail : Tail g lg
   pub g-makes : (x : ℕ) → lg ≤ x → suc x < rg → discrepancy poly s g lg x ≡ 0
   pub g-miss : (x : ℕ) → suc x ≡ rg → discrepancy poly s g lg x ≡ b

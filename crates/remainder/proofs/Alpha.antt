@@ -3,7 +3,7 @@ use Rattle.general.proofs.Names.{_≡_, refl, sym, ap, ap₂, _∙_, ℕ, zero,
 use Rattle.general.proofs.Names.{mul-assoc, mul-comm, add-comm, bitXor, bitAnd, xor-block, and-block, and-mask, and-zero-r, xor-zero-r, xor-self}
 use Rattle.field.specs.Field.{timesAlpha, raised, mul, power, log}
 use Rattle.field.proofs.Field as Field
-use Rattle.field.proofs.Field.{Passes, raised-zero, raised-add, power-log, mul-lt, mul-sum, mul-power}
+use Rattle.field.proofs.Field.{Primitive, raised-zero, raised-add, power-log, mul-lt, mul-sum, mul-power}
 use Rattle.field.proofs.Entries.{mul-left-zero}
 use Rattle.remainder.specs.declared.Register.{Register}
 use Rattle.remainder.specs.Words.{digits, behind, Zero, doubleOf, doubledOf}
@@ -78,7 +78,7 @@ in-one-go low ll (suc n) w =
 
 -- ---- a product with α
 
-module _ (poly : ℕ) (P : Passes poly) where
+module _ (poly : ℕ) (P : Primitive poly) where
   pub mul-raised : (a k : ℕ) → a < 256 → mul poly a (power poly k) ≡ raised poly k a
   mul-raised zero k h = mul-left-zero poly (power poly k) ∙ sym (raised-zero poly k)
   mul-raised (suc a) k h =

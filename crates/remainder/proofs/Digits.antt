@@ -3,7 +3,7 @@ use Rattle.general.proofs.Names.{_≡_, refl, sym, ap, ap₂, _∙_, ℕ, zero,
 use Rattle.general.proofs.Names.{xor-shr, xor-mod}
 use Rattle.field.specs.Field.{mul}
 use Rattle.field.proofs.Xor.{xor-swap}
-use Rattle.field.proofs.Field.{Passes, mul-sum}
+use Rattle.field.proofs.Field.{Primitive, mul-sum}
 use Rattle.field.proofs.Entries.{mul-left-zero}
 use Rattle.remainder.specs.declared.Register.{Register}
 use Rattle.remainder.specs.Words.{digits, behind, sumOf, movedOf}
@@ -18,7 +18,7 @@ pow-pos : (n : ℕ) → 0 < 256 ^ n
 pow-pos zero = omega arith
 pow-pos (suc n) = omega (arith, pow-up n, pow-pos n)
 
-module _ (poly : ℕ) (P : Passes poly) (x : ℕ) where
+module _ (poly : ℕ) (P : Primitive poly) (x : ℕ) where
   -- a sum goes through
   pub digits-sum : (n p q u w : ℕ) → digits poly x (bitXor p q) n (bitXor u w) ≡ bitXor (digits poly x p n u) (digits poly x q n w)
   unfolding digits

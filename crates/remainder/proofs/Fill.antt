@@ -3,8 +3,8 @@ use Rattle.general.proofs.Names.{_≡_, refl, sym, ap, ap₂, _∙_, false, _||
 use Rattle.general.proofs.Names.{add-zero, add-one, T, eqb, leb, eqb→eq, length, getD, bitXor, xor-block, xor-shifted, xor-comm}
 use lib.Pow.{pow-pos, pow-add}
 use Rattle.field.specs.Field.{below, timesAlpha}
-use Rattle.field.proofs.Field.{Passes, passes, below-at}
-use Rattle.field.proofs.Instances.{passes-163}
+use Rattle.field.proofs.Field.{Primitive, primitive, below-at}
+use Rattle.field.proofs.Instances.{primitive-163}
 use Rattle.remainder.specs.declared.Register.{Register}
 use Rattle.remainder.specs.Words.{digits, behind, Zero, rowAt, sumOf, doubleOf, doubledOf, none, Rows, Put, Extended, Filling, Bytewise, Shifts, Filled}
 use Rattle.remainder.proofs.Digits.{digits-sum, behind-sum, digits-none, digits-next}
@@ -14,7 +14,7 @@ use Rattle.remainder.proofs.Places.{register-eq}
 
 -- ---- sums of what is zero
 
-pub zero-sum : (poly : ℕ) → Passes poly → (x v w : ℕ) (r s : Register) → Zero poly x v r → Zero poly x w s → Zero poly x (bitXor v w) (sumOf r s)
+pub zero-sum : (poly : ℕ) → Primitive poly → (x v w : ℕ) (r s : Register) → Zero poly x v r → Zero poly x w s → Zero poly x (bitXor v w) (sumOf r s)
 zero-sum poly P x v w r s y z =
     ap (λ (a : ℕ). behind poly x a (sumOf r s)) (digits-sum poly P x 4 0 0 v w) ∙ behind-sum poly P x (digits poly x 0 4 v) (digits poly x 0 4 w) r s ∙ ap₂ bitXor y z
 
@@ -26,7 +26,7 @@ two-parts f b k h =
     ap₂ bitXor (sym (add-zero (f * u))) (sym (add-zero (2 ^ b * u))) ∙ xor-block k f (2 ^ b) 0 0 (pow-pos k) (pow-pos k)
     ∙ ap (λ (y : ℕ). y * u + 0) (xor-comm f (2 ^ b) ∙ ap (λ (y : ℕ). bitXor y f) one ∙ xor-shifted 1 b f h ∙ ap (λ (y : ℕ). y + f) (sym one)) ∙ add-zero ((2 ^ b + f) * u)
 
-zero-none : (poly : ℕ) → Passes poly → (x : ℕ) → Zero poly x 0 none
+zero-none : (poly : ℕ) → Primitive poly → (x : ℕ) → Zero poly x 0 none
 zero-none poly P x = ap (λ (y : ℕ). behind poly x y none) (digits-none poly P x 4) ∙ empty-zero poly P x
 
 -- ---- one run of rows
@@ -70,8 +70,8 @@ bit-of (suc (suc (suc zero))) h = (refl, omega arith)
 bit-of (suc (suc (suc (suc b)))) h = absurd (omega arith)
 
 module _ (i : ℕ) (first : Register) (t₀ : List ℕ) (hi : i < 8) where
-  P : Passes 0x163
-  P = passes 0x163 passes-163
+  P : Primitive 0x163
+  P = primitive 0x163 primitive-163
 
   u : ℕ
   u = 2 ^ (4 * i)
@@ -152,8 +152,8 @@ filled-next k g r n t t′ F h B S =
           let v = 2 ^ (4 * (2 * k)) in
           rw (e, pow-add 2 (4 * (2 * k)) 8)
           (ap (λ (a : ℕ). behind 0x163 x a n) (ap (digits 0x163 x 0 4) (sym (add-zero (v * 256)))
-          ∙ digits-next 0x163 (passes 0x163 passes-163) x v 0 (small k (omega arith)) (omega arith))
-          ∙ S .shifts 0x163 x (digits 0x163 x 0 4 v) passes-163 (λ i f a b. row x z i f (omega arith) b) (F .next x z h));
+          ∙ digits-next 0x163 (primitive 0x163 primitive-163) x v 0 (small k (omega arith)) (omega arith))
+          ∙ S .shifts 0x163 x (digits 0x163 x 0 4 v) primitive-163 (λ i f a b. row x z i f (omega arith) b) (F .next x z h));
     }
   where
     small : (k : ℕ) → k < 3 → 2 ^ (4 * (2 * k)) < 2 ^ 24
@@ -163,4 +163,4 @@ filled-next k g r n t t′ F h B S =
     small (suc (suc (suc k))) l = absurd (omega arith)
 
 pub filled-end : (k : ℕ) (g r : Register) (t : List ℕ) → Filled k g t r → k ≤ 4 → 4 ≤ k → (length t ≡ 512) × ((x : ℕ) → Zero 0x163 x 1 g → Rows 0x163 x t)
-filled-end k g r t F a b = (F .size, λ x z. record { field = passes-163; zero-at = λ i f l h. F .rows x z i f (omega arith) h })
+filled-end k g r t F a b = (F .size, λ x z. record { field = primitive-163; zero-at = λ i f l h. F .rows x z i f (omega arith) h })

@@ -1,9 +1,9 @@
 -- Each generator of the table is zero at its roots: one computed test.
 use Rattle.general.proofs.Names.{_≡_, refl, ap, _∙_, ℕ, zero, suc, _+_, _-_, _*_, _/_, _%_, _≤_, _<_, arith, T, eqb, eqb→eq, bitXor}
 use Rattle.field.specs.Field.{below, timesAlpha, raised, mul, power}
-use Rattle.field.proofs.Field.{Passes, passes, below-at, sum-lt, raised-lt}
+use Rattle.field.proofs.Field.{Primitive, primitive, below-at, sum-lt, raised-lt}
 use Rattle.field.proofs.Entries.{mul-left-zero}
-use Rattle.field.proofs.Instances.{passes-163}
+use Rattle.field.proofs.Instances.{primitive-163}
 use Rattle.remainder.specs.declared.Register.{Register}
 use Rattle.remainder.specs.Words.{digits, behind, Zero, rowAt}
 use Rattle.remainder.specs.Generators.{generators}
@@ -22,8 +22,8 @@ all-zero : T (below 16 (λ k. below (2 * k + 2) (λ j. eqb (quickly (suc j) (row
 unfolding below quickly quick raised timesAlpha generators
 all-zero = tt
 
-P : Passes 0x163
-P = passes 0x163 passes-163
+P : Primitive 0x163
+P = primitive 0x163 primitive-163
 
 quick-lt : (m acc n w : ℕ) → acc < 256 → quick m acc n w < 256
 unfolding quick

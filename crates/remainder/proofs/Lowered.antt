@@ -3,8 +3,8 @@ use Rattle.general.proofs.Names.{_≡_, refl, sym, ap, ap₂, _∙_, List, ℕ,
 use Rattle.general.proofs.Names.{suc-mul, length, take, List·getD-eq-default, length-take-le, getD-take, bitXor, xor-zero-l, xor-zero-r}
 use lib.Pow.{shr-shr}
 use Rattle.field.specs.Field.{raised, mul, power}
-use Rattle.field.proofs.Field.{Passes, passes, mul-assoc, mul-one, mul-power, power-period, mul-lt}
-use Rattle.field.proofs.Instances.{passes-163}
+use Rattle.field.proofs.Field.{Primitive, primitive, mul-assoc, mul-one, mul-power, power-period, mul-lt}
+use Rattle.field.proofs.Instances.{primitive-163}
 use Rattle.field.proofs.Entries.{mul-left-zero}
 use Rattle.reed_solomon.specs.Sum.{_⊕_, seq, horner}
 use Rattle.reed_solomon.proofs.Sum.{add-zero-eq}
@@ -57,7 +57,7 @@ pub power-first : (poly : ℕ) → power poly 0 ≡ 1
 unfolding raised
 power-first poly = refl
 
-module _ (poly : ℕ) (P : Passes poly) (m : ℕ) where
+module _ (poly : ℕ) (P : Primitive poly) (m : ℕ) where
   -- n zeros behind a value
   digits-zeros : (e n : ℕ) → e < 256 → digits poly (power poly m) e n 0 ≡ mul poly e (power poly (n * m))
   unfolding digits
@@ -107,7 +107,7 @@ module _ (poly : ℕ) (P : Passes poly) (m : ℕ) where
   none-left e h z = lowered e none h z ∙ ap (λ (y : ℕ). mul poly y (power poly (223 * m))) (empty-zero poly P (power poly m)) ∙ mul-left-zero poly (power poly (223 * m))
 
 -- zeros behind k bytes
-horner-zeros : (poly : ℕ) → Passes poly → (m : ℕ) (f : ℕ → ℕ) (k n : ℕ) → ((i : ℕ) → f i < 256) → ((i : ℕ) → k ≤ i → i < k + n → f i ≡ 0)
+horner-zeros : (poly : ℕ) → Primitive poly → (m : ℕ) (f : ℕ → ℕ) (k n : ℕ) → ((i : ℕ) → f i < 256) → ((i : ℕ) → k ≤ i → i < k + n → f i ≡ 0)
     → horner poly f (power poly m) (k + n) ≡ mul poly (horner poly f (power poly m) k) (power poly (n * m))
 unfolding horner
 horner-zeros poly P m f k zero bs z =
@@ -128,7 +128,7 @@ horner-zeros poly P m f k (suc n) bs z =
     ∙ ap (mul poly h) (mul-power poly P (n * m) m ∙ ap (power poly) q)
 
 -- the value of a block out of the first k bytes of its remainder
-lowered-kept : (poly : ℕ) → Passes poly → (m e k : ℕ) (r : Register) → e < 256 → Kept r k → behind poly (power poly m) e r ≡ 0
+lowered-kept : (poly : ℕ) → Primitive poly → (m e k : ℕ) (r : Register) → e < 256 → Kept r k → behind poly (power poly m) e r ≡ 0
     → e ≡ mul poly (horner poly (byteAt r) (power poly m) k) (power poly ((255 - k) * m))
 lowered-kept poly P m e k r l K z =
     let x = power poly m in
@@ -141,10 +141,10 @@ lowered-kept poly P m e k r l K z =
     ∙ horner-zeros poly P m (byteAt r) k (32 - k) (λ i. omega arith) (λ i a b. K .zeros i a (omega (arith, K .few))))
     ∙ mul-assoc poly P h (power poly ((32 - k) * m)) (power poly (223 * m)) ∙ ap (mul poly h) (mul-power poly P ((32 - k) * m) (223 * m) ∙ ap (power poly) q)
 
-pub reduced-power : (poly : ℕ) → Passes poly → (n : ℕ) → power poly (n % 255) ≡ power poly n
+pub reduced-power : (poly : ℕ) → Primitive poly → (n : ℕ) → power poly (n % 255) ≡ power poly n
 reduced-power poly P n = let e : 255 * (n / 255) + n % 255 ≡ n = omega arith in sym (power-period poly P (n / 255) (n % 255)) ∙ ap (power poly) e
 
-pub syndromes-left : (poly : ℕ) → Passes poly → (first parity k : ℕ) (block : List ℕ) (r : Register) (b s s′ : List ℕ) → Remains poly first parity block r → Kept r k
+pub syndromes-left : (poly : ℕ) → Primitive poly → (first parity k : ℕ) (block : List ℕ) (r : Register) (b s s′ : List ℕ) → Remains poly first parity block r → Kept r k
     → length b ≡ 32 → ((i : ℕ) → i < 32 → seq b i ≡ byteAt r i) → Syndromes poly first parity (take k b) s
     → Each (λ j x. mul poly x (power poly ((255 - k) * (first + j)))) parity s s′ → Syndromes poly first parity block s′
 syndromes-left poly P first parity k block r b s s′ R K lb is S E = record {
@@ -171,7 +171,7 @@ leaves Root parity k block r roots h bs L = record {
     byte = λ j l. omega (
       arith,
       eval-horner 0x163 (power 0x163 (1 + j)) (take k block),
-      horner-lt 0x163 (passes 0x163 passes-163) (seq (take k block))
+      horner-lt 0x163 (primitive 0x163 primitive-163) (seq (take k block))
           (power 0x163 (1 + j)) (length (take k block)) bytes,
     );
     zero-at = λ j l. L .zero-at (power 0x163 (1 + j)) (roots T j l);
@@ -186,4 +186,4 @@ leaves Root parity k block r roots h bs L = record {
 
 -- nothing is left of a codeword only
 pub none-remains : (parity : ℕ) (block : List ℕ) → Remains 0x163 1 parity block none → (j : ℕ) → j < parity → eval 0x163 (power 0x163 (1 + j)) block ≡ 0
-none-remains parity block R j h = none-left 0x163 (passes 0x163 passes-163) (1 + j) (eval 0x163 (power 0x163 (1 + j)) block) (R .byte j h) (R .zero-at j h)
+none-remains parity block R j h = none-left 0x163 (primitive 0x163 primitive-163) (1 + j) (eval 0x163 (power 0x163 (1 + j)) block) (R .byte j h) (R .zero-at j h)

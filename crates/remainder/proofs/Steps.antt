@@ -3,8 +3,8 @@ use Rattle.general.proofs.Names.{_≡_, refl, sym, ap, ap₂, _∙_, List, [], 
 use Rattle.general.proofs.Names.{T, length, getD, take, bitXor, xor-comm, xor-self, xor-zero-l, xor-zero-r, xor-shifted, xor-lt}
 use lib.Pow.{mod-pow-add, pow-pos}
 use Rattle.field.specs.Field.{mul, orderTest}
-use Rattle.field.proofs.Field.{Passes, passes}
-use Rattle.field.proofs.Instances.{passes-163}
+use Rattle.field.proofs.Field.{Primitive, primitive}
+use Rattle.field.proofs.Instances.{primitive-163}
 use Rattle.field.proofs.Xor.{xor-assoc}
 use Rattle.reed_solomon.specs.Block.{evalFrom}
 use Rattle.remainder.specs.declared.Register.{Register}
@@ -19,7 +19,7 @@ low-next x i =
     ∙ xor-shifted (x / 2 ^ (4 * i) % 16) (4 * i) (x % 2 ^ (4 * i)) (mod-lt x (pow-pos (4 * i)))
     ∙ sym (ap (λ (n : ℕ). x % 2 ^ n) e ∙ mod-pow-add x 4 (4 * i))
 
-module _ (poly : ℕ) (P : Passes poly) (x : ℕ) where
+module _ (poly : ℕ) (P : Primitive poly) (x : ℕ) where
   -- the row of one more digit of y, where m bytes are read
   add-row : (m e h y i : ℕ) (n row : Register) → behind poly x (digits poly x 0 m (y / 2 ^ (4 * i) % 16 * 2 ^ (4 * i))) row ≡ 0
       → behind poly x (digits poly x e m (bitXor h (y % 2 ^ (4 * i)))) n ≡ 0 → behind poly x (digits poly x e m (bitXor h (y % 2 ^ (4 * (i + 1))))) (sumOf n row) ≡ 0
@@ -33,8 +33,8 @@ module _ (poly : ℕ) (P : Passes poly) (x : ℕ) where
       ∙ ap₂ bitXor z w
 
 module _ (poly x : ℕ) (t : List ℕ) (R : Rows poly x t) where
-  P : Passes poly
-  P = passes poly (R .field)
+  P : Primitive poly
+  P = primitive poly (R .field)
 
   pub add-next : (e h y i : ℕ) (n : Register) → i < 8 → behind poly x (digits poly x e 4 (bitXor h (y % 2 ^ (4 * i)))) n ≡ 0
       → behind poly x (digits poly x e 4 (bitXor h (y % 2 ^ (4 * (i + 1))))) (sumOf n (rowAt t (16 * i + y / 2 ^ (4 * i) % 16))) ≡ 0
@@ -96,7 +96,7 @@ eval-four poly x xs i v h bs e =
 
 pub front-none : (xs : List ℕ) → Front xs 0 0
 unfolding evalFrom
-front-none xs = record { small = omega arith; value = λ poly x T. digits-none poly (passes poly T) x 4 }
+front-none xs = record { small = omega arith; value = λ poly x T. digits-none poly (primitive poly T) x 4 }
 
 pub front-small : (xs : List ℕ) (i v : ℕ) → Front xs i v → i < 3 → v < 16777216
 front-small xs zero v F h = omega (arith, F .small)
@@ -108,7 +108,7 @@ pub front-next : (xs : List ℕ) (i v b : ℕ) → Front xs i v → i < 3 → i 
 front-next xs i v b F h l e lb = record {
   small = omega (arith, F .small, ap (λ (n : ℕ). 256 ^ n) (add-one i) ∙ pow-up i);
   value = λ poly x T.
-      digits-next poly (passes poly T) x v b (front-small xs i v F h) lb ∙ ap₂ (λ (y z : ℕ). bitXor (mul poly y x) z) (F .value poly x T) e
+      digits-next poly (primitive poly T) x v b (front-small xs i v F h) lb ∙ ap₂ (λ (y z : ℕ). bitXor (mul poly y x) z) (F .value poly x T) e
       ∙ sym (eval-next poly x 0 xs i (i + 1) (omega arith) l);
 }
 
@@ -120,7 +120,7 @@ front-lt xs (suc (suc (suc zero))) v F h = omega (arith, F .small)
 front-lt xs (suc (suc (suc (suc i)))) v F h = absurd (omega arith)
 
 -- nothing followed by nothing
-pub empty-zero : (poly : ℕ) → Passes poly → (x : ℕ) → behind poly x 0 (record { a = 0; b = 0; c = 0; d = 0 }) ≡ 0
+pub empty-zero : (poly : ℕ) → Primitive poly → (x : ℕ) → behind poly x 0 (record { a = 0; b = 0; c = 0; d = 0 }) ≡ 0
 unfolding behind
 empty-zero poly P x =
     ap (λ (y : ℕ). digits poly x (digits poly x (digits poly x y 8 0) 8 0) 8 0) (digits-none poly P x 8)
@@ -130,12 +130,12 @@ empty-zero poly P x =
 -- nothing read
 pub left-none : (Root : ℕ → Type 0) (block : List ℕ) → Left Root 0 block (record { a = 0; b = 0; c = 0; d = 0 })
 unfolding evalFrom
-left-none Root block = record { zero-at = λ x R. empty-zero 0x163 (passes 0x163 passes-163) x }
+left-none Root block = record { zero-at = λ x R. empty-zero 0x163 (primitive 0x163 primitive-163) x }
 
 pub left-start : (t block : List ℕ) (m v : ℕ) (r : Register) → Front block m v → Keeps t v (record { a = 0; b = 0; c = 0; d = 0 }) r
     → Left (λ x. Rows 0x163 x t) m block r
 left-start t block m v r F K = record {
-  zero-at = λ x R. ap (λ (e : ℕ). behind 0x163 x e r) (sym (F .value 0x163 x (R .field))) ∙ K .keeps 0x163 x 0 R (empty-zero 0x163 (passes 0x163 (R .field)) x);
+  zero-at = λ x R. ap (λ (e : ℕ). behind 0x163 x e r) (sym (F .value 0x163 x (R .field))) ∙ K .keeps 0x163 x 0 R (empty-zero 0x163 (primitive 0x163 (R .field)) x);
 }
 
 pub left-next : (t block : List ℕ) (i v : ℕ) (r n : Register) → Left (λ x. Rows 0x163 x t) i block r → i + 4 ≤ length block → ((j : ℕ) → getD block j 0 < 256)
@@ -152,7 +152,7 @@ pub left-byte : (t block : List ℕ) (i v : ℕ) (r n : Register) → Left (λ x
 left-byte t block i v r n L h e S = record {
   zero-at = λ x R. ap (λ (a : ℕ). behind 0x163 x a n) (eval-next 0x163 x 0 block i (i + 1) (omega arith) h
       ∙ ap (bitXor (mul 0x163 (evalFrom 0x163 x 0 (take i block)) x)) (sym e))
-      ∙ S .shifts 0x163 x (evalFrom 0x163 x 0 (take i block)) passes-163 R (L .zero-at x R);
+      ∙ S .shifts 0x163 x (evalFrom 0x163 x 0 (take i block)) primitive-163 R (L .zero-at x R);
 }
 
 -- four bytes leave a register, v comes in, and the rows of their sum y are added
@@ -180,7 +180,7 @@ shift-on t v y r m n₁ n₂ lv la lb lc ld moved first second is = record { shi
 
     on : (poly x e : ℕ) → T (orderTest poly) → ByteRows poly x t → behind poly x e r ≡ 0 → behind poly x (bitXor (mul poly e x) v) n₂ ≡ 0
     on poly x e test rows z =
-        let P : Passes poly = passes poly test in
+        let P : Primitive poly = primitive poly test in
         let one : (f : ℕ) (row : Register) → f < 256 → Zero poly x f row → behind poly x (digits poly x 0 1 f) row ≡ 0 =
         λ f row l w. ap (λ (a : ℕ). behind poly x a row) (sym (digits-low poly P x 3 1 f l)) ∙ w in
         let z₀ : behind poly x (digits poly x e 1 (bitXor h (y % 2 ^ (4 * 0)))) m ≡ 0 =

@@ -104,7 +104,7 @@ pub fn digit(x: u64, i: usize) -> usize
     ((x >> (4 * i)) % 16) as usize
 }
 
-pub fn wide(x: u8) -> u64
+pub fn as_u64(x: u8) -> u64
     ensures { λ r. ⌜ (r ≡ x) × (r < 256) ⌝ }
 {
     x as u64
@@ -116,7 +116,7 @@ pub fn four(s: &[u8], i: usize) -> u64
     ensures { λ r. ⌜ (r ≡ getD (now (s .entry)) i 0 * 16777216 + getD (now (s .entry)) (i + 1) 0 * 65536 + getD (now (s .entry)) (i + 2) 0 * 256
         + getD (now (s .entry)) (i + 3) 0) × (r < 2 ^ 32) ⌝ }
 {
-    wide(s[i]) * 16777216 + wide(s[i + 1]) * 65536 + wide(s[i + 2]) * 256 + wide(s[i + 3])
+    as_u64(s[i]) * 16777216 + as_u64(s[i + 1]) * 65536 + as_u64(s[i + 2]) * 256 + as_u64(s[i + 3])
 }
 
 // The word k of a register.

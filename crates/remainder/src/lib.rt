@@ -11,6 +11,7 @@ ghost use Rattle.field.specs.Field.{power, mul};
 ghost use Rattle.field.specs.Table.{Field, polyOf};
 ghost use Rattle.reed_solomon.specs.Inner.{Syndromes};
 ghost use Rattle.general.specs.Each.{Each};
+use crate::four_words::as_u64;
 use crate::four_words::byte_at;
 use crate::four_words::digit;
 use crate::four_words::doubled;
@@ -21,7 +22,6 @@ use crate::four_words::moved_half;
 use crate::four_words::put_row;
 use crate::four_words::row_at;
 use crate::four_words::sum;
-use crate::four_words::wide;
 use reed_solomon::syndromes;
 
 pub mod four_words;
@@ -72,7 +72,7 @@ fn front(s: &[u8], n: usize) -> u64
     let mut v: u64 = 0;
     let mut i: usize = 0;
     while i < n {
-        v = v * 256 + wide(s[i]);
+        v = v * 256 + as_u64(s[i]);
         i += 1;
     }
     v
@@ -207,7 +207,7 @@ pub fn remainder_short(block: &[u8], k: usize, parity: usize) -> Register
     };
     let mut i: usize = 0;
     while i < k {
-        r = shifted(&t, r, wide(block[i]));
+        r = shifted(&t, r, as_u64(block[i]));
         i += 1;
     }
     r

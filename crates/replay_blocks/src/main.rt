@@ -10,7 +10,7 @@ use libc::STDOUT_FILENO;
 fn two(high: u8, low: u8) -> usize
     ensures { λ r. ⌜ r < 65536 ⌝ }
 {
-    bits::wide(high) * 256 + bits::wide(low)
+    bits::as_usize(high) * 256 + bits::as_usize(low)
 }
 
 fn number(n: usize) {

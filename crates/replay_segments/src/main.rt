@@ -23,7 +23,7 @@ fn all(records: &[u8]) {
         if records.len() - i < 2 {
             return;
         }
-        let n = bits::wide(records[i]) * 256 + bits::wide(records[i + 1]);
+        let n = bits::as_usize(records[i]) * 256 + bits::as_usize(records[i + 1]);
         let from = i + 2;
         if records.len() - from < n {
             return;

@@ -30,9 +30,9 @@ fn line(payload: &[u8], receipt: &[u8]) {
     }
     replay::hex(
         payload,
-        bits::wide(receipt[7]) * 256 + bits::wide(receipt[8]),
+        bits::as_usize(receipt[7]) * 256 + bits::as_usize(receipt[8]),
     );
-    let count = bits::wide(receipt[4]) * 256 + bits::wide(receipt[5]);
+    let count = bits::as_usize(receipt[4]) * 256 + bits::as_usize(receipt[5]);
     io::write_all(STDOUT_FILENO, b" ");
     io::print_decimal(STDOUT_FILENO, count as u64);
     io::write_all(STDOUT_FILENO, b"\n");
@@ -77,7 +77,7 @@ fn record(packed: &[u8], side: usize)
 fn all(records: &[u8]) {
     let mut i: usize = 0;
     while i < records.len() {
-        let side = bits::wide(records[i]);
+        let side = bits::as_usize(records[i]);
         if Version::MAX_SIDE < side {
             return;
         }

@@ -12,13 +12,13 @@ use symbol::FromSide;
 use symbol::LayoutAnswer;
 use symbol::Version;
 
-fn wide(x: u8) -> u64
+fn as_u64(x: u8) -> u64
     ensures { λ r. ⌜ r < 256 ⌝ }
 {
     x as u64
 }
 
-fn narrow(x: u8) -> usize {
+fn as_usize(x: u8) -> usize {
     x as usize
 }
 
@@ -26,10 +26,10 @@ fn four(list: &[u8], at: usize) -> u64
     requires { ⌜ (at + 4 ≤ length (now list)) × (at < 65536) ⌝ }
     ensures { λ r. ⌜ r < 4294967296 ⌝ }
 {
-    wide(list[at]) * 16777216
-        + wide(list[at + 1]) * 65536
-        + wide(list[at + 2]) * 256
-        + wide(list[at + 3])
+    as_u64(list[at]) * 16777216
+        + as_u64(list[at + 1]) * 65536
+        + as_u64(list[at + 2]) * 256
+        + as_u64(list[at + 3])
 }
 
 fn eight(list: &[u8], at: usize) -> u64
@@ -54,7 +54,7 @@ fn sums(bytes: &[u8]) -> u64 {
     let mut b: u64 = 0;
     let mut i: usize = 0;
     while i < bytes.len() {
-        a = (a + wide(bytes[i])) % 65521;
+        a = (a + as_u64(bytes[i])) % 65521;
         b = (b + a) % 65521;
         i += 1;
     }
@@ -141,7 +141,7 @@ fn all(list: &[u8])
     while at + 18 <= list.len() {
         one(
             list[at],
-            narrow(list[at + 1]),
+            as_usize(list[at + 1]),
             eight(list, at + 2),
             eight(list, at + 10),
         );

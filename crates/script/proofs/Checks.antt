@@ -8,11 +8,11 @@ use Rattle.script.specs.declared.Command.{Command}
 use Rattle.script.specs.declared.Command.the-variants.{Run, Eci, Wrong}
 use Rattle.script.specs.declared.Check.the-variants.{Bits, Malformed, Lacking, Empty}
 use Rattle.script.specs.declared.Cost.{Cost}
-use Rattle.script.specs.declared.Cost.the-variants.{Takes, Lacks}
+use Rattle.script.specs.declared.Cost.the-variants.{Takes, NotInMode}
 use Rattle.script.specs.Writer.{modeHas, has}
 use Rattle.script.specs.Lengths.{modeLength, eciLength, bitsOfSegment, bitsOfSegments}
 use Rattle.script.specs.Check.{allowed, segmentAt, commands, commandsOf}
-use Rattle.script.specs.Inner.{lengthOperand, valueOperand, runAt, eciAt, commandAt, commandSize, made, with, most, capped, checkedOf, checkOf, settled}
+use Rattle.script.specs.Inner.{lengthOperand, valueOperand, runAt, eciAt, commandAt, commandSize, made, with, most, capped, checkedOf, checkOf, checkedAfter}
 use Rattle.script.specs.Characters.{costOf, Limited}
 use Rattle.script.proofs.Tests.{both}
 use Rattle.segments.specs.Positions.{runCommand}
@@ -146,7 +146,7 @@ capped-add x y = go (ltb x most) refl
 
 with-takes : (lacks : Bool) (t t′ b : ℕ) (g : Segment) (z : Option (List Segment)) (p : List ℕ) → has g ≡ true → bitsOfSegment g ≡ b
     → t′ ≡ capped (t + b)
-    → settled lacks t (with g z) p ≡ settled lacks t′ z p
+    → checkedAfter lacks t (with g z) p ≡ checkedAfter lacks t′ z p
 unfolding bitsOfSegments
 with-takes lacks t t′ b g none p h e f = refl
 with-takes lacks t t′ b g (some gs) p h e f =
@@ -154,7 +154,7 @@ with-takes lacks t t′ b g (some gs) p h e f =
     rw (h, e, k)
 
 with-lacks : (lacks : Bool) (t : ℕ) (g : Segment) (z : Option (List Segment)) (p : List ℕ) → has g ≡ false
-    → settled lacks t (with g z) p ≡ settled true t z p
+    → checkedAfter lacks t (with g z) p ≡ checkedAfter true t z p
 with-lacks lacks t g none p h = refl
 with-lacks true t g (some gs) p h = refl
 with-lacks false t g (some gs) p h = rw h
@@ -222,46 +222,46 @@ module _ (s p : List ℕ) (i j : ℕ) (h : i < length s) (c : Command) (e : c �
 cost-takes : (mode b : ℕ) (bs : List ℕ) (r : Cost) → r ≡ costOf mode bs → r ≡ Takes b → (modeHas mode bs ≡ true) × (modeLength mode bs ≡ b)
 cost-takes mode b bs r e q = go (modeHas mode bs) refl e
   where
-    go : (x : Bool) → modeHas mode bs ≡ x → r ≡ cond x (Takes (modeLength mode bs)) Lacks → (modeHas mode bs ≡ true) × (modeLength mode bs ≡ b)
+    go : (x : Bool) → modeHas mode bs ≡ x → r ≡ cond x (Takes (modeLength mode bs)) NotInMode → (modeHas mode bs ≡ true) × (modeLength mode bs ≡ b)
     go true h f = (h, cc)
     go false h f = never cc
 
-cost-none : (mode : ℕ) (bs : List ℕ) (r : Cost) → r ≡ costOf mode bs → r ≡ Lacks → modeHas mode bs ≡ false
+cost-none : (mode : ℕ) (bs : List ℕ) (r : Cost) → r ≡ costOf mode bs → r ≡ NotInMode → modeHas mode bs ≡ false
 cost-none mode bs r e q = go (modeHas mode bs) refl e
   where
-    go : (x : Bool) → modeHas mode bs ≡ x → r ≡ cond x (Takes (modeLength mode bs)) Lacks → modeHas mode bs ≡ false
+    go : (x : Bool) → modeHas mode bs ≡ x → r ≡ cond x (Takes (modeLength mode bs)) NotInMode → modeHas mode bs ≡ false
     go true h f = never cc
     go false h f = h
 
 -- ---- the check along a script
 
 -- the answer is that of the commands from a place on, where those before it have t bits, and one of them lacks some of its bytes or none
-pub record Settles (s p : List ℕ) (i j : ℕ) (lacks : Bool) (t : ℕ) : Type 0 where
+pub record CheckFrom (s p : List ℕ) (i j : ℕ) (lacks : Bool) (t : ℕ) : Type 0 where
   pub fuel : ℕ
   pub enough : length s - i < fuel
-  pub same : checkOf s p ≡ settled lacks t (commands fuel (drop i s) (drop j p)) p
+  pub same : checkOf s p ≡ checkedAfter lacks t (commands fuel (drop i s) (drop j p)) p
 
-pub settles-start : (s p : List ℕ) → Settles s p 0 0 false 0
-settles-start s p = record { fuel = length s + 1; enough = omega arith; same = go (commandsOf s p) }
+pub check-from-start : (s p : List ℕ) → CheckFrom s p 0 0 false 0
+check-from-start s p = record { fuel = length s + 1; enough = omega arith; same = go (commandsOf s p) }
   where
-    go : (c : Option (List Segment)) → checkedOf c p ≡ settled false 0 c p
+    go : (c : Option (List Segment)) → checkedOf c p ≡ checkedAfter false 0 c p
     go none = refl
     go (some gs) = rw zero-add
 
 -- at a command c
-module _ {s p : List ℕ} {i j : ℕ} {lacks : Bool} {t : ℕ} {c : Command} (d : Settles s p i j lacks t) (h : i < length s)
+module _ {s p : List ℕ} {i j : ℕ} {lacks : Bool} {t : ℕ} {c : Command} (d : CheckFrom s p i j lacks t) (h : i < length s)
     (e : c ≡ commandAt (drop i s)) where
-  answered : (z : Option (List Segment)) → commands (suc (d .fuel - 1)) (drop i s) (drop j p) ≡ z → checkOf s p ≡ settled lacks t z p
+  answered : (z : Option (List Segment)) → commands (suc (d .fuel - 1)) (drop i s) (drop j p) ≡ z → checkOf s p ≡ checkedAfter lacks t z p
   answered z q =
       let m = d .enough in
       let k : suc (d .fuel - 1) ≡ d .fuel = omega arith in
-      d .same ∙ ap (λ (y : Option (List Segment)). settled lacks t y p) (rw k at q)
+      d .same ∙ ap (λ (y : Option (List Segment)). checkedAfter lacks t y p) (rw k at q)
 
-  pub settles-wrong : c ≡ Wrong → Malformed ≡ checkOf s p
-  settles-wrong q = sym (answered none (at-wrong s p i j h c e (d .fuel - 1) q))
+  pub check-from-wrong : c ≡ Wrong → Malformed ≡ checkOf s p
+  check-from-wrong q = sym (answered none (at-wrong s p i j h c e (d .fuel - 1) q))
 
-  pub settles-eci : {v b t′ : ℕ} → c ≡ Eci v → b ≡ eciLength v → t′ ≡ capped (t + b) → Settles s p (i + 4) j lacks t′
-  settles-eci {v} {b} {t′} q eb m =
+  pub check-from-eci : {v b t′ : ℕ} → c ≡ Eci v → b ≡ eciLength v → t′ ≡ capped (t + b) → CheckFrom s p (i + 4) j lacks t′
+  check-from-eci {v} {b} {t′} q eb m =
       let rest : Option (List Segment) = commands (d .fuel - 1) (drop (i + 4) s) (drop j p) in
       record {
         fuel = d .fuel - 1;
@@ -269,8 +269,8 @@ module _ {s p : List ℕ} {i j : ℕ} {lacks : Bool} {t : ℕ} {c : Command} (d 
         same = answered (with (eci v) rest) (at-eci s p i j h c e (d .fuel - 1) v q) ∙ with-takes lacks t t′ b (eci v) rest p refl (sym eb) m;
       }
 
-  pub settles-short : {mode n : ℕ} → c ≡ Run mode n → length p - j < n → Malformed ≡ checkOf s p
-  settles-short {mode} {n} q l = sym (answered none (at-short s p i j h c e (d .fuel - 1) mode n q l))
+  pub check-from-short : {mode n : ℕ} → c ≡ Run mode n → length p - j < n → Malformed ≡ checkOf s p
+  check-from-short {mode} {n} q l = sym (answered none (at-short s p i j h c e (d .fuel - 1) mode n q l))
 
   module _ {mode n x : ℕ} {r : Cost} (q : c ≡ Run mode n) (l : n ≤ length p - j) (er : r ≡ costOf mode (take n (drop j p)))
       (ex : x ≡ commandSize mode)
@@ -282,8 +282,8 @@ module _ {s p : List ℕ} {i j : ℕ} {lacks : Bool} {t : ℕ} {c : Command} (d 
     rest = commands (d .fuel - 1) (drop (i + commandSize mode) s) (drop (j + n) p)
 
     -- one command less, with bits t′ and perhaps a lack behind
-    next : (lacks′ : Bool) (t′ : ℕ) → settled lacks t (with (run mode bytes) rest) p ≡ settled lacks′ t′ rest p
-        → Settles s p (i + x) (j + n) lacks′ t′
+    next : (lacks′ : Bool) (t′ : ℕ) → checkedAfter lacks t (with (run mode bytes) rest) p ≡ checkedAfter lacks′ t′ rest p
+        → CheckFrom s p (i + x) (j + n) lacks′ t′
     next lacks′ t′ f =
         record {
           fuel = d .fuel - 1;
@@ -291,13 +291,13 @@ module _ {s p : List ℕ} {i j : ℕ} {lacks : Bool} {t : ℕ} {c : Command} (d 
           same = rw ex (answered (with (run mode bytes) rest) (at-run s p i j h c e (d .fuel - 1) mode n q l) ∙ f);
         }
 
-    pub settles-takes : {b t′ : ℕ} → r ≡ Takes b → t′ ≡ capped (t + b) → Settles s p (i + x) (j + n) lacks t′
-    settles-takes {b} {t′} g m =
+    pub check-from-takes : {b t′ : ℕ} → r ≡ Takes b → t′ ≡ capped (t + b) → CheckFrom s p (i + x) (j + n) lacks t′
+    check-from-takes {b} {t′} g m =
         let y = cost-takes mode b bytes r er g in
         next lacks t′ (with-takes lacks t t′ b (run mode bytes) rest p (y .0) (y .1) m)
 
-    pub settles-lacks : r ≡ Lacks → Settles s p (i + x) (j + n) true t
-    settles-lacks g = next true t (with-lacks lacks t (run mode bytes) rest p (cost-none mode bytes r er g))
+    pub check-from-lacks : r ≡ NotInMode → CheckFrom s p (i + x) (j + n) true t
+    check-from-lacks g = next true t (with-lacks lacks t (run mode bytes) rest p (cost-none mode bytes r er g))
 
 -- ---- the end of the script
 
@@ -308,7 +308,7 @@ ended s p i j (suc k) h l =
     let z : length (drop i s) ≡ 0 = rw length-drop (omega arith) in
     rw (eq-eqb (length (drop i s)) 0 z, length-drop)
 
-module _ {s p : List ℕ} {i j : ℕ} {lacks : Bool} {t : ℕ} (d : Settles s p i j lacks t) (h : length s ≤ i) where
+module _ {s p : List ℕ} {i j : ℕ} {lacks : Bool} {t : ℕ} (d : CheckFrom s p i j lacks t) (h : length s ≤ i) where
   read : commands (d .fuel) (drop i s) (drop j p) ≡ cond (eqb (length p - j) 0) (some []) none
   read = ended s p i j (d .fuel) h (omega arith)
 
@@ -316,7 +316,7 @@ module _ {s p : List ℕ} {i j : ℕ} {lacks : Bool} {t : ℕ} (d : Settles s p 
   end-left g = sym (d .same ∙ rw (read, ne-eqb (length p - j) 0 (λ e. omega arith)))
 
   module _ (g : length p ≤ j) where
-    all-read : checkOf s p ≡ settled lacks t (some []) p
+    all-read : checkOf s p ≡ checkedAfter lacks t (some []) p
     all-read = d .same ∙ rw (read, eq-eqb (length p - j) 0 (omega arith))
 
     pub end-lacks : lacks ≡ true → Lacking ≡ checkOf s p

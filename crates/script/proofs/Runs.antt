@@ -5,7 +5,7 @@ use Rattle.general.proofs.Names.{ltb, length, getD, drop, length-drop, drop-of-
 use Rattle.segments.specs.Segments.{fourBytes}
 use Rattle.script.specs.declared.Character.{Character}
 use Rattle.script.specs.declared.Character.the-variants.{Same, Other, Lacking}
-use Rattle.script.specs.declared.Cost.the-variants.{Takes, Lacks}
+use Rattle.script.specs.declared.Cost.the-variants.{Takes, NotInMode}
 use Rattle.script.specs.Writer.{allPairs, isDigit, codeOf, inSubset, inText, pairCode, inRegion, inRegions, doubleCode, inDouble}
 use Rattle.script.specs.Writer.{textWords, regionWords, doubleWords, fourCode, same, inFour, modeHas}
 use Rattle.script.specs.Lengths.{textSwitches, regionSwitches, modeLength}
@@ -110,13 +110,13 @@ just-end mode f = go (eqb mode 2) (eqb mode 6)
     go false false = refl
 
 -- n words up to the place j of a run that began in f₀ and is now in f, and those before it are in the mode
-pub record Counted (mode : ℕ) (run : List ℕ) (f₀ : Bool) (j : ℕ) (f : Bool) (n : ℕ) : Type 0 where
+pub record WordsCounted (mode : ℕ) (run : List ℕ) (f₀ : Bool) (j : ℕ) (f : Bool) (n : ℕ) : Type 0 where
   pub room : j ≤ length run
   pub few : n ≤ 2 * j
   pub have : hasAll mode run ≡ hasAll mode (drop j run)
   pub words : n + length (wordsOf mode f (drop j run)) ≡ length (wordsOf mode f₀ run)
 
-module _ {mode : ℕ} {run : List ℕ} {f₀ : Bool} {j : ℕ} {f : Bool} {n : ℕ} (d : Counted mode run f₀ j f n) where
+module _ {mode : ℕ} {run : List ℕ} {f₀ : Bool} {j : ℕ} {f : Bool} {n : ℕ} (d : WordsCounted mode run f₀ j f n) where
   -- at the end
   pub counted-end : length run ≤ j → f₀ ≡ beginsIn mode → Takes (4 + widthOf mode * (n + 1)) ≡ charCost mode run
   counted-end l g =
@@ -130,21 +130,21 @@ module _ {mode : ℕ} {run : List ℕ} {f₀ : Bool} {j : ℕ} {f : Bool} {n : �
     is : (z : Character) → r ≡ z → CharacterIs mode f (drop j run) z
     is z e = subst (λ (z : Character). CharacterIs mode f (drop j run) z) e h
 
-    pub counted-lacks : r ≡ Lacking → Lacks ≡ charCost mode run
+    pub counted-lacks : r ≡ Lacking → NotInMode ≡ charCost mode run
     counted-lacks e = rw (d .have ∙ is Lacking e)
 
     module _ {by : ℕ} (b : by ≡ stepOf mode) (p : 1 ≤ by) where
       next : (g : Bool) (k : ℕ) → k ≤ 2 → length (wordsOf mode f (drop j run)) ≡ k + length (wordsOf mode g (drop (stepOf mode) (drop j run)))
-          → hasAll mode (drop j run) ≡ hasAll mode (drop (stepOf mode) (drop j run)) → stepOf mode ≤ length (drop j run) → Counted mode run f₀ (j + by) g (n + k)
+          → hasAll mode (drop j run) ≡ hasAll mode (drop (stepOf mode) (drop j run)) → stepOf mode ≤ length (drop j run) → WordsCounted mode run f₀ (j + by) g (n + k)
       next g k few q a s =
           let m = rw length-drop at s in
           let q′ : length (wordsOf mode f (drop j run)) ≡ k + length (wordsOf mode g (drop (j + by) run)) = rw b (rw drop-drop at q) in
           record { room = omega arith; few = omega arith; have = d .have ∙ rw b (rw drop-drop at a); words = omega arith }
 
-      pub counted-same : {w : ℕ} → r ≡ Same w → Counted mode run f₀ (j + by) f (n + 1)
+      pub counted-same : {w : ℕ} → r ≡ Same w → WordsCounted mode run f₀ (j + by) f (n + 1)
       counted-same {w} e = let g = is (Same w) e in next f 1 (omega arith) (ap length (g .0) ∙ omega arith) (g .1) (g .2)
 
-      pub counted-other : {w : ℕ} → r ≡ Other w → Counted mode run f₀ (j + by) (not f) (n + 2)
+      pub counted-other : {w : ℕ} → r ≡ Other w → WordsCounted mode run f₀ (j + by) (not f) (n + 2)
       counted-other {w} e = let g = is (Other w) e in next (not f) 2 (omega arith) (ap length (g .0) ∙ omega arith) (g .1) (g .2)
 
 -- ---- the bits of a run
@@ -158,7 +158,7 @@ module _ (run : List ℕ) (mode : ℕ) where
   unfolding modeHas modeLength
   numeric-takes e t = rw (e, t)
 
-  pub numeric-lacks : mode ≡ 1 → all isDigit run ≡ false → Lacks ≡ costOf mode run
+  pub numeric-lacks : mode ≡ 1 → all isDigit run ≡ false → NotInMode ≡ costOf mode run
   unfolding modeHas
   numeric-lacks e t = rw (e, t)
 
@@ -170,7 +170,7 @@ module _ (run : List ℕ) (mode : ℕ) where
   unfolding modeHas modeLength
   four-takes e t = rw (e, t)
 
-  pub four-lacks : mode ≡ 7 → inFour run ≡ false → Lacks ≡ costOf mode run
+  pub four-lacks : mode ≡ 7 → inFour run ≡ false → NotInMode ≡ costOf mode run
   unfolding modeHas
   four-lacks e t = rw (e, t)
 
@@ -178,7 +178,7 @@ module _ (run : List ℕ) (mode : ℕ) where
   unfolding modeHas modeLength hasAll wordsOf widthOf beginsIn
   text-cost e = rw e (go (all inText run))
     where
-      go : (x : Bool) → cond x (Takes (4 + 6 * length (textWords true run))) Lacks ≡ cond x (Takes (10 + 6 * (length run + textSwitches true run))) Lacks
+      go : (x : Bool) → cond x (Takes (4 + 6 * length (textWords true run))) NotInMode ≡ cond x (Takes (10 + 6 * (length run + textSwitches true run))) NotInMode
       go true = let h : 4 + 6 * length (textWords true run) ≡ 10 + 6 * (length run + textSwitches true run) = rw (text-length true run) (omega arith) in rw h
       go false = refl
 
@@ -187,7 +187,7 @@ module _ (run : List ℕ) (mode : ℕ) where
   region-cost f e = rw e (which f)
     where
       go : (f x : Bool) → allPairs inRegions run ≡ x
-          → cond x (Takes (4 + 12 * length (regionWords f run))) Lacks ≡ cond x (Takes (16 + 12 * (length run / 2 + regionSwitches f run))) Lacks
+          → cond x (Takes (4 + 12 * length (regionWords f run))) NotInMode ≡ cond x (Takes (16 + 12 * (length run / 2 + regionSwitches f run))) NotInMode
       go f true t = let h : 4 + 12 * length (regionWords f run) ≡ 16 + 12 * (length run / 2 + regionSwitches f run) = rw (region-length f run t) (omega arith) in rw h
       go f false t = refl
 
@@ -200,7 +200,7 @@ module _ (run : List ℕ) (mode : ℕ) where
   double-cost e = rw e (go (allPairs inDouble run) refl)
     where
       go : (x : Bool) → allPairs inDouble run ≡ x
-          → cond x (Takes (4 + 15 * length (doubleWords run))) Lacks ≡ cond x (Takes (19 + 15 * (length run / 2))) Lacks
+          → cond x (Takes (4 + 15 * length (doubleWords run))) NotInMode ≡ cond x (Takes (19 + 15 * (length run / 2))) NotInMode
       go true t = let h : 4 + 15 * length (doubleWords run) ≡ 19 + 15 * (length run / 2) = rw (double-length run t) (omega arith) in rw h
       go false t = refl
 

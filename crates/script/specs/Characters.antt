@@ -8,7 +8,7 @@ use lib.ListN.{length, drop}
 use Rattle.script.specs.declared.Character.{Character}
 use Rattle.script.specs.declared.Character.the-variants.{Same, Other, Lacking}
 use Rattle.script.specs.declared.Cost.{Cost}
-use Rattle.script.specs.declared.Cost.the-variants.{Takes, Lacks}
+use Rattle.script.specs.declared.Cost.the-variants.{Takes, NotInMode}
 use Rattle.script.specs.Writer.{allPairs, codeOf, inSubset, inText, pairCode, inRegion, inRegions, doubleCode, inDouble, textWords}
 use Rattle.script.specs.Writer.{regionWords, doubleWords, modeHas}
 use Rattle.script.specs.Lengths.{modeLength}
@@ -58,13 +58,13 @@ beginsIn mode = not (eqb mode 5)
 
 -- the bits of a run in modes 2, 4, 5 and 6
 abbrev pub charCost : ℕ → List ℕ → Cost
-charCost mode bs = cond (hasAll mode bs) (Takes (4 + widthOf mode * length (wordsOf mode (beginsIn mode) bs))) Lacks
+charCost mode bs = cond (hasAll mode bs) (Takes (4 + widthOf mode * length (wordsOf mode (beginsIn mode) bs))) NotInMode
 
 -- the bits of a run, or that its mode lacks some of it
 abbrev pub costOf : ℕ → List ℕ → Cost
-costOf mode bs = cond (modeHas mode bs) (Takes (modeLength mode bs)) Lacks
+costOf mode bs = cond (modeHas mode bs) (Takes (modeLength mode bs)) NotInMode
 
 -- no run has many bits
 abbrev pub Limited : Cost → Type 0
 Limited (Takes b) = b < 100000000
-Limited Lacks = Unit {0}
+Limited NotInMode = Unit {0}

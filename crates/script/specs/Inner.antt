@@ -74,9 +74,9 @@ abbrev pub checkOf : List ℕ → List ℕ → Check
 checkOf s p = checkedOf (commandsOf s p) p
 
 -- the answer where some commands are behind: whether one of them lacks some of its bytes, and their bits so far
-abbrev pub settled : Bool → ℕ → Option (List Segment) → List ℕ → Check
-settled lacks t none p = Malformed
-settled lacks t (some gs) p = cond (not lacks && allHave gs) (cond (eqb (length p) 0) Empty (Bits (capped (t + bitsOfSegments gs)))) Lacking
+abbrev pub checkedAfter : Bool → ℕ → Option (List Segment) → List ℕ → Check
+checkedAfter lacks t none p = Malformed
+checkedAfter lacks t (some gs) p = cond (not lacks && allHave gs) (cond (eqb (length p) 0) Empty (Bits (capped (t + bitsOfSegments gs)))) Lacking
 
 -- script and payload are accepted, and the bits of their segments fit n bytes
 pub record Fits (s p : List ℕ) (n : ℕ) : Type 0 where

@@ -31,8 +31,8 @@ fn run_at(script: &[u8], i: usize) -> Command
     if script.len() - i < 3 {
         return Command::Wrong;
     }
-    let mode = bits::wide(script[i]);
-    let n = bits::wide(script[i + 1]) * 256 + bits::wide(script[i + 2]);
+    let mode = bits::as_usize(script[i]);
+    let n = bits::as_usize(script[i + 1]) * 256 + bits::as_usize(script[i + 2]);
     if is_allowed(mode, n) {
         return Command::Run(mode, n);
     }
@@ -47,9 +47,9 @@ fn eci_at(script: &[u8], i: usize) -> Command
     if script.len() - i < 4 {
         return Command::Wrong;
     }
-    let v = bits::wide(script[i + 1]) * 65536
-        + bits::wide(script[i + 2]) * 256
-        + bits::wide(script[i + 3]);
+    let v = bits::as_usize(script[i + 1]) * 65536
+        + bits::as_usize(script[i + 2]) * 256
+        + bits::as_usize(script[i + 3]);
     if 2097151 < v {
         return Command::Wrong;
     }
@@ -61,7 +61,7 @@ pub fn command_at(script: &[u8], i: usize) -> Command
     requires { ⌜ i < length (now script) ⌝ }
     ensures { λ r. ⌜ r ≡ commandAt (drop i (now (script .entry))) ⌝ }
 {
-    let m = bits::wide(script[i]);
+    let m = bits::as_usize(script[i]);
     if m == segments::FOUR_BYTE {
         return Command::Run(segments::FOUR_BYTE, 4);
     }

@@ -37,10 +37,10 @@ pub enum Character {
 // The number of bits of a run.
 pub enum Cost {
     Takes(usize),
-    Lacks,
+    NotInMode,
 }
 
-// The answers of the check: the number of bits, or what is turned away.
+// The answers of the check: the number of bits, or why there is none.
 pub enum Check {
     Bits(usize),
     Malformed,
@@ -89,15 +89,15 @@ pub fn character_at(mode: usize, first: bool, run: &[u8], j: usize) -> Character
     ensures { λ r. ⌜ CharacterIs mode first (drop j (now (run .entry))) r ⌝ }
 {
     if mode == segments::TEXT {
-        return text_character(first, bits::wide(run[j]));
+        return text_character(first, bits::as_usize(run[j]));
     }
     if run.len() - j < 2 {
         return Character::Lacking;
     }
     if mode == segments::TWO_BYTE {
-        return double_character(bits::wide(run[j]), bits::wide(run[j + 1]));
+        return double_character(bits::as_usize(run[j]), bits::as_usize(run[j + 1]));
     }
-    region_character(first, bits::wide(run[j]), bits::wide(run[j + 1]))
+    region_character(first, bits::as_usize(run[j]), bits::as_usize(run[j + 1]))
 }
 
 pub fn step(mode: usize) -> usize
@@ -140,7 +140,7 @@ fn char_bits(mode: usize, run: &[u8]) -> Cost
                 j += by;
             }
             Character::Lacking => {
-                return Cost::Lacks;
+                return Cost::NotInMode;
             }
         }
     }
@@ -156,7 +156,7 @@ fn run_bits(mode: usize, run: &[u8]) -> Cost
         if all_digits(run) {
             return Cost::Takes(14 + 10 * ((run.len() + 2) / 3));
         }
-        return Cost::Lacks;
+        return Cost::NotInMode;
     }
     if mode == segments::BYTES {
         return Cost::Takes(17 + 8 * run.len());
@@ -165,7 +165,7 @@ fn run_bits(mode: usize, run: &[u8]) -> Cost
         if in_four(run) {
             return Cost::Takes(25);
         }
-        return Cost::Lacks;
+        return Cost::NotInMode;
     }
     char_bits(mode, run)
 }
@@ -220,7 +220,7 @@ pub fn check_script(script: &[u8], payload: &[u8]) -> Check
                         j = end;
                         i += command_size(mode);
                     }
-                    Cost::Lacks => {
+                    Cost::NotInMode => {
                         lacks = true;
                         j = end;
                         i += command_size(mode);

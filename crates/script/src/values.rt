@@ -118,10 +118,10 @@ pub fn four_code(run: &[u8]) -> usize
     requires { ⌜ 4 ≤ length (now run) ⌝ }
     ensures { λ r. ⌜ r ≡ fourCode (now (run .entry)) ⌝ }
 {
-    saturating_sub(bits::wide(run[0]), 0x81) * 12600
-        + saturating_sub(bits::wide(run[1]), 0x30) * 1260
-        + saturating_sub(bits::wide(run[2]), 0x81) * 10
-        + saturating_sub(bits::wide(run[3]), 0x30)
+    saturating_sub(bits::as_usize(run[0]), 0x81) * 12600
+        + saturating_sub(bits::as_usize(run[1]), 0x30) * 1260
+        + saturating_sub(bits::as_usize(run[2]), 0x81) * 10
+        + saturating_sub(bits::as_usize(run[3]), 0x30)
 }
 
 // The four-byte mode has four bytes.
@@ -135,16 +135,16 @@ pub fn in_four(run: &[u8]) -> bool
     if 1587600 <= w {
         return false;
     }
-    if 0x81 + w / 12600 != bits::wide(run[0]) {
+    if 0x81 + w / 12600 != bits::as_usize(run[0]) {
         return false;
     }
-    if 0x30 + w % 12600 / 1260 != bits::wide(run[1]) {
+    if 0x30 + w % 12600 / 1260 != bits::as_usize(run[1]) {
         return false;
     }
-    if 0x81 + w % 1260 / 10 != bits::wide(run[2]) {
+    if 0x81 + w % 1260 / 10 != bits::as_usize(run[2]) {
         return false;
     }
-    0x30 + w % 10 == bits::wide(run[3])
+    0x30 + w % 10 == bits::as_usize(run[3])
 }
 
 // The value of a digit; 10 or more for another byte.

@@ -7,7 +7,7 @@ use Rattle.bits.proofs.Appending.{low-split}
 use Rattle.placement.specs.Walk.{eightOf, run, behind, Gathered, Pushed, Masked, unmaskedAt}
 use Rattle.placement.specs.declared.Run.{Run}
 use Rattle.small_marks.specs.Open.{Spans}
-use Rattle.placement.proofs.Walk.{run-ext, last-value, gathered-is, bits-small, goes-none, goes-on, goes-push}
+use Rattle.placement.proofs.Walk.{run-ext, last-value, gathered-is, bits-small, reads-none, reads-on, reads-push}
 
 pub low-small : (n v k : ℕ) → getD (lowBits n v) k 0 < 2
 unfolding lowBits
@@ -75,15 +75,15 @@ module _ {sq row : List ℕ} (a : Masked sq row) where
 -- From column to column where all modules are data.
 
 pub spans-none : {sq row out : List ℕ} {r : Run} → Spans sq row out out r r
-spans-none = record { go = λ ks e z. goes-none }
+spans-none = record { go = λ ks e z. reads-none }
 
 pub spans-on : {sq row a b c : List ℕ} {r s t : Run} → r .column ≤ s .column → s .column ≤ t .column → Spans sq row a b r s → Spans sq row b c s t → Spans sq row a c r t
-spans-on lo hi f g = record { go = λ ks e z. goes-on (f .go ks e (λ k p q. z k p (omega arith))) (g .go ks e (λ k p q. z k (omega arith) q)) }
+spans-on lo hi f g = record { go = λ ks e z. reads-on (f .go ks e (λ k p q. z k p (omega arith))) (g .go ks e (λ k p q. z k (omega arith) q)) }
 
 pub spans-push : {sq row out out′ : List ℕ} {r s : Run} → Masked sq row → (n x : ℕ) → r .column + n ≤ length sq
     → x ≡ value 0 (run n (unmaskedAt sq row (r .column))) → s .column ≡ r .column + n
     → Pushed n x out out′ r s → Spans sq row out out′ r s
-spans-push {r = r} a n x h e f q = record { go = λ ks l z. goes-push a l n x (omega arith) (λ k i. z (r .column + k) (omega arith) (omega arith)) e f q }
+spans-push {r = r} a n x h e f q = record { go = λ ks l z. reads-push a l n x (omega arith) (λ k i. z (r .column + k) (omega arith) (omega arith)) e f q }
 
 -- The divisor 2 ^ w as the code has it.
 pub two-power : (w : ℕ) → w ≤ 8 → 1 * 2 ^ w % 18446744073709551616 ≡ 2 ^ w

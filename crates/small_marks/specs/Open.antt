@@ -4,12 +4,12 @@ use mathlib.Core.Logic.{_≢_, _⊎_}
 use mathlib.Core.List.{List}
 use Prim.Native.Nat.{ℕ, _+_, _*_, _<_, _≤_}
 use lib.ListN.{length, getD}
-use Rattle.placement.specs.Walk.{Goes}
+use Rattle.placement.specs.Walk.{ReadsColumns}
 use Rattle.placement.specs.declared.Run.{Run}
 
 -- from one column of a row to another, for all kinds by which the modules from the one column on and before the other are data
 pub record Spans (sq row out out′ : List ℕ) (r s : Run) : Type 0 where
-  pub go : (ks : List ℕ) → length sq ≡ length ks → ((k : ℕ) → r .column ≤ k → k < s .column → getD ks k 0 ≡ 0) → Goes ks sq row out out′ r s
+  pub go : (ks : List ℕ) → length sq ≡ length ks → ((k : ℕ) → r .column ≤ k → k < s .column → getD ks k 0 ≡ 0) → ReadsColumns ks sq row out out′ r s
 
 -- the first nine and the last nine rows have data in the other columns than the first nine and the last nine, all other rows in all columns
 pub record Open (s : ℕ) (ks : List ℕ) : Type 0 where

@@ -8,7 +8,7 @@ ghost use Rattle.bits.specs.Bits.{lowBits, value, firstWords};
 ghost use Rattle.symbol.specs.Version.{sideOf};
 ghost use Rattle.symbol.specs.Layout.{layoutOf};
 ghost use Rattle.codewords.specs.Codewords.{maskBit, dataBits};
-ghost use Rattle.placement.specs.Walk.{run, Pending, Masked, unmaskedAt};
+ghost use Rattle.placement.specs.Walk.{run, FewPending, Masked, unmaskedAt};
 ghost use Rattle.small_marks.specs.Open.{Spans, Margin};
 use placement::Run;
 
@@ -30,9 +30,9 @@ fn unmasked(square: &[u8], mask: usize, at: usize) -> usize
 // All modules of such a row from a column on and before another. Those left behind the groups of eight are the last of the eight that end
 // there.
 fn read_span(out: &mut [u8], square: &[u8], mask: usize, to: usize, first: Run) -> Run
-    requires { ⌜ Masked (now square) (lowBits 27 mask) × Pending first × (first .column ≤ to) × (8 ≤ to) × (to ≤ length (now square))
+    requires { ⌜ Masked (now square) (lowBits 27 mask) × FewPending first × (first .column ≤ to) × (8 ≤ to) × (to ≤ length (now square))
         × (length (now square) ≤ 27) ⌝ }
-    ensures { λ s. ⌜ Pending s × (s .column ≡ to) × Spans (now (square .entry)) (lowBits 27 mask) (now (out .entry)) (now (out .exit)) first s ⌝ }
+    ensures { λ s. ⌜ FewPending s × (s .column ≡ to) × Spans (now (square .entry)) (lowBits 27 mask) (now (out .entry)) (now (out .exit)) first s ⌝ }
 {
     let mut r = first;
     while r.column + 8 <= to {

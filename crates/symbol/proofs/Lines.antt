@@ -5,7 +5,7 @@ use lib.IntN.{pos, _-ℤ_}
 use Rattle.symbol.specs.Version.{sideOf}
 use Rattle.symbol.specs.declared.Spacing.{Spacing}
 use Rattle.symbol.specs.Layout.{ks, rs, ms, mOf, stepOf, lineOf, columnLine}
-use Rattle.symbol.specs.Inner.{Spaced, Roomy, kOf, rOf}
+use Rattle.symbol.specs.Inner.{Spaced, FitsSquare, kOf, rOf}
 use Rattle.symbol.proofs.Coordinates.{difference}
 use Rattle.general.proofs.Finite.{upTo, every}
 
@@ -53,8 +53,8 @@ spaced p lo hi s k m r =
       last = omega arith;
     }
 
-pub roomy : {p : Spacing} {g g' : List ℕ} → Roomy p g → length g' ≡ length g → Roomy p g'
-roomy q e = record { spaced = q .spaced; room = omega arith }
+pub fits-square : {p : Spacing} {g g' : List ℕ} → FitsSquare p g → length g' ≡ length g → FitsSquare p g'
+fits-square q e = record { spaced = q .spaced; room = omega arith }
 
 module _ {p : Spacing} (q : Spaced p) where
   pub near-step : (n : ℕ) → n < p .m → stepOf (p .version) n ≡ p .k

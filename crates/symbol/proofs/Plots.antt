@@ -24,23 +24,23 @@ pub next : {s : ℕ} {ps qs : List Plot} {g g' g'' : List ℕ} → Plotted s ps 
 next {s} {ps} {qs} {g} d e = record { is = e .is ∙ ap (plotAll s qs) (d .is) ∙ sym (plotAll-append s ps qs g) }
 
 -- a loop that plots: the turns below n are done, of as many as `to`
-pub record Turned (s : ℕ) (f : ℕ → List Plot) (to : ℕ) (g₀ g : List ℕ) (n : ℕ) : Type 0 where
+pub record TurnsDone (s : ℕ) (f : ℕ → List Plot) (to : ℕ) (g₀ g : List ℕ) (n : ℕ) : Type 0 where
   pub plotted : Plotted s (each n f) g₀ g
   pub few : n ≤ to
   pub kept : length g ≡ length g₀
 
-pub begun : {s : ℕ} {f : ℕ → List Plot} {to : ℕ} {g : List ℕ} → Turned s f to g g 0
+pub begun : {s : ℕ} {f : ℕ → List Plot} {to : ℕ} {g : List ℕ} → TurnsDone s f to g g 0
 unfolding each
 begun = record { plotted = none; few = omega arith; kept = refl }
 
-pub again : {s : ℕ} {f : ℕ → List Plot} {to : ℕ} {g₀ g g' : List ℕ} {n : ℕ} → n < to → Turned s f to g₀ g n → Plotted s (f n) g g'
-    → length g' ≡ length g → Turned s f to g₀ g' (n + 1)
+pub again : {s : ℕ} {f : ℕ → List Plot} {to : ℕ} {g₀ g g' : List ℕ} {n : ℕ} → n < to → TurnsDone s f to g₀ g n → Plotted s (f n) g g'
+    → length g' ≡ length g → TurnsDone s f to g₀ g' (n + 1)
 unfolding each
 again {s} {f} {to} {g₀} {g} {g'} {n} h t e k =
     let p : Plotted s (each (n + 1) f) g₀ g' = subst (λ (m : ℕ). Plotted s (each m f) g₀ g') (sym (add-one n)) (next (t .plotted) e) in
     record { plotted = p; few = omega arith; kept = k ∙ t .kept }
 
-pub ended : {s : ℕ} {f : ℕ → List Plot} {to : ℕ} {g₀ g : List ℕ} {n : ℕ} → to ≤ n → Turned s f to g₀ g n → Plotted s (each to f) g₀ g
+pub ended : {s : ℕ} {f : ℕ → List Plot} {to : ℕ} {g₀ g : List ℕ} {n : ℕ} → to ≤ n → TurnsDone s f to g₀ g n → Plotted s (each to f) g₀ g
 ended {s} {f} {to} {g₀} {g} {n} h t = let e : n ≡ to = omega arith in subst (λ (k : ℕ). Plotted s (each k f) g₀ g) e (t .plotted)
 
 -- what a call says of coordinates as the machine reads them, of the coordinates

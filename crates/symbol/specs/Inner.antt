@@ -78,7 +78,7 @@ pub record Spaced (p : Spacing) : Type 0 where
   pub last : p .m * p .k + p .r ≡ p .side
 
 -- such a version and a square for it
-pub record Roomy (p : Spacing) (g : List ℕ) : Type 0 where
+pub record FitsSquare (p : Spacing) (g : List ℕ) : Type 0 where
   pub spaced : Spaced p
   pub room : p .side * p .side ≤ length g
 

@@ -4,7 +4,7 @@ ghost use mathlib.Core.Bool.{cond};
 ghost use Prim.Native.Nat.{_+_, _-_, _*_, _%_, _≤_, _<_};
 ghost use Rattle.symbol.specs.Version as version;
 ghost use Rattle.symbol.specs.Layout.{edge, stepOf, mOf, lineOf, rowLine, columnLine, assistant, rowEnds, columnEnds, crossing, crossings, alignment};
-ghost use Rattle.symbol.specs.Inner.{Plotted, Spaced, Roomy, Inside};
+ghost use Rattle.symbol.specs.Inner.{Plotted, Spaced, FitsSquare, Inside};
 ghost use Rattle.general.specs.Lists.{each};
 use crate::Spacing;
 use crate::Version;
@@ -70,7 +70,7 @@ fn column_of(p: Spacing, n: usize) -> i64
 
 // The assistants at the left and right end of row n.
 fn row_ends(grid: &mut [u8], p: Spacing, n: usize)
-    requires { ⌜ Roomy p (now grid) × (n < p .m + 2) ⌝ }
+    requires { ⌜ FitsSquare p (now grid) × (n < p .m + 2) ⌝ }
     ensures { λ _. ⌜ Plotted (p .side) (rowEnds (p .version) n) (now (grid .entry)) (now (grid .exit)) ⌝ }
 {
     let y = row_of(p, n);
@@ -80,7 +80,7 @@ fn row_ends(grid: &mut [u8], p: Spacing, n: usize)
 
 // The assistants at the lower and upper end of column n.
 fn column_ends(grid: &mut [u8], p: Spacing, n: usize)
-    requires { ⌜ Roomy p (now grid) × (n < p .m + 2) ⌝ }
+    requires { ⌜ FitsSquare p (now grid) × (n < p .m + 2) ⌝ }
     ensures { λ _. ⌜ Plotted (p .side) (columnEnds (p .version) n) (now (grid .entry)) (now (grid .exit)) ⌝ }
 {
     let x = column_of(p, n);
@@ -90,7 +90,7 @@ fn column_ends(grid: &mut [u8], p: Spacing, n: usize)
 
 // The two lines from row n and column j.
 fn crossing(grid: &mut [u8], p: Spacing, n: usize, j: usize)
-    requires { ⌜ Roomy p (now grid) × (n < p .m + 2) × (j < p .m + 2) ⌝ }
+    requires { ⌜ FitsSquare p (now grid) × (n < p .m + 2) × (j < p .m + 2) ⌝ }
     ensures { λ _. ⌜ Plotted (p .side) (crossing (p .version) n j) (now (grid .entry)) (now (grid .exit)) ⌝ }
 {
     if (n + j) % 2 == 1 {
@@ -107,7 +107,7 @@ fn crossing(grid: &mut [u8], p: Spacing, n: usize, j: usize)
 
 // The assistants at the ends of row n, or of column n.
 fn line_ends(grid: &mut [u8], p: Spacing, n: usize, rows: bool)
-    requires { ⌜ Roomy p (now grid) × (n < p .m + 2) ⌝ }
+    requires { ⌜ FitsSquare p (now grid) × (n < p .m + 2) ⌝ }
     ensures { λ _. ⌜ Plotted (p .side) (cond rows (rowEnds (p .version) n) (columnEnds (p .version) n)) (now (grid .entry)) (now (grid .exit)) ⌝ }
 {
     if rows {
@@ -119,7 +119,7 @@ fn line_ends(grid: &mut [u8], p: Spacing, n: usize, rows: bool)
 
 // The assistants of all rows, or of all columns.
 fn lines_ends(grid: &mut [u8], p: Spacing, rows: bool)
-    requires { ⌜ Roomy p (now grid) ⌝ }
+    requires { ⌜ FitsSquare p (now grid) ⌝ }
     ensures { λ _. ⌜ Plotted (p .side) (each (mOf (p .version) + 2) (λ n. cond rows (rowEnds (p .version) n) (columnEnds (p .version) n)))
         (now (grid .entry)) (now (grid .exit)) ⌝ }
 {
@@ -133,7 +133,7 @@ fn lines_ends(grid: &mut [u8], p: Spacing, rows: bool)
 
 // The lines of row n.
 fn row_crossings(grid: &mut [u8], p: Spacing, n: usize)
-    requires { ⌜ Roomy p (now grid) × (n < p .m + 2) ⌝ }
+    requires { ⌜ FitsSquare p (now grid) × (n < p .m + 2) ⌝ }
     ensures { λ _. ⌜ Plotted (p .side) (each (mOf (p .version) + 2) (crossing (p .version) n)) (now (grid .entry)) (now (grid .exit)) ⌝ }
 {
     let lines = p.m + 2;
@@ -146,7 +146,7 @@ fn row_crossings(grid: &mut [u8], p: Spacing, n: usize)
 
 // The lines of all rows.
 fn crossings(grid: &mut [u8], p: Spacing)
-    requires { ⌜ Roomy p (now grid) ⌝ }
+    requires { ⌜ FitsSquare p (now grid) ⌝ }
     ensures { λ _. ⌜ Plotted (p .side) (crossings (p .version)) (now (grid .entry)) (now (grid .exit)) ⌝ }
 {
     let lines = p.m + 2;
@@ -159,7 +159,7 @@ fn crossings(grid: &mut [u8], p: Spacing)
 
 // Alignment and assistant alignment patterns. Modules that are no longer data keep their kind.
 pub fn alignment(grid: &mut [u8], p: Spacing)
-    requires { ⌜ Roomy p (now grid) ⌝ }
+    requires { ⌜ FitsSquare p (now grid) ⌝ }
     ensures { λ _. ⌜ Plotted (p .side) (alignment (p .version)) (now (grid .entry)) (now (grid .exit)) ⌝ }
 {
     lines_ends(grid, p, true);

@@ -6,7 +6,7 @@ ghost use lib.ListN.{length, getD};
 ghost use lib.IntN.{pos};
 ghost use lib.Signed.{mag};
 ghost use Rattle.symbol.specs.Layout.{edge, plot, when, odd, threeAt, assistant, lineModule, lineLeft, lineDown};
-ghost use Rattle.symbol.specs.Inner.{Stored, Plotted, Roomy, Inside, drawn};
+ghost use Rattle.symbol.specs.Inner.{Stored, Plotted, FitsSquare, Inside, drawn};
 ghost use Rattle.general.specs.Lists.{each};
 use crate::Spacing;
 
@@ -66,7 +66,7 @@ fn assistant(grid: &mut [u8], side: usize, x: i64, y: i64)
 
 // An assistant pattern where n is odd.
 pub fn assistant_if_odd(grid: &mut [u8], p: Spacing, n: usize, x: i64, y: i64)
-    requires { ⌜ Roomy p (now grid) × Inside (p .side) x × Inside (p .side) y ⌝ }
+    requires { ⌜ FitsSquare p (now grid) × Inside (p .side) x × Inside (p .side) y ⌝ }
     ensures { λ _. ⌜ Plotted (p .side) (when (odd n) (assistant x y)) (now (grid .entry)) (now (grid .exit)) ⌝ }
 {
     if n % 2 == 0 {

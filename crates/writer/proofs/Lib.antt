@@ -1,5 +1,5 @@
 -- Laws of writing's inner functions.
 pub mod Starts
-pub mod Rooms
-pub mod Turned
-pub mod Fronts
+pub mod DataRoom
+pub mod Refusals
+pub mod StreamToMark

@@ -8,7 +8,7 @@ use Rattle.information.specs.declared.InfoBits.the-variants.{Word}
 use Rattle.information.specs.Information.{isInfo, infoBits, InfoAnswer, infoOf, infoAnswer}
 use Rattle.marks.proofs.Marks.{ranges}
 use Rattle.marks.proofs.Starts.{layout-front, has-word}
-use Rattle.writer.specs.Inner.{Ranged, Ready}
+use Rattle.writer.specs.Inner.{ValidMark, MarkWithLayout}
 use Rattle.writer.specs.declared.Mark.{Mark}
 
 -- the side of a version, squared
@@ -29,9 +29,9 @@ module _ (v l k : ℕ) (b : InfoBits) (er : infoAnswer b ≡ infoOf v l k) (w : 
   word-is : w ≡ infoBits v l k
   word-is = sym (ap (λ (x : InfoBits). infoAnswer x .word) e) ∙ ap (λ (x : InfoAnswer). x .word) (er ∙ theirs)
 
-  pub ranged : Ranged (record { version = v; level = l; mask = k; word = w })
-  ranged = let R = ranges v l k has in record { low = R .low; high = R .high; level = R .level; mask = R .mask; word = word-is }
+  pub valid : ValidMark (record { version = v; level = l; mask = k; word = w })
+  valid = let R = ranges v l k has in record { low = R .low; high = R .high; level = R .level; mask = R .mask; word = word-is }
 
--- with the layout in a buffer, all is ready
-pub ready : (m : Mark) (out g : List ℕ) → Ranged m → sideOf (m .version) * sideOf (m .version) ≤ length out → g ≡ layoutWritten (m .version) out → Ready m g
-ready m out g R h q = let F = layout-front (m .version) out g (R .low) (R .high) h q in record { ranged = R; long = F .0; kinds = F .1 }
+-- with the layout in a buffer
+pub mark-with-layout : (m : Mark) (out g : List ℕ) → ValidMark m → sideOf (m .version) * sideOf (m .version) ≤ length out → g ≡ layoutWritten (m .version) out → MarkWithLayout m g
+mark-with-layout m out g R h q = let F = layout-front (m .version) out g (R .low) (R .high) h q in record { valid = R; long = F .0; kinds = F .1 }

@@ -14,7 +14,7 @@ use Rattle.marks.specs.Write.{roomOf, scriptRefusals}
 use Rattle.writer.specs.declared.Mark.{Mark}
 
 -- version, level and mask are in their ranges, and the word is theirs
-pub record Ranged (m : Mark) : Type 0 where
+pub record ValidMark (m : Mark) : Type 0 where
   pub low : 1 ≤ m .version
   pub high : m .version ≤ 84
   pub level : m .level ≤ 3
@@ -27,8 +27,8 @@ pub record Row (m : Mark) (r : List ℕ) : Type 0 where
   pub is : r ≡ rowOf (m .version) (m .level)
 
 -- and a buffer begins with the kinds of the version's modules
-pub record Ready (m : Mark) (ks : List ℕ) : Type 0 where
-  pub ranged : Ranged m
+pub record MarkWithLayout (m : Mark) (ks : List ℕ) : Type 0 where
+  pub valid : ValidMark m
   pub long : sideOf (m .version) * sideOf (m .version) ≤ length ks
   pub kinds : take (sideOf (m .version) * sideOf (m .version)) ks ≡ layoutOf (m .version)
 

@@ -14,7 +14,7 @@ ghost use Rattle.script.specs.Check.{commandsOf};
 ghost use Rattle.script.specs.Inner.{Fits, scriptData};
 ghost use Rattle.marks.specs.Read.{unless};
 ghost use Rattle.marks.specs.Write.{roomOf, writeRefusal, markOf, writingOf, writeOf};
-ghost use Rattle.writer.specs.Inner.{Ranged, Row, Ready, placeRefusal, scriptRefusal};
+ghost use Rattle.writer.specs.Inner.{ValidMark, Row, MarkWithLayout, placeRefusal, scriptRefusal};
 ghost use Rattle.codewords.specs.Inner.{squareOf};
 use symbol::Version;
 
@@ -28,7 +28,7 @@ pub struct Mark {
 
 // 1 for a version with too few data modules (the rows of the table hold their rule), 2 if the square has not side × side bytes, else 0.
 fn place_refusal(m: Mark, kinds: &[u8], size: usize) -> usize
-    requires { ⌜ Ready m (now kinds) ⌝ }
+    requires { ⌜ MarkWithLayout m (now kinds) ⌝ }
     ensures { λ r. ⌜ r ≡ placeRefusal (m .version) (m .level) size ⌝ }
 {
     let side = Version { number: m.version }.side();
@@ -44,7 +44,7 @@ fn place_refusal(m: Mark, kinds: &[u8], size: usize) -> usize
 
 // 13 if there are more bits than the data codewords have, else 0.
 fn bits_refusal(m: Mark, row: &[u8], bits: usize) -> usize
-    requires { ⌜ Ranged m × Row m (now row) ⌝ }
+    requires { ⌜ ValidMark m × Row m (now row) ⌝ }
     ensures { λ r. ⌜ r ≡ unless (leb bits (8 * roomOf (m .version) (m .level))) 13 ⌝ }
 {
     if 8 * blocks::data_length(row) < bits {
@@ -53,9 +53,9 @@ fn bits_refusal(m: Mark, row: &[u8], bits: usize) -> usize
     0
 }
 
-// What script and payload are turned away for, or 0.
+// The refusal of script and payload, or 0.
 fn script_refusal(m: Mark, row: &[u8], script: &[u8], payload: &[u8]) -> usize
-    requires { ⌜ Ranged m × Row m (now row) ⌝ }
+    requires { ⌜ ValidMark m × Row m (now row) ⌝ }
     ensures { λ r. ⌜ r ≡ scriptRefusal (m .version) (m .level) (now (script .entry)) (now (payload .entry)) ⌝ }
 {
     match script::check_script(script, payload) {
@@ -81,7 +81,7 @@ fn encode_stream(stream: &mut [u8], data: &mut [u8], row: &[u8], script: &[u8], 
 
 // A stream in the data modules of a square; the information modules are light. The codewords are put in order in a lent buffer.
 fn place_stream(square: &mut [u8], kinds: &[u8], m: Mark, stream: &[u8], found: &mut [u8])
-    requires { ⌜ Ready m (now kinds) × (length (now square) ≡ sideOf (m .version) * sideOf (m .version))
+    requires { ⌜ MarkWithLayout m (now kinds) × (length (now square) ≡ sideOf (m .version) * sideOf (m .version))
         × (totalOf (m .version) ≤ length (now stream)) × (totalOf (m .version) ≤ length (now found)) ⌝ }
     ensures { λ _. ⌜ now (square .exit) ≡ squareOf (maskBit (sideOf (m .version)) (m .mask)) (layoutOf (m .version))
         (take (totalOf (m .version)) (now (stream .entry))) ⌝ }
@@ -103,7 +103,7 @@ fn write_mark_in(
     stream: &mut [u8],
     spare: &mut [u8],
 )
-    requires { ⌜ Ready m (now kinds) × (writeRefusal (m .version) (m .level) (m .mask) (now script) (now payload) (now square) ≡ 0) ⌝ }
+    requires { ⌜ MarkWithLayout m (now kinds) × (writeRefusal (m .version) (m .level) (m .mask) (now script) (now payload) (now square) ≡ 0) ⌝ }
     requires { ⌜ Row m (now row) × (totalOf (m .version) ≤ length (now stream)) × (totalOf (m .version) ≤ length (now spare)) ⌝ }
     ensures { λ _. ⌜ now (square .exit) ≡ markOf (m .version) (m .level) (m .mask) (now (script .entry)) (now (payload .entry)) ⌝ }
 {
@@ -116,7 +116,7 @@ fn write_mark_in(
 
 // The same. A small mark has small buffers, which are sooner cleared.
 fn write_mark(square: &mut [u8], kinds: &[u8], m: Mark, row: &[u8], script: &[u8], payload: &[u8])
-    requires { ⌜ Ready m (now kinds) × (writeRefusal (m .version) (m .level) (m .mask) (now script) (now payload) (now square) ≡ 0) × Row m (now row) ⌝ }
+    requires { ⌜ MarkWithLayout m (now kinds) × (writeRefusal (m .version) (m .level) (m .mask) (now script) (now payload) (now square) ≡ 0) × Row m (now row) ⌝ }
     ensures { λ _. ⌜ now (square .exit) ≡ markOf (m .version) (m .level) (m .mask) (now (script .entry)) (now (payload .entry)) ⌝ }
 {
     if m.version < 4 {
@@ -149,8 +149,14 @@ fn write_mark(square: &mut [u8], kinds: &[u8], m: Mark, row: &[u8], script: &[u8
 }
 
 // The mark and 0, or the first refusal behind that of version, level and mask.
-fn write_ready(square: &mut [u8], kinds: &[u8], m: Mark, script: &[u8], payload: &[u8]) -> usize
-    requires { ⌜ Ready m (now kinds) ⌝ }
+fn write_with_layout(
+    square: &mut [u8],
+    kinds: &[u8],
+    m: Mark,
+    script: &[u8],
+    payload: &[u8],
+) -> usize
+    requires { ⌜ MarkWithLayout m (now kinds) ⌝ }
     ensures { λ r. ⌜ writingOf r (now (square .exit)) ≡ writeOf (m .version) (m .level) (m .mask) (now (script .entry)) (now (payload .entry))
         (now (square .entry)) ⌝ }
 {
@@ -190,7 +196,7 @@ fn write_in(
         mask: mask,
         word: word,
     };
-    write_ready(square, kinds, m, script, payload)
+    write_with_layout(square, kinds, m, script, payload)
 }
 
 // Write a square. A small mark has a small buffer for its layout: to clear one for any layout takes longer than to write a small mark. The

@@ -17,8 +17,8 @@ returns c =
     let f = e .before .before in
     read-four _ _ _ _ (omega arith) (omega arith)
     (window-four _ _ _ _ _ _ (omega arith)
-    (f .wide .ensures .1, e .wide2 .ensures .1, d .wide3 .ensures .1, c .wide4 .ensures .1) (f .wide .ensures .0) (e .wide2 .ensures .0)
-    (d .wide3 .ensures .0) (c .wide4 .ensures .0))
+    (f .as-usize .ensures .1, e .as-usize2 .ensures .1, d .as-usize3 .ensures .1, c .as-usize4 .ensures .1) (f .as-usize .ensures .0) (e .as-usize2 .ensures .0)
+    (d .as-usize3 .ensures .0) (c .as-usize4 .ensures .0))
 
 returns-2 : tie.Need-returns-2
 returns-2 c = let a = c .before .before .before .args in read-short (a .s .now) (a .at) (a .n) (omega arith) (omega arith)

@@ -35,8 +35,8 @@ loop-again c =
     let a = start .args in
     let k : l .i - a .at / 8 + 1 ≡ l .i + 1 - a .at / 8 = omega arith in
     let j : a .at / 8 + (l .i - a .at / 8) ≡ l .i = omega arith in
-    let b : c .wide .result ≡ getD (a .s .now) (a .at / 8 + (l .i - a .at / 8)) 0 = rw j (c .wide .ensures .0) in
-    (omega arith, omega arith, rw (l .inv .2, ← k) (window-more (a .s .now) (a .at / 8) (l .i - a .at / 8) (c .wide .result) (omega arith) (c .wide .ensures .1) b))
+    let b : c .as-usize .result ≡ getD (a .s .now) (a .at / 8 + (l .i - a .at / 8)) 0 = rw j (c .as-usize .ensures .0) in
+    (omega arith, omega arith, rw (l .inv .2, ← k) (window-more (a .s .now) (a .at / 8) (l .i - a .at / 8) (c .as-usize .result) (omega arith) (c .as-usize .ensures .1) b))
 
 returns : tie.Need-returns Inv-loop μ-loop
 returns c =

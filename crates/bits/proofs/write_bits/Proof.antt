@@ -20,9 +20,9 @@ rem-before : tie.Need-rem-before
 rem-before c = let a = c .before .before .before .before .args in rw (one-shifted (8 - a .at % 8) (omega arith)) (pow-pos (8 - a .at % 8))
 
 -- what is stored
-joins : (c : tie.After-store-four-arg) → Joins (c .before .wide .result) (c .before .before .before .before .before .args .at % 8)
+joins : (c : tie.After-store-four-arg) → Joins (c .before .as-usize .result) (c .before .before .before .before .before .args .at % 8)
     (c .before .before .before .before .before .args .n) (c .before .before .before .before .before .args .v)
-joins c = joined-is _ _ _ _ (c .before .wide .ensures .1) (omega arith) (omega arith)
+joins c = joined-is _ _ _ _ (c .before .as-usize .ensures .1) (omega arith) (omega arith)
 
 rem-store-four : tie.Need-rem-store-four
 rem-store-four c = let a = c .before .before .before .before .before .args in rw (one-shifted (a .n) (omega arith)) (pow-pos (a .n))
@@ -36,7 +36,7 @@ returns-2 c =
     let g = d .before in
     let a = g .before .before .before .before .before .args in
     let j = joins g in
-    rw (d .store-four .ensures, j .0, g .before .wide .ensures .0) (appended (a .buf .now) (a .at) (a .n) (a .v) (omega arith) (omega arith))
+    rw (d .store-four .ensures, j .0, g .before .as-usize .ensures .0) (appended (a .buf .now) (a .at) (a .n) (a .v) (omega arith) (omega arith))
 
 pub write-bits-spec : {M : Type 1} → Rattle.bits.proofs.write_bits.Statement.statement M
 write-bits-spec =

@@ -1,7 +1,7 @@
 -- `write_batch` meets its contract: with a table or without. Assumes nothing.
 use Rattle.general.proofs.Names.{arith, needs}
 use Rattle.blocks.proofs.Rule.{batch-fit, only-is}
-use Rattle.blocks.proofs.Pours.{only-room}
+use Rattle.blocks.proofs.Transfers.{only-room}
 use Rattle.block_writer.proofs.write_batch.Tie as tie
 
 write-one-requires : tie.Need-write-one-requires

@@ -5,18 +5,18 @@ use Rattle.block_table.specs.Blocks.{batch}
 use Rattle.blocks.specs.Inner.{blocksIn, writing}
 use Rattle.blocks.proofs.Rule.{batch-fit, batch-none}
 use Rattle.blocks.proofs.Splice.{part-kept}
-use Rattle.blocks.proofs.Pours.{Pouring, pouring-start, pouring-end, one-room, one-next, one-written, part-length, prepared-as}
+use Rattle.blocks.proofs.Transfers.{TransferLeft, transfer-start, transfer-end, one-room, one-next, one-written, part-length, prepared-as}
 use Rattle.block_writer.proofs.write_many.Tie as tie
 
 abbrev Inv-loop : tie.InvT-loop
 Inv-loop stream₀ to «data» from b rows into₀ at₀ left₀ stream into at left =
-    Pouring writing (blocksIn b) to from «data» stream₀ (batch left (b .info) (b .parity)) into at stream
+    TransferLeft writing (blocksIn b) to from «data» stream₀ (batch left (b .info) (b .parity)) into at stream
 
 abbrev μ-loop : tie.MeasureT-loop
 μ-loop stream₀ to «data» from b rows into₀ at₀ left₀ stream into at left = left
 
 returns : tie.Need-returns Inv-loop μ-loop
-returns c = pouring-end (pouring-start (c .before .before .before .before .pre .1)) (batch-none _ _ _ (omega (arith, c .if1 .taken)))
+returns c = transfer-end (transfer-start (c .before .before .before .before .pre .1)) (batch-none _ _ _ (omega (arith, c .if1 .taken)))
 
 -- the place of a turn's block, and that of its data
 place : (c : tie.In-loop Inv-loop μ-loop) →
@@ -55,10 +55,10 @@ loop-again c =
 pub write-many-spec : {M : Type 1} → Rattle.block_writer.proofs.write_many.Statement.statement M
 write-many-spec =
     tie.close (tie.spec Inv-loop μ-loop returns (λ c. search needs) (λ c κs. (refl, zeros 512))
-    (λ c. pouring-start (c .before .before .before .before .before .before .before .pre .1)) (λ c. omega (arith, place (c .before)))
+    (λ c. transfer-start (c .before .before .before .before .before .before .before .pre .1)) (λ c. omega (arith, place (c .before)))
     (λ c. omega (arith, place (c .before))) (λ c κs. let p = place (c .before .before) in (omega (arith, p .0), p .1))
     (λ c. sym (c .before .before .before .before .before .before .before .before .before .prepare .ensures .size)) (λ c. search needs)
     (λ c. search needs) (λ c. omega (arith, place (c .before .before .before .before .before .before), c .before .before .before .copy .kept .0))
     write-with-requires (λ c. omega (arith, place (c .before .before .before .before .before .before .before .before .before .before .before)))
     (λ c. search needs) (λ c. search needs) loop-again (λ c. c .before .loop .inv .size)
-    (λ c. pouring-end (c .before .loop .inv) (batch-none _ _ _ (c .loop-test .left))))
+    (λ c. transfer-end (c .before .loop .inv) (batch-none _ _ _ (c .loop-test .left))))

@@ -1,6 +1,6 @@
 -- `write_one` meets its contract: data in their place, then their parity. Assumes nothing.
 use Rattle.general.proofs.Names.{refl, needs}
-use Rattle.blocks.proofs.Pours.{one-written}
+use Rattle.blocks.proofs.Transfers.{one-written}
 use Rattle.block_writer.proofs.write_one.Tie as tie
 
 returns : tie.Need-returns

@@ -4,7 +4,7 @@ use Rattle.reed_solomon.specs.Block.{nearest}
 use Rattle.reed_solomon.proofs.Fit.{fit}
 use Rattle.reed_solomon.proofs.Massey.{zeros}
 use Rattle.corrector.specs.Correct.{outcome, settled}
-use Rattle.corrector.proofs.Settle.{fit-settled, none-settled, left-as}
+use Rattle.corrector.proofs.Repairs.{fit-settled, none-settled, left-as}
 use Rattle.corrector.proofs.correct_left.Tie as tie
 
 returns : tie.Need-returns

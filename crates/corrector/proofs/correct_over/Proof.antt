@@ -2,7 +2,7 @@
 use Rattle.general.proofs.Names.{refl, sym, _∙_, arith, needs}
 use Rattle.field.proofs.Entries.{the-field}
 use Rattle.corrector.specs.Correct.{outcome}
-use Rattle.corrector.proofs.Settle.{unfit-refused, fit-settled, clean-settled}
+use Rattle.corrector.proofs.Repairs.{unfit-refused, fit-settled, clean-settled}
 use Rattle.reed_solomon.proofs.Fit.{unfit-parity, unfit-length, unfit-long, fit}
 use Rattle.reed_solomon.proofs.Massey.{zeros}
 use Rattle.corrector.proofs.correct_over.Tie as tie

@@ -3,7 +3,7 @@ use Rattle.general.proofs.Names.{refl, sym, arith, needs}
 use Rattle.field.proofs.Entries.{the-field}
 use Rattle.corrector.specs.Correct.{outcome}
 use Rattle.reed_solomon.proofs.Massey.{zeros}
-use Rattle.corrector.proofs.Settle.{long-settled, left-settled, repaired-settled}
+use Rattle.corrector.proofs.Repairs.{long-settled, left-settled, repaired-settled}
 use Rattle.corrector.proofs.repair.Tie as tie
 
 locator-requires : tie.Need-locator-requires

@@ -1,7 +1,7 @@
 -- `place_rows` meets its contract. Assumes nothing.
 use Rattle.placement.proofs.Rows.{row-inside, row-mask}
 use Rattle.drawing.proofs.Puts.{placing-begun}
-use Rattle.drawing.proofs.Squares.{row-drawn, row-blank, placing-row, placing-done}
+use Rattle.drawing.proofs.Squares.{row-patterns, row-buffers, placing-row, placing-done}
 use Rattle.masks.proofs.Rows.{columns-fewer, row-new}
 use Rattle.masks.specs.Columns.{Row}
 use Rattle.drawing.specs.Puts.{Placing}
@@ -49,8 +49,8 @@ put-row-requires c κs =
     let side = start .args .side in
     let h : loop .i * start .args .side + start .args .side ≤ length (start .args .kinds .now) = omega (arith, inside turn .0) in
     let mask-row = c .before .before .before .before .mask-row in
-    let blank = row-blank (start .args .kinds .now) (loop .square) (loop .i * side) side (loop .inv .2 .size) (mask-row .ensures .0) (start .pre .3) h (start .pre .5) in
-    (blank, row-drawn (loop .i * side) side (loop .inv .2 .drawn) h)
+    let buffers = row-buffers (start .args .kinds .now) (loop .square) (loop .i * side) side (loop .inv .2 .size) (mask-row .ensures .0) (start .pre .3) h (start .pre .5) in
+    (buffers, row-patterns (loop .i * side) side (loop .inv .2 .patterns) h)
 
 loop-again : tie.Need-loop-again Inv-loop μ-loop
 loop-again c =

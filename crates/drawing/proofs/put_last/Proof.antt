@@ -1,11 +1,11 @@
 -- `put_last` meets its contract. Assumes nothing.
-use Rattle.drawing.proofs.Puts.{blank-kept, puts-none, puts-on, puts-all}
-use Rattle.drawing.specs.Puts.{Blank, Puts}
+use Rattle.drawing.proofs.Puts.{row-buffers-kept, puts-none, puts-on, puts-all}
+use Rattle.drawing.specs.Puts.{RowBuffers, Puts}
 use Rattle.general.proofs.Names.{length, sym, _∙_, _-_, _≤_, arith}
 use Rattle.drawing.proofs.put_last.Tie as tie
 
 abbrev Inv-loop : tie.InvT-loop
-Inv-loop square₀ kinds row codewords p₀ square p = Blank square kinds row codewords × (p .column ≤ length kinds) × Puts kinds row codewords square₀ square p₀ p
+Inv-loop square₀ kinds row codewords p₀ square p = RowBuffers square kinds row codewords × (p .column ≤ length kinds) × Puts kinds row codewords square₀ square p₀ p
 
 abbrev μ-loop : tie.MeasureT-loop
 μ-loop square₀ kinds row codewords p₀ square p = length kinds - p .column
@@ -17,7 +17,7 @@ loop-again : tie.Need-loop-again Inv-loop μ-loop
 loop-again c =
     let put-one = c .before .before .put-one in
     let loop = c .before .before .before .before .before .before .loop in
-    (blank-kept (put-one .kept .0) (loop .inv .0), put-one .ensures .1, puts-on (loop .inv .2) (put-one .ensures .2))
+    (row-buffers-kept (put-one .kept .0) (loop .inv .0), put-one .ensures .1, puts-on (loop .inv .2) (put-one .ensures .2))
 
 pub put-last-spec : {M : Type 1} → Rattle.drawing.proofs.put_last.Statement.statement M
 put-last-spec =

@@ -1,12 +1,12 @@
 -- `put_row` meets its contract. Assumes nothing.
-use Rattle.drawing.proofs.Puts.{blank-kept, puts-none, puts-on, puts-end, placing-begun}
-use Rattle.drawing.specs.Puts.{Blank, Puts}
+use Rattle.drawing.proofs.Puts.{row-buffers-kept, puts-none, puts-on, puts-end, placing-begun}
+use Rattle.drawing.specs.Puts.{RowBuffers, Puts}
 use Rattle.general.proofs.Names.{length, sym, _∙_, _-_, _≤_, arith, needs}
 use Rattle.drawing.proofs.put_row.Tie as tie
 
 abbrev Inv-loop : tie.InvT-loop
 Inv-loop square₀ kinds row codewords bit end p₀ square p =
-    Blank square kinds row codewords × (p .column ≤ length kinds) × Puts kinds row codewords square₀ square p₀ p
+    RowBuffers square kinds row codewords × (p .column ≤ length kinds) × Puts kinds row codewords square₀ square p₀ p
 
 abbrev μ-loop : tie.MeasureT-loop
 μ-loop square₀ kinds row codewords bit end p₀ square p = length kinds - p .column
@@ -18,7 +18,7 @@ loop-again : tie.Need-loop-again Inv-loop μ-loop
 loop-again c =
     let step = c .before .before .put-step in
     let loop = c .before .before .before .before .before .before .loop in
-    (blank-kept (step .kept .0) (loop .inv .0), step .ensures .1, puts-on (loop .inv .2) (step .ensures .2))
+    (row-buffers-kept (step .kept .0) (loop .inv .0), step .ensures .1, puts-on (loop .inv .2) (step .ensures .2))
 
 put-last-requires : tie.Need-put-last-requires Inv-loop μ-loop
 put-last-requires c κs = let loop = c .before .before .before .loop in (loop .inv .0, loop .inv .1)

@@ -6,8 +6,8 @@ use Rattle.drawing.proofs.put_step.Tie as tie
 
 put-eight-requires : tie.Need-put-eight-requires
 put-eight-requires c κs =
-    let start = c .before .before .before .before .before .before .before .before .before in let blank = start .pre .0 in
-    (omega arith, omega arith, blank .room, blank .masks, omega arith, blank .few)
+    let start = c .before .before .before .before .before .before .before .before .before in let buffers = start .pre .0 in
+    (omega arith, omega arith, buffers .room, buffers .masks, omega arith, buffers .few)
 
 returns : tie.Need-returns
 returns c =

@@ -6,7 +6,7 @@ use Rattle.drawing.proofs.window.Tie as tie
 returns : tie.Need-returns
 returns c =
     let start = c .before .before .before .before .before in window-two _ _ _ _ (start .pre)
-    (c .before .before .wide .ensures .1, c .wide2 .ensures .1) (c .before .before .wide .ensures .0) (c .wide2 .ensures .0)
+    (c .before .before .as-usize .ensures .1, c .as-usize2 .ensures .1) (c .before .before .as-usize .ensures .0) (c .as-usize2 .ensures .0)
 
 pub window-spec : {M : Type 1} → Rattle.drawing.proofs.window.Statement.statement M
 window-spec =

@@ -1,14 +1,14 @@
 -- `write_chars` meets its contract. Assumes nothing.
 use Rattle.general.proofs.Names.{_≡_, refl, _∙_, true, not, [], _∷_, _+_, _-_, _*_, _≤_, arith, needs, length, drop}
 use Rattle.script.specs.Characters.{wordsOf, hasAll, switchOf, beginsIn}
-use Rattle.encoding.specs.Written.{Doing}
-use Rattle.encoding.proofs.Doing.{Behind, begun, word-room, word-done, all-done, doing-as, same-words, other-words, never-lacking, end-words}
+use Rattle.encoding.specs.Written.{WordsLeft}
+use Rattle.encoding.proofs.WordsLeft.{Behind, begun, word-room, word-done, all-done, words-left-as, same-words, other-words, never-lacking, end-words}
 use Rattle.encoding.proofs.write_chars.Tie as tie
 
 abbrev Inv-loop : tie.InvT-loop
 Inv-loop buf₀ from mode run by w first₀ at₀ j₀ buf first at j =
     (length buf ≡ length buf₀) × (j ≤ length run) × (hasAll mode (drop j run) ≡ true) × (from + w * length (wordsOf mode first₀ run) ≤ 8 * length buf₀)
-    × Doing w buf₀ from (wordsOf mode first₀ run) buf at (wordsOf mode first (drop j run))
+    × WordsLeft w buf₀ from (wordsOf mode first₀ run) buf at (wordsOf mode first (drop j run))
 
 abbrev μ-loop : tie.MeasureT-loop
 μ-loop buf₀ from mode run by w first₀ at₀ j₀ buf first at j = length run - j
@@ -61,7 +61,7 @@ put-requires : tie.Need-put-requires Inv-loop μ-loop
 unfolding beginsIn
 put-requires c κs =
     let l = c .before .before .before .before .before .before .loop in
-    let r = word-room (8 * length (l .buf)) (same (c .before) .doing) (rw (l .inv .0) (l .inv .3)) in
+    let r = word-room (8 * length (l .buf)) (same (c .before) .words-left) (rw (l .inv .0) (l .inv .3)) in
     (omega arith, r, omega arith)
 
 loop-less : tie.Need-loop-less Inv-loop μ-loop
@@ -74,13 +74,13 @@ loop-again c =
     let l = k .before .before .before .before .before .loop in
     let t = same k in
     let p = c .before .before .put in
-    (p .kept .0 ∙ l .inv .0, t .room, t .have, l .inv .3, word-done (t .doing) (p .ensures))
+    (p .kept .0 ∙ l .inv .0, t .room, t .have, l .inv .3, word-done (t .words-left) (p .ensures))
 
 put-requires-2 : tie.Need-put-requires-2 Inv-loop μ-loop
 unfolding beginsIn
 put-requires-2 c κs =
     let l = c .before .before .before .before .before .before .before .loop in
-    let r = word-room (8 * length (l .buf)) (other (c .before .before) .doing) (rw (l .inv .0) (l .inv .3)) in
+    let r = word-room (8 * length (l .buf)) (other (c .before .before) .words-left) (rw (l .inv .0) (l .inv .3)) in
     (omega arith, r, omega arith)
 
 -- the switch is written
@@ -88,9 +88,9 @@ switched : (c : tie.After-put2 Inv-loop μ-loop)
     → let l = c .before .before .before .before .before .before .before .before .loop in
     let y = c .before .before .before .before .before .before .before .before .before in
     let a = y .before .before .before .before .args in
-    Doing (y .width .result) (a .buf .now) (a .from) (wordsOf (a .mode) (beginsIn (a .mode)) (a .run .now)) (c .put2 .last .0) (c .put2 .result)
+    WordsLeft (y .width .result) (a .buf .now) (a .from) (wordsOf (a .mode) (beginsIn (a .mode)) (a .run .now)) (c .put2 .last .0) (c .put2 .result)
     (c .before .before .before .before .g2 .given .0 .0 ∷ wordsOf (a .mode) (not (l .first)) (drop (l .j + y .before .step .result) (a .run .now)))
-switched c = word-done (other (c .before .before .before) .doing) (rw (c .before .switch-word .ensures) at (c .put2 .ensures))
+switched c = word-done (other (c .before .before .before) .words-left) (rw (c .before .switch-word .ensures) at (c .put2 .ensures))
 
 put-requires-3 : tie.Need-put-requires-3 Inv-loop μ-loop
 unfolding beginsIn
@@ -124,7 +124,7 @@ put-requires-4 : tie.Need-put-requires-4 Inv-loop μ-loop
 put-requires-4 c κs =
     let l = c .before .before .before .loop in
     let a = c .before .before .before .before .before .before .before .before .args in
-    let d = doing-as (end-words (a .run .now) (a .mode) (l .first) (l .j) (omega arith)) (l .inv .4) in
+    let d = words-left-as (end-words (a .run .now) (a .mode) (l .first) (l .j) (omega arith)) (l .inv .4) in
     (omega arith, omega arith, omega arith)
 
 returns-2 : tie.Need-returns-2 Inv-loop μ-loop
@@ -134,7 +134,7 @@ returns-2 c =
     let l = w .before .before .before .loop in
     let a = w .before .before .before .before .before .before .before .before .args in
     let wd = w .before .before .before .before .width in
-    let d = doing-as (end-words (a .run .now) (a .mode) (l .first) (l .j) (omega arith)) (l .inv .4) in
+    let d = words-left-as (end-words (a .run .now) (a .mode) (l .first) (l .j) (omega arith)) (l .inv .4) in
     rw (wd .ensures .0) at (all-done (word-done d (rw (w .end-word .ensures) at (c .before .before .put4 .ensures))))
 
 pub write-chars-spec : {M : Type 1} → Rattle.encoding.proofs.write_chars.Statement.statement M

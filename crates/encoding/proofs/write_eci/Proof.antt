@@ -2,7 +2,7 @@
 use Rattle.general.proofs.Names.{_+_, _*_, _≤_, arith, length, needs}
 use Rattle.bits.proofs.Words.{length-low}
 use Rattle.script.specs.Writer.{eciBits}
-use Rattle.encoding.proofs.Doing.{written-both}
+use Rattle.encoding.proofs.WordsLeft.{written-both}
 use Rattle.encoding.proofs.Runs.{first-room, rest-room, eci-7, eci-14, eci-21}
 use Rattle.encoding.proofs.write_eci.Tie as tie
 

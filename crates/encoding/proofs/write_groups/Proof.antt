@@ -1,12 +1,12 @@
 -- `write_groups` meets its contract. Assumes nothing.
 use Rattle.general.proofs.Names.{_≡_, refl, _∙_, [], _∷_, _+_, _-_, _*_, _≤_, arith, length, getD, drop}
 use Rattle.script.specs.Writer.{numericWords}
-use Rattle.encoding.specs.Written.{Doing, groupAt}
-use Rattle.encoding.proofs.Doing.{begun, word-room, word-done, all-done, doing-as, three-digits, one-digit, two-digits, no-digit}
+use Rattle.encoding.specs.Written.{WordsLeft, groupAt}
+use Rattle.encoding.proofs.WordsLeft.{begun, word-room, word-done, all-done, words-left-as, three-digits, one-digit, two-digits, no-digit}
 use Rattle.encoding.proofs.write_groups.Tie as tie
 
 abbrev Inv-loop : tie.InvT-loop
-Inv-loop buf₀ from run at₀ j₀ buf at j = (length buf ≡ length buf₀) × (j ≤ length run) × Doing 10 buf₀ from (numericWords run) buf at (numericWords (drop j run))
+Inv-loop buf₀ from run at₀ j₀ buf at j = (length buf ≡ length buf₀) × (j ≤ length run) × WordsLeft 10 buf₀ from (numericWords run) buf at (numericWords (drop j run))
 
 abbrev μ-loop : tie.MeasureT-loop
 μ-loop buf₀ from run at₀ j₀ buf at j = length run - j
@@ -18,31 +18,31 @@ loop-holds c = let a = c .before .before .args in (refl, omega arith, begun 10 (
 three : (c : tie.In-loop Inv-loop μ-loop)
     → let l = c .before .loop in
     let a = c .before .before .before .before .args in
-    Doing 10 (a .buf .now) (a .from) (numericWords (a .run .now)) (l .buf) (l .at) (groupAt (a .run .now) (l .j) ∷ numericWords (drop (l .j + 3) (a .run .now)))
-three c = let l = c .before .loop in doing-as (three-digits (c .before .before .before .before .args .run .now) (l .j) (omega arith)) (l .inv .2)
+    WordsLeft 10 (a .buf .now) (a .from) (numericWords (a .run .now)) (l .buf) (l .at) (groupAt (a .run .now) (l .j) ∷ numericWords (drop (l .j + 3) (a .run .now)))
+three c = let l = c .before .loop in words-left-as (three-digits (c .before .before .before .before .args .run .now) (l .j) (omega arith)) (l .inv .2)
 
 one : (c : tie.Then1 Inv-loop μ-loop)
     → let l = c .before .before .loop in
     let a = c .before .before .before .before .before .args in
-    Doing 10 (a .buf .now) (a .from) (numericWords (a .run .now)) (l .buf) (l .at) ((getD (a .run .now) (l .j) 0 - 48) ∷ 1021 ∷ [])
-one c = let l = c .before .before .loop in doing-as (one-digit (c .before .before .before .before .before .args .run .now) (l .j) (omega arith)) (l .inv .2)
+    WordsLeft 10 (a .buf .now) (a .from) (numericWords (a .run .now)) (l .buf) (l .at) ((getD (a .run .now) (l .j) 0 - 48) ∷ 1021 ∷ [])
+one c = let l = c .before .before .loop in words-left-as (one-digit (c .before .before .before .before .before .args .run .now) (l .j) (omega arith)) (l .inv .2)
 
 two : (c : tie.Then2 Inv-loop μ-loop)
     → let l = c .before .before .before .loop in
     let a = c .before .before .before .before .before .before .args in
-    Doing 10 (a .buf .now) (a .from) (numericWords (a .run .now)) (l .buf) (l .at)
+    WordsLeft 10 (a .buf .now) (a .from) (numericWords (a .run .now)) (l .buf) (l .at)
     (((getD (a .run .now) (l .j) 0 - 48) * 10 + (getD (a .run .now) (l .j + 1) 0 - 48)) ∷ 1022 ∷ [])
 two c =
     let l = c .before .before .before .loop in
-    doing-as (two-digits (c .before .before .before .before .before .before .args .run .now) (l .j) (omega arith)) (l .inv .2)
+    words-left-as (two-digits (c .before .before .before .before .before .before .args .run .now) (l .j) (omega arith)) (l .inv .2)
 
 none : (c : tie.Else2 Inv-loop μ-loop)
     → let l = c .before .before .before .loop in
     let a = c .before .before .before .before .before .before .args in
-    Doing 10 (a .buf .now) (a .from) (numericWords (a .run .now)) (l .buf) (l .at) (1023 ∷ [])
+    WordsLeft 10 (a .buf .now) (a .from) (numericWords (a .run .now)) (l .buf) (l .at) (1023 ∷ [])
 none c =
     let l = c .before .before .before .loop in
-    doing-as (no-digit (c .before .before .before .before .before .before .args .run .now) (l .j) (omega arith)) (l .inv .2)
+    words-left-as (no-digit (c .before .before .before .before .before .before .args .run .now) (l .j) (omega arith)) (l .inv .2)
 
 put-requires : tie.Need-put-requires Inv-loop μ-loop
 put-requires c κs =

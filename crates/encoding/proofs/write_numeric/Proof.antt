@@ -1,6 +1,6 @@
 -- `write_numeric` meets its contract. Assumes nothing.
 use Rattle.general.proofs.Names.{arith, needs}
-use Rattle.encoding.proofs.Doing.{all-left, doing-rest}
+use Rattle.encoding.proofs.WordsLeft.{all-left, words-left-rest}
 use Rattle.encoding.proofs.write_numeric.Tie as tie
 
 write-groups-requires : tie.Need-write-groups-requires
@@ -11,7 +11,7 @@ returns : tie.Need-returns
 returns c =
     let g = c .before .before .write-groups in
     let a = c .before .before .before .before .before .before .before .before .before .before .before .args in
-    doing-rest (c .before .before .before .before .before .before .before .write-sixes .ensures) (rw (all-left (a .run .now) _) at (g .ensures))
+    words-left-rest (c .before .before .before .before .before .before .before .write-sixes .ensures) (rw (all-left (a .run .now) _) at (g .ensures))
 
 pub write-numeric-spec : {M : Type 1} → Rattle.encoding.proofs.write_numeric.Statement.statement M
 write-numeric-spec =

@@ -4,7 +4,7 @@ use Rattle.general.proofs.Names.{_≡_, sym, _∙_, _++_, _+_, _*_, _≤_, arit
 use Rattle.bits.specs.Bits.{lowBits, wordBits}
 use Rattle.script.specs.Writer.{numericWords, modeHas, modeBits}
 use Rattle.script.specs.Characters.{wordsOf, hasAll, widthOf, beginsIn}
-use Rattle.encoding.proofs.Doing.{written-both}
+use Rattle.encoding.proofs.WordsLeft.{written-both}
 use Rattle.encoding.proofs.Runs.{first-room, rest-room, word-length, numeric-bits, bytes-bits, four-bits, four-whole, char-bits}
 use Rattle.encoding.proofs.write_run.Tie as tie
 

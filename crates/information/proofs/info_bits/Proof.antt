@@ -14,7 +14,7 @@ returns-2 : tie.Need-returns-2
 unfolding infoOf infoBits
 returns-2 c =
     simp (sym (c .before .before .before .is-info .ensures .0) ∙ not-false _ (c .before .before .if1 .left))
-    (λ i. record { number = 0; word = (c .word-of .ensures ∙ ap wordOf (c .before .wide .ensures)) i })
+    (λ i. record { number = 0; word = (c .word-of .ensures ∙ ap wordOf (c .before .as-u64 .ensures)) i })
 
 pub info-bits-spec : {M : Type 1} → Rattle.information.proofs.info_bits.Statement.statement M
 info-bits-spec =

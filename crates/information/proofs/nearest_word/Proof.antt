@@ -23,7 +23,7 @@ loop-holds c =
         word-is = refl;
         at = c .distance .ensures .0
             ∙ ap (λ (n : ℕ). ones (bitXor n (start .args .first)) + ones (bitXor n (start .args .second)))
-            (first-word (start .args .version) (start .pre) (c .before .word-of .ensures) (c .before .before .wide .ensures));
+            (first-word (start .args .version) (start .pre) (c .before .word-of .ensures) (c .before .before .as-u64 .ensures));
         small = omega arith;
       },
     )
@@ -32,14 +32,14 @@ loop-again : tie.Need-loop-again Inv-loop μ-loop
 unfolding differences
 loop-again c =
     let start = c .before .before .before .before .before .before .before in
-    let wide = c .before .before .before .before .before .before .wide in
+    let as-u64 = c .before .before .before .before .before .before .as-u64 in
     let word-of = c .before .before .before .before .before .word-of in
     let loop = c .before .before .before .loop in
     let distance2 = c .before .distance2 in (
       omega arith,
       least-more (wordDistance (start .args .version) (start .args .first) (start .args .second)) (loop .k) (distance2 .result) (loop .inv .1)
           (distance2 .ensures .0 ∙ distance-at (start .args .version) (loop .k + 1) (start .args .first) (start .args .second) (start .pre) (omega arith)
-          (first-word (start .args .version) (start .pre) (word-of .ensures) (wide .ensures))) (omega arith) (c .nearer .ensures),
+          (first-word (start .args .version) (start .pre) (word-of .ensures) (as-u64 .ensures))) (omega arith) (c .nearer .ensures),
     )
 
 returns : tie.Need-returns Inv-loop μ-loop

@@ -28,7 +28,7 @@ loop-again : tie.Need-loop-again Inv-loop μ-loop
 loop-again c =
     let start = c .before .before .before .before .before .before in
     let loop = c .before .before .before .before .loop in
-    let bit = c .wide8 .ensures ∙ ap (λ (k : ℕ). getD (start .args .square .now) k 0) (c .before .before .info-position .ensures .0) in
+    let bit = c .byte-as-u64 .ensures ∙ ap (λ (k : ℕ). getD (start .args .square .now) k 0) (c .before .before .info-position .ensures .0) in
     (omega arith, number-more (moduleOf (start .args .side) (start .args .second) (start .args .square .now)) (loop .n) (loop .inv .1) bit)
 
 returns : tie.Need-returns Inv-loop μ-loop

@@ -1,6 +1,6 @@
 -- `write_parity` meets its contract: the data and zeros are divided, and the rest stands behind the data. Assumes nothing.
 use Rattle.field.proofs.Entries.{the-field}
-use Rattle.parity.proofs.Followed.{written}
+use Rattle.parity.proofs.ParityBytes.{written}
 use Rattle.general.proofs.Names.{arith, needs}
 use Rattle.parity.proofs.write_parity.Tie as tie
 

@@ -1,6 +1,6 @@
 -- `advance` meets its contract. Assumes nothing.
-use Rattle.placement.proofs.Runs.{moves-push, moves-skip}
-use Rattle.placement.specs.Walk.{Leads}
+use Rattle.placement.proofs.Runs.{reads-next-push, reads-next-skip}
+use Rattle.placement.specs.Walk.{ZeroBytesFirst}
 use lib.Pow.{shr-lt}
 use Rattle.general.proofs.Names.{_≡_, refl, subst, ℕ, _+_, _-_, _^_, _<_, arith, needs}
 use Rattle.placement.proofs.advance.Tie as tie
@@ -9,10 +9,10 @@ returns : tie.Need-returns
 returns c =
     let start = c .before .before .before .before .before .before in
     let least = c .before .before .before .least in
-    let none : c .before .before .before .before .lead .result ≡ 0 = omega (arith, least .ensures .2 (omega arith)) in (
+    let none : c .before .before .before .before .zero-bytes .result ≡ 0 = omega (arith, least .ensures .2 (omega arith)) in (
       record { few = start .pre .0 .few; small = start .pre .0 .small },
-      moves-skip (start .pre .1) (start .pre .2)
-          (subst (Leads (start .args .k)) none (c .before .before .before .before .lead .ensures)) (c .before .no-data .ensures) refl refl refl refl,
+      reads-next-skip (start .pre .1) (start .pre .2)
+          (subst (ZeroBytesFirst (start .args .k)) none (c .before .before .before .before .zero-bytes .ensures)) (c .before .no-data .ensures) refl refl refl refl,
     )
 
 push-requires : tie.Need-push-requires
@@ -28,7 +28,7 @@ returns-2 c =
     let least = c .before .before .before .before .before .before .least in
     let push = c .before .before .push in (
       push .ensures .0,
-      moves-push (start .pre .1) (start .pre .2) _ (c .before .before .before .before .before .before .before .lead .ensures)
+      reads-next-push (start .pre .1) (start .pre .2) _ (c .before .before .before .before .before .before .before .zero-bytes .ensures)
           (least .ensures .0) (omega arith) (omega arith) (c .before .before .before .gather .ensures) (push .ensures .1) (push .ensures .2),
     )
 

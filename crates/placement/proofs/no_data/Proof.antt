@@ -4,4 +4,4 @@ use borrow.Author.Needs.{needs}
 use Rattle.placement.proofs.no_data.Tie as tie
 
 pub no-data-spec : {M : Type 1} → Rattle.placement.proofs.no_data.Statement.statement M
-no-data-spec = tie.close (tie.spec (λ c κs. search needs) (λ c. no-data-are (c .lead .ensures)))
+no-data-spec = tie.close (tie.spec (λ c κs. search needs) (λ c. no-data-are (c .zero-bytes .ensures)))

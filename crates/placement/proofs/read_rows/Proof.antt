@@ -2,7 +2,7 @@
 use Rattle.placement.proofs.Rows.{row-inside, row-mask, part-length, aligned, rows-pending, walk-again, rows-begun, rows-turn, rows-done}
 use Rattle.masks.proofs.Rows.{columns-fewer, row-new}
 use Rattle.masks.specs.Columns.{Row}
-use Rattle.placement.specs.Walk.{bitsFrom, Pending, Walk}
+use Rattle.placement.specs.Walk.{bitsFrom, FewPending, Walk}
 use Rattle.codewords.specs.Codewords.{maskBit, dataBits}
 use Rattle.general.proofs.Names.{length, _≡_, refl, sym, ap, subst, _∙_, ℕ, _+_, _-_, _*_, _≤_, zero-mul, arith}
 use Rattle.placement.proofs.read_rows.Tie as tie
@@ -10,7 +10,7 @@ use Rattle.placement.proofs.read_rows.Tie as tie
 abbrev Inv-loop : tie.InvT-loop
 Inv-loop out₀ kinds square side mask table row₀ columns r₀ i₀ out row r i =
     let m = maskBit side mask in
-    Row mask row × Pending r × (i ≤ side) × Walk (length out₀) (dataBits m 0 kinds square) out (bitsFrom m kinds square (i * side)) r
+    Row mask row × FewPending r × (i ≤ side) × Walk (length out₀) (dataBits m 0 kinds square) out (bitsFrom m kinds square (i * side)) r
 
 abbrev μ-loop : tie.MeasureT-loop
 μ-loop out₀ kinds square side mask table row₀ columns r₀ i₀ out row r i = side - i

@@ -1,5 +1,5 @@
 -- `step` meets its contract. Assumes nothing.
-use Rattle.placement.proofs.Walk.{unmasked-is, bits-small, goes-push}
+use Rattle.placement.proofs.Walk.{unmasked-is, bits-small, reads-push}
 use Rattle.placement.proofs.Eights.{eight-zero}
 use Rattle.general.proofs.Names.{refl, sym, _∙_, arith, needs}
 use Rattle.placement.proofs.step.Tie as tie
@@ -15,7 +15,7 @@ returns c =
       push .ensures .0,
       omega arith,
       omega arith,
-      goes-push (start .pre .0 .masked) (start .pre .0 .size) 8 _ (start .pre .2) kinds bits (push .ensures .1)
+      reads-push (start .pre .0 .masked) (start .pre .0 .size) 8 _ (start .pre .2) kinds bits (push .ensures .1)
           (push .ensures .2),
     )
 

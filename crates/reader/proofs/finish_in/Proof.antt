@@ -1,11 +1,11 @@
 -- `finish_in` meets its contract. Assumes nothing.
-use Rattle.telling.proofs.Body.{finished}
+use Rattle.decoding.proofs.Readings.{finished}
 use borrow.Author.Needs.{needs}
 use Rattle.reader.proofs.finish_in.Tie as tie
 
 returns : tie.Need-returns
 returns c =
-    finished _ _ _ _ _ _ (c .before .before .before .before .before .before .before .before .before .before .tell .ensures .0) (c .before .before .write-receipt .ensures)
+    finished _ _ _ _ _ _ (c .before .before .before .before .before .before .before .before .before .before .decode .ensures .0) (c .before .before .write-receipt .ensures)
 
 pub finish-in-spec : {M : Type 1} → Rattle.reader.proofs.finish_in.Statement.statement M
 finish-in-spec =

@@ -1,10 +1,10 @@
 -- `greatest` meets its contract. Assumes nothing.
 use Rattle.general.proofs.Names.{_≤_, _-_, length, needs, arith}
-use Rattle.reader.proofs.Bytes.{Greatest-to, greatest-start, greatest-next, greatest-end}
+use Rattle.reader.proofs.Bytes.{GreatestByteUpTo, greatest-start, greatest-next, greatest-end}
 use Rattle.reader.proofs.greatest.Tie as tie
 
 abbrev Inv-loop : tie.InvT-loop
-Inv-loop square top₀ i₀ top i = Greatest-to square i top × (i ≤ length square)
+Inv-loop square top₀ i₀ top i = GreatestByteUpTo square i top × (i ≤ length square)
 
 abbrev μ-loop : tie.MeasureT-loop
 μ-loop square top₀ i₀ top i = length square - i

@@ -1,5 +1,5 @@
 -- `mark_in` meets its contract. Assumes nothing.
-use Rattle.reader.proofs.Opens.{nearest-mark, no-version, in-square}
+use Rattle.reader.proofs.FirstRefusals.{nearest-mark, no-version, in-square}
 use borrow.Author.Needs.{needs}
 use Rattle.reader.proofs.mark_in.Tie as tie
 

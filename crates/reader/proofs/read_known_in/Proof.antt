@@ -1,8 +1,8 @@
 -- `read_known_in` meets its contract. Assumes nothing.
 use Rattle.general.proofs.Names.{_≡_, sym, ap, _∙_, true, ℕ, _≤_, arith, needs, not-true, not-false}
 use Rattle.information.specs.Information.{isInfo}
-use Rattle.telling.specs.Inner.{Fitting, bodyOr1}
-use Rattle.reader.proofs.Opens.{known-receipt, known-range, known-early, known-fits, known-left, early-small}
+use Rattle.decoding.specs.Inner.{PassesFirstRefusals, bodyOr1}
+use Rattle.reader.proofs.FirstRefusals.{known-receipt, known-range, known-early, known-fits, known-left, early-small}
 use Rattle.reader.proofs.read_known_in.Tie as tie
 
 returns : tie.Need-returns
@@ -47,7 +47,7 @@ finish-in-requires c κs =
     let a = start .args in
     let fits = known-fits (a .square .now) (a .m .version) (a .m .level) (a .m .mask) (a .payload .now) (a .script .now) (a .receipt .now)
     (if1 .left) (ranged test .0) _ _ (early .before .side .ensures) (early .square-refusal .ensures) (c .before .before .before .before .if3 .left) in
-    let fitting : Fitting (a .m) (a .square .now) = record {
+    let passes-first : PassesFirstRefusals (a .m) (a .square .now) = record {
       low = fits .low;
       high = fits .high;
       level = fits .level;
@@ -56,7 +56,7 @@ finish-in-requires c κs =
       size = fits .size;
       bits = fits .bits;
     } in
-    (fitting, if1 .left, start .pre .0 .room _ (fits .high) (fits .size))
+    (passes-first, if1 .left, start .pre .0 .room _ (fits .high) (fits .size))
 
 returns-4 : tie.Need-returns-4
 returns-4 c =

@@ -1,6 +1,6 @@
 -- `read_square_in` meets its contract. Assumes nothing.
 use Rattle.general.proofs.Names.{_∙_, needs}
-use Rattle.reader.proofs.Opens.{read-receipt, read-side, side-small, early-small, read-early, read-legible, read-far, read-fits, read-left}
+use Rattle.reader.proofs.FirstRefusals.{read-receipt, read-side, side-small, early-small, read-early, read-square-fits, read-far, read-fits, read-left}
 use Rattle.reader.proofs.read_square_in.Tie as tie
 
 returns : tie.Need-returns
@@ -55,7 +55,7 @@ mark-in-requires c κs =
     let if1 = c .before .before .before .before .before .before .if1 in
     let from-side = c .before .before .before .before .before .from-side in
     let a = start .args in
-    read-legible (a .square .now) (a .side) (a .payload .now) (a .script .now) (a .receipt .now) (if1 .left) _ (from-side .ensures .0)
+    read-square-fits (a .square .now) (a .side) (a .payload .now) (a .script .now) (a .receipt .now) (if1 .left) _ (from-side .ensures .0)
     (from-side .ensures .1) _ (c .before .before .before .v .given .1) _ (c .before .square-refusal .ensures) (c .if2 .left)
 
 returns-4 : tie.Need-returns-4

@@ -19,7 +19,7 @@ add-v c = record { fits = omega (arith, front-small _ _ _ (c .before .before .be
 loop-again : tie.Need-loop-again Inv-loop μ-loop
 loop-again c =
     let loop = c .before .before .before .loop in
-    (omega arith, front-next _ _ _ _ (loop .inv .1) (omega arith) (omega arith) (c .wide .ensures .0) (c .wide .ensures .1))
+    (omega arith, front-next _ _ _ _ (loop .inv .1) (omega arith) (omega arith) (c .as-u64 .ensures .0) (c .as-u64 .ensures .1))
 
 pub front-spec : {M : Type 1} → Rattle.remainder.proofs.front.Statement.statement M
 front-spec =

@@ -30,4 +30,4 @@ pub remainder-short-spec : {M : Type 1} → Rattle.remainder.proofs.rem
 remainder-short-spec =
     tie.close (tie.spec Inv-loop μ-loop (λ c. search needs) (λ c κs. search needs) (λ c κs. (omega arith, omega arith, refl, refl))
     (λ c. (omega arith, left-none _ _)) (λ c. sym (c .before .before .before .before .fill-byte .ensures .size)) (λ c. search needs)
-    (λ c κs. search needs) (λ c κs. (omega arith, c .wide .ensures .1)) (λ c. search needs) (λ c. search needs) loop-again returns)
+    (λ c κs. search needs) (λ c κs. (omega arith, c .as-u64 .ensures .1)) (λ c. search needs) (λ c. search needs) loop-again returns)

@@ -1,11 +1,11 @@
 -- `char_bits` meets its contract. Assumes nothing.
 use Rattle.general.proofs.Names.{refl, _+_, _≤_, _-_, _*_, arith, needs, length}
 use Rattle.script.specs.Characters.{beginsIn}
-use Rattle.script.proofs.Runs.{Counted, counted-end, counted-lacks, counted-same, counted-other, small}
+use Rattle.script.proofs.Runs.{WordsCounted, counted-end, counted-lacks, counted-same, counted-other, small}
 use Rattle.script.proofs.char_bits.Tie as tie
 
 abbrev Inv-loop : tie.InvT-loop
-Inv-loop mode run by first₀ words₀ j₀ first words j = Counted mode run first₀ j first words
+Inv-loop mode run by first₀ words₀ j₀ first words j = WordsCounted mode run first₀ j first words
 
 abbrev μ-loop : tie.MeasureT-loop
 μ-loop mode run by first₀ words₀ j₀ first words j = length run - j

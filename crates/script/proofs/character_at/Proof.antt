@@ -10,7 +10,7 @@ returns c =
     let start = c .before .before .before .before .before in
     let a = start .args in
     text-character _ _ _ (a .j) (omega arith) _ (c .before .before .before .if1 .taken)
-    (c .text-character .ensures ∙ ap (textCharacter _) (c .before .wide .ensures .0))
+    (c .text-character .ensures ∙ ap (textCharacter _) (c .before .as-usize .ensures .0))
 
 returns-2 : tie.Need-returns-2
 returns-2 c =
@@ -22,7 +22,7 @@ returns-3 c =
     let d = c .before .before .before in
     let a = d .before .before .before .before .before .before .args in
     double-character _ _ (a .first) (a .j) (omega arith) _ (omega arith) (d .before .before .if3 .taken)
-    (c .double-character .ensures ∙ ap₂ doubleCharacter (d .wide2 .ensures .0) (c .before .wide3 .ensures .0))
+    (c .double-character .ensures ∙ ap₂ doubleCharacter (d .as-usize2 .ensures .0) (c .before .as-usize3 .ensures .0))
 
 returns-4 : tie.Need-returns-4
 returns-4 c =
@@ -30,7 +30,7 @@ returns-4 c =
     let a = d .before .before .before .before .before .before .args in
     region-character _ _ _ (a .j) (omega arith) _ (omega arith)
     (d .before .before .before .before .if1 .left) (d .before .before .if3 .left)
-    (c .region-character .ensures ∙ ap₂ (regionCharacter _) (d .wide4 .ensures .0) (c .before .wide5 .ensures .0))
+    (c .region-character .ensures ∙ ap₂ (regionCharacter _) (d .as-usize4 .ensures .0) (c .before .as-usize5 .ensures .0))
 
 pub character-at-spec : {M : Type 1} → Rattle.script.proofs.character_at.Statement.statement M
 character-at-spec =

@@ -2,25 +2,25 @@
 use Rattle.general.proofs.Names.{length-take-le, _≡_, _+_, _-_, _≤_, _<_, arith, needs, length, take, drop, length-drop}
 use Rattle.script.specs.Inner.{commandSize}
 use Rattle.script.specs.Characters.{costOf}
-use Rattle.script.proofs.Checks.{Settles, run-bounds, eci-bounds, settles-start, settles-wrong, settles-eci, settles-short, settles-takes}
-use Rattle.script.proofs.Checks.{settles-lacks, end-left, end-lacks, end-empty, end-bits, limited}
+use Rattle.script.proofs.Checks.{CheckFrom, run-bounds, eci-bounds, check-from-start, check-from-wrong, check-from-eci, check-from-short, check-from-takes}
+use Rattle.script.proofs.Checks.{check-from-lacks, end-left, end-lacks, end-empty, end-bits, limited}
 use Rattle.script.proofs.check_script.Tie as tie
 
 abbrev Inv-loop : tie.InvT-loop
 Inv-loop script payload i₀ j₀ total₀ lacks₀ i j total lacks =
-    (i ≤ length script) × (j ≤ length payload) × (total ≤ 31089) × Settles script payload i j lacks total
+    (i ≤ length script) × (j ≤ length payload) × (total ≤ 31089) × CheckFrom script payload i j lacks total
 
 abbrev μ-loop : tie.MeasureT-loop
 μ-loop script payload i₀ j₀ total₀ lacks₀ i j total lacks = length script - i
 
 loop-holds : tie.Need-loop-holds Inv-loop μ-loop
-loop-holds c = let a = c .before .before .args in (omega arith, omega arith, omega arith, settles-start (a .script .now) (a .payload .now))
+loop-holds c = let a = c .before .before .args in (omega arith, omega arith, omega arith, check-from-start (a .script .now) (a .payload .now))
 
 returns : tie.Need-returns Inv-loop μ-loop
 returns c =
     let k = c .before in
     let g = k .before .before .before in
-    settles-short (g .before .before .loop .inv .3) (omega arith) (g .command-at .ensures) (k .before .next .given .1) (c .if1 .taken)
+    check-from-short (g .before .before .loop .inv .3) (omega arith) (g .command-at .ensures) (k .before .next .given .1) (c .if1 .taken)
 
 -- what the command has
 bounds : (c : tie.After-known-told Inv-loop μ-loop)
@@ -73,7 +73,7 @@ loop-again c =
     let p = c .before .capped-sum in
     let w = c .command-size .ensures in
     let b = bounds k in
-    let d = settles-takes (g .before .before .loop .inv .3) (omega arith) (g .command-at .ensures) (k .before .next .given .1) (q .before .before .if1 .left)
+    let d = check-from-takes (g .before .before .loop .inv .3) (omega arith) (g .command-at .ensures) (k .before .next .given .1) (q .before .before .if1 .left)
     (cost q) (w .0) (w .1) in
     (omega arith, omega arith, p .ensures .1, d (c .before .before .before .cost .given .1) (p .ensures .0))
 
@@ -85,7 +85,7 @@ loop-again-2 c =
     let l = g .before .before .loop in
     let w = c .command-size2 .ensures in
     let b = bounds k in
-    let d = settles-lacks (l .inv .3) (omega arith) (g .command-at .ensures) (k .before .next .given .1) (q .before .before .if1 .left) (cost q) (w .0)
+    let d = check-from-lacks (l .inv .3) (omega arith) (g .command-at .ensures) (k .before .next .given .1) (q .before .before .if1 .left) (cost q) (w .0)
     (w .1) in
     (omega arith, omega arith, l .inv .2, d (c .before .enum-told .given .1))
 
@@ -105,13 +105,13 @@ loop-again-3 c =
     let g = k .before .before .before in
     let p = c .capped-sum2 in
     let r = eci-room k in
-    let d = settles-eci (g .before .before .loop .inv .3) (omega arith) (g .command-at .ensures) (k .before .next2 .given .1) in
+    let d = check-from-eci (g .before .before .loop .inv .3) (omega arith) (g .command-at .ensures) (k .before .next2 .given .1) in
     (omega arith, omega arith, p .ensures .1, d (c .before .eci-bits .ensures .0) (p .ensures .0))
 
 returns-2 : tie.Need-returns-2 Inv-loop μ-loop
 returns-2 c =
     let g = c .before .before in
-    settles-wrong (g .before .before .loop .inv .3) (omega arith) (g .command-at .ensures) (c .enum-told2 .given .1)
+    check-from-wrong (g .before .before .loop .inv .3) (omega arith) (g .command-at .ensures) (c .enum-told2 .given .1)
 
 returns-6 : tie.Need-returns-6 Inv-loop μ-loop
 returns-6 c =

@@ -2,7 +2,7 @@
 use Rattle.small_marks.proofs.Open.{open-layout, margin-few, open-turn}
 use Rattle.small_marks.proofs.Narrow.{low-small}
 use Rattle.placement.proofs.Rows.{part-length, row-inside, masked, rows-pending, walk-again, rows-begun, rows-done}
-use Rattle.placement.specs.Walk.{bitsFrom, Pending, Walk}
+use Rattle.placement.specs.Walk.{bitsFrom, FewPending, Walk}
 use Rattle.symbol.specs.Version.{sideOf}
 use Rattle.symbol.specs.Layout.{layoutOf}
 use Rattle.codewords.specs.Codewords.{maskBit, dataBits}
@@ -10,7 +10,7 @@ use Rattle.general.proofs.Names.{length, _≡_, refl, sym, ap, subst, ℕ, _+_,
 use Rattle.small_marks.proofs.read_open_rows.Tie as tie
 
 abbrev Inv-loop : tie.InvT-loop
-Inv-loop out₀ square version mask side rows r₀ i₀ out r i = Pending r × (i ≤ sideOf version) × Walk (length out₀)
+Inv-loop out₀ square version mask side rows r₀ i₀ out r i = FewPending r × (i ≤ sideOf version) × Walk (length out₀)
     (dataBits (maskBit (sideOf version) mask) 0 (layoutOf version) square) out
     (bitsFrom (maskBit (sideOf version) mask) (layoutOf version) square (i * sideOf version)) r
 

@@ -1,6 +1,6 @@
 -- `read_span` meets its contract. Assumes nothing.
 use Rattle.small_marks.proofs.Narrow.{lowest-is, spans-none, spans-on, spans-push}
-use Rattle.placement.specs.Walk.{Pending}
+use Rattle.placement.specs.Walk.{FewPending}
 use Rattle.small_marks.specs.Open.{Spans}
 use Rattle.bits.specs.Bits.{lowBits}
 use Rattle.general.proofs.Names.{length, _≡_, refl, sym, subst, _∙_, ℕ, _-_, _^_, _≤_, _<_, mod-lt, arith}
@@ -8,7 +8,7 @@ use lib.Pow.{pow-pos}
 use Rattle.small_marks.proofs.read_span.Tie as tie
 
 abbrev Inv-loop : tie.InvT-loop
-Inv-loop out₀ square mask to r₀ out r = Pending r × (r₀ .column ≤ r .column) × (r .column ≤ to) × Spans square (lowBits 27 mask) out₀ out r₀ r
+Inv-loop out₀ square mask to r₀ out r = FewPending r × (r₀ .column ≤ r .column) × (r .column ≤ to) × Spans square (lowBits 27 mask) out₀ out r₀ r
     × (length out ≡ length out₀)
 
 abbrev μ-loop : tie.MeasureT-loop

@@ -1,7 +1,7 @@
 -- `bits_refusal` meets its contract: 13 exactly where the bits are more than the room. Assumes nothing.
 use native.Mathlib.Omega.{arith}
-use Rattle.writer.proofs.Rooms.{room-is}
-use Rattle.writer.proofs.Turned.{too-many, no-more}
+use Rattle.writer.proofs.DataRoom.{room-is}
+use Rattle.writer.proofs.Refusals.{too-many, no-more}
 use Rattle.writer.proofs.bits_refusal.Tie as tie
 
 data-length-requires : tie.Need-data-length-requires

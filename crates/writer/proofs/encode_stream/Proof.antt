@@ -1,6 +1,6 @@
 -- `encode_stream` meets its contract: the encoded data in the blocks of the row. Assumes nothing.
 use Rattle.general.proofs.Names.{arith, needs}
-use Rattle.writer.proofs.Fronts.{stream-encoded}
+use Rattle.writer.proofs.StreamToMark.{stream-encoded}
 use Rattle.writer.proofs.encode_stream.Tie as tie
 
 write-blocks-requires : tie.Need-write-blocks-requires

@@ -1,11 +1,11 @@
 -- `place_refusal` meets its contract: 1 for too few data modules, 2 for another size, else 0. Assumes nothing.
 use Rattle.general.proofs.Names.{ap, ℕ, _*_, arith, needs}
 use Rattle.writer.proofs.Starts.{square-small}
-use Rattle.writer.proofs.Turned.{too-few, wrong-size, right-size}
+use Rattle.writer.proofs.Refusals.{too-few, wrong-size, right-size}
 use Rattle.writer.proofs.place_refusal.Tie as tie
 
 mul-data-modules : tie.Need-mul-data-modules
-mul-data-modules c = omega (arith, square-small _ _ (c .before .before .before .pre .ranged .high) (c .before .side .ensures))
+mul-data-modules c = omega (arith, square-small _ _ (c .before .before .before .pre .valid .high) (c .before .side .ensures))
 
 data-modules-requires : tie.Need-data-modules-requires
 data-modules-requires c κs = omega (arith, ap (λ (n : ℕ). n * n) (c .before .side .ensures), c .before .before .before .pre .long)
@@ -18,7 +18,7 @@ returns c =
     (c .before .data-modules .ensures) (c .if1 .taken)
 
 mul-if2 : tie.Need-mul-if2
-mul-if2 c = omega (arith, square-small _ _ (c .before .before .before .before .before .pre .ranged .high) (c .before .before .before .side .ensures))
+mul-if2 c = omega (arith, square-small _ _ (c .before .before .before .before .before .pre .valid .high) (c .before .before .before .side .ensures))
 
 returns-2 : tie.Need-returns-2
 returns-2 c =

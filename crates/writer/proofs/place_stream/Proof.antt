@@ -1,6 +1,6 @@
 -- `place_stream` meets its contract: the codewords of the stream in a buffer, then in the square. Assumes nothing.
 use Rattle.general.proofs.Names.{sym, ap, _∙_, ℕ, _*_, arith, needs}
-use Rattle.writer.proofs.Fronts.{stream-placed}
+use Rattle.writer.proofs.StreamToMark.{stream-placed}
 use Rattle.writer.proofs.place_stream.Tie as tie
 
 place-codewords-requires : tie.Need-place-codewords-requires
@@ -8,7 +8,7 @@ place-codewords-requires c κs =
     let o = c .before .before .before .before .before .before .before .before .before .before .before .before .pre in
     let e = c .before .before .before .before .before .before .side .ensures in
     let t = c .before .before .before .before .before .before .before .total-codewords .ensures in (
-      (omega (arith, o .1, o .0 .long), omega (arith, e), omega (arith, e, o .0 .ranged .high), o .1 ∙ sym (ap (λ (n : ℕ). n * n) e)),
+      (omega (arith, o .1, o .0 .long), omega (arith, e), omega (arith, e, o .0 .valid .high), o .1 ∙ sym (ap (λ (n : ℕ). n * n) e)),
       (omega (arith, t .0, o .3, c .before .before .before .before .from-stream .kept), omega (arith, t .1)),
     )
 

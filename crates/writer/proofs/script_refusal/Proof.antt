@@ -1,7 +1,7 @@
 -- `script_refusal` meets its contract: one case of the check's answer after the other. Assumes nothing.
 use Rattle.script.specs.declared.Check.the-variants.{Malformed, Lacking, Empty}
-use Rattle.writer.proofs.Rooms.{room-small}
-use Rattle.writer.proofs.Turned.{script-bits, script-other}
+use Rattle.writer.proofs.DataRoom.{room-small}
+use Rattle.writer.proofs.Refusals.{script-bits, script-other}
 use borrow.Author.Needs.{needs}
 use Rattle.writer.proofs.script_refusal.Tie as tie
 

@@ -1,7 +1,7 @@
 -- `write_in` meets its contract: 1 where there is no word, else what the others answer. Assumes nothing.
 use Rattle.marks.proofs.Starts.{no-word}
-use Rattle.writer.proofs.Starts.{ranged, ready}
-use Rattle.writer.proofs.Turned.{answers-one}
+use Rattle.writer.proofs.Starts.{valid, mark-with-layout}
+use Rattle.writer.proofs.Refusals.{answers-one}
 use borrow.Author.Needs.{needs}
 use Rattle.writer.proofs.write_in.Tie as tie
 
@@ -11,14 +11,14 @@ returns c =
     answers-one _ _ _ (start .args .script .now) (start .args .payload .now) (start .args .square .now)
     (no-word _ _ _ _ (c .before .before .info-bits .ensures) (c .enum-told .given .1))
 
-write-ready-requires : tie.Need-write-ready-requires
-write-ready-requires c κs =
+write-with-layout-requires : tie.Need-write-with-layout-requires
+write-with-layout-requires c κs =
     let start = c .before .before .before .before .before .before .before .before .before .before .before .before .before .before in
-    let told = c .before .before .before .before .before .before .before .before .before .info-bits .ensures in
-    let R = ranged _ _ _ _ told _ (c .before .before .before .before .before .before .before .word .given .1) in
-    ready _ (start .args .kinds .now) _ R (start .pre (R .high)) (c .before .before .before .before .layout .ensures .1)
+    let word-answer = c .before .before .before .before .before .before .before .before .before .info-bits .ensures in
+    let R = valid _ _ _ _ word-answer _ (c .before .before .before .before .before .before .before .word .given .1) in
+    mark-with-layout _ (start .args .kinds .now) _ R (start .pre (R .high)) (c .before .before .before .before .layout .ensures .1)
 
 pub write-in-spec : {M : Type 1} → Rattle.writer.proofs.write_in.Statement.statement M
 write-in-spec =
     tie.close (tie.spec (λ c κs. search needs) (λ c. search needs) (λ c. search needs) returns (λ c κs. search needs)
-    write-ready-requires (λ c. search needs) (λ c. search needs) (λ c. search needs))
+    write-with-layout-requires (λ c. search needs) (λ c. search needs) (λ c. search needs))

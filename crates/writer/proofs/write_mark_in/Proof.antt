@@ -1,8 +1,8 @@
 -- `write_mark_in` meets its contract: the stream, its square, and the word in it. Assumes nothing.
 use Rattle.general.proofs.Names.{sym, ap, _∙_, ℕ, _*_, arith, length-take-le, needs}
 use Rattle.marks.proofs.Starts.{row-total, row-own}
-use Rattle.writer.proofs.Rooms.{room-is, fits, fits-lent, lent-back, size}
-use Rattle.writer.proofs.Fronts.{stream-of-row, mark-made}
+use Rattle.writer.proofs.DataRoom.{room-is, fits, fits-lent, lent-back, size}
+use Rattle.writer.proofs.StreamToMark.{stream-of-row, mark-made}
 use Rattle.writer.proofs.write_mark_in.Tie as tie
 
 data-length-requires : tie.Need-data-length-requires
@@ -12,17 +12,17 @@ data-length-requires c κs =
 slice-relend-prefix-encode-stream : tie.Need-slice-relend-prefix-encode-stream
 slice-relend-prefix-encode-stream c =
     let o = c .before .before .before .before .before .before .before .before .before .before .pre in
-    omega (arith, room-is (o .0 .0 .ranged) _ (o .1 .0 .is) _ (c .before .data-length .ensures) .2, o .1 .2)
+    omega (arith, room-is (o .0 .0 .valid) _ (o .1 .0 .is) _ (c .before .data-length .ensures) .2, o .1 .2)
 
 slice-aggregate-encode-stream : tie.Need-slice-aggregate-encode-stream
 slice-aggregate-encode-stream c =
     let o = c .before .before .before .before .before .before .before .before .before .before .before .pre in
-    sym (length-take-le _ _ (omega (arith, room-is (o .0 .0 .ranged) _ (o .1 .0 .is) _ (c .before .before .data-length .ensures) .2, o .1 .2)))
+    sym (length-take-le _ _ (omega (arith, room-is (o .0 .0 .valid) _ (o .1 .0 .is) _ (c .before .before .data-length .ensures) .2, o .1 .2)))
 
 encode-stream-requires : tie.Need-encode-stream-requires
 encode-stream-requires c κs =
     let o = c .before .before .before .before .before .before .before .before .before .before .before in
-    let R = o .pre .0 .0 .ranged in
+    let R = o .pre .0 .0 .valid in
     let r = o .pre .1 .0 in
     let n = c .before .before .data-length .ensures in
     let e = room-is R _ (r .is) _ n in (
@@ -50,7 +50,7 @@ place-stream-requires c κs =
           (c .before .before .before .before .before .before .before .encode-stream .kept .1 .0)
           (omega (
             arith,
-            room-is (o .pre .0 .0 .ranged) _ (o .pre .1 .0 .is) _
+            room-is (o .pre .0 .0 .valid) _ (o .pre .1 .0 .is) _
                 (c .before .before .before .before .before .before .before .before .before .before .data-length .ensures) .2,
             o .pre .1 .2,
           )) (o .pre .1 .2),
@@ -62,7 +62,7 @@ write-info-requires c κs =
     .before .before .before .before .before .before .before .before in
     let e = c .before .before .before .before .before .before .before .before .before .before .before .before .before .before .before .before .before .side .ensures in (
       omega (arith, e),
-      omega (arith, e, o .pre .0 .0 .ranged .high),
+      omega (arith, e, o .pre .0 .0 .valid .high),
       omega (
         arith,
         c .before .before .before .before .before .place-stream .kept,
@@ -76,7 +76,7 @@ returns : tie.Need-returns
 returns c =
     let o = c .before .before .before .before .before .before .before .before .before .before .before .before .before .before .before .before .before
     .before .before .before .before .before .before .before .before .before .before .before in
-    let R = o .pre .0 .0 .ranged in
+    let R = o .pre .0 .0 .valid in
     let r = o .pre .1 .0 .is in
     mark-made _ (o .args .script .now) (o .args .payload .now) _ _ _ _ R
     (c .before .before .before .before .before .before .before .before .before .before .before .before .before .before .before .before .before

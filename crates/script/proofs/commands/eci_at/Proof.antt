@@ -14,8 +14,8 @@ returns-2 c =
     let e = d .before .before in
     let f = e .before .before in
     let a = f .before .before .before .before .args in
-    eci-large (a .script .now) (a .i) (f .wide .result) (e .wide2 .result) (d .wide3 .result) (f .before .before .if1 .left) (f .wide .ensures .0)
-    (e .wide2 .ensures .0) (d .wide3 .ensures .0) (c .if2 .taken)
+    eci-large (a .script .now) (a .i) (f .as-usize .result) (e .as-usize2 .result) (d .as-usize3 .result) (f .before .before .if1 .left) (f .as-usize .ensures .0)
+    (e .as-usize2 .ensures .0) (d .as-usize3 .ensures .0) (c .if2 .taken)
 
 returns-3 : tie.Need-returns-3
 returns-3 c =
@@ -23,8 +23,8 @@ returns-3 c =
     let e = d .before .before in
     let f = e .before .before in
     let a = f .before .before .before .before .args in
-    eci-read (a .script .now) (a .i) (f .wide .result) (e .wide2 .result) (d .wide3 .result) (f .before .before .if1 .left) (f .wide .ensures .0)
-    (e .wide2 .ensures .0) (d .wide3 .ensures .0) (c .if2 .left)
+    eci-read (a .script .now) (a .i) (f .as-usize .result) (e .as-usize2 .result) (d .as-usize3 .result) (f .before .before .if1 .left) (f .as-usize .ensures .0)
+    (e .as-usize2 .ensures .0) (d .as-usize3 .ensures .0) (c .if2 .left)
 
 pub eci-at-spec : {M : Type 1} → Rattle.script.proofs.commands.eci_at.Statement.statement M
 eci-at-spec =

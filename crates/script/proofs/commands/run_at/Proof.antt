@@ -9,8 +9,8 @@ returns-2 c =
     let e = d .before .before in
     let f = e .before .before in
     let a = f .before .before .before .before .args in
-    run-read _ (a .i) _ _ _ (f .before .before .if1 .left) (f .wide .ensures .0)
-    (e .wide2 .ensures .0) (d .wide3 .ensures .0) (sym (c .before .is-allowed .ensures) ∙ c .if2 .taken)
+    run-read _ (a .i) _ _ _ (f .before .before .if1 .left) (f .as-usize .ensures .0)
+    (e .as-usize2 .ensures .0) (d .as-usize3 .ensures .0) (sym (c .before .is-allowed .ensures) ∙ c .if2 .taken)
 
 returns-3 : tie.Need-returns-3
 returns-3 c =
@@ -18,8 +18,8 @@ returns-3 c =
     let e = d .before .before in
     let f = e .before .before in
     let a = f .before .before .before .before .args in
-    run-wrong _ (a .i) _ _ _ (f .before .before .if1 .left) (f .wide .ensures .0)
-    (e .wide2 .ensures .0) (d .wide3 .ensures .0) (sym (c .before .is-allowed .ensures) ∙ c .if2 .left)
+    run-wrong _ (a .i) _ _ _ (f .before .before .if1 .left) (f .as-usize .ensures .0)
+    (e .as-usize2 .ensures .0) (d .as-usize3 .ensures .0) (sym (c .before .is-allowed .ensures) ∙ c .if2 .left)
 
 pub run-at-spec : {M : Type 1} → Rattle.script.proofs.commands.run_at.Statement.statement M
 run-at-spec =

@@ -11,13 +11,13 @@ returns c =
     let f = e .before .before .before in
     rw (
       c .saturating-sub4 .ensures,
-      c .before .wide4 .ensures .0,
+      c .before .as-usize4 .ensures .0,
       d .saturating-sub3 .ensures,
-      d .before .wide3 .ensures .0,
+      d .before .as-usize3 .ensures .0,
       e .saturating-sub2 .ensures,
-      e .before .wide2 .ensures .0,
+      e .before .as-usize2 .ensures .0,
       f .saturating-sub .ensures,
-      f .before .wide .ensures .0,
+      f .before .as-usize .ensures .0,
     )
 
 pub four-code-spec : {M : Type 1} → Rattle.script.proofs.values.four_code.Statement.statement M

@@ -9,19 +9,19 @@ returns-3 : tie.Need-returns-3
 unfolding fourBytes
 returns-3 c =
     let w = c .before .before .before .before .four-code in
-    four-none _ (λ e. c .if3 .taken (rw (c .before .wide .ensures .0, w .ensures) (sym (ap (λ (z : List ℕ). getD z 0 0) e))))
+    four-none _ (λ e. c .if3 .taken (rw (c .before .as-usize .ensures .0, w .ensures) (sym (ap (λ (z : List ℕ). getD z 0 0) e))))
 
 returns-4 : tie.Need-returns-4
 unfolding fourBytes
 returns-4 c =
     let w = c .before .before .before .before .before .before .before .four-code in
-    four-none _ (λ e. c .if4 .taken (rw (c .before .wide2 .ensures .0, w .ensures) (sym (ap (λ (z : List ℕ). getD z 1 0) e))))
+    four-none _ (λ e. c .if4 .taken (rw (c .before .as-usize2 .ensures .0, w .ensures) (sym (ap (λ (z : List ℕ). getD z 1 0) e))))
 
 returns-5 : tie.Need-returns-5
 unfolding fourBytes
 returns-5 c =
     let i = c .before .before .before .before .before .before .before .before .before in
-    four-none _ (λ e. c .if5 .taken (rw (c .before .wide3 .ensures .0, i .before .four-code .ensures) (sym (ap (λ (z : List ℕ). getD z 2 0) e))))
+    four-none _ (λ e. c .if5 .taken (rw (c .before .as-usize3 .ensures .0, i .before .four-code .ensures) (sym (ap (λ (z : List ℕ). getD z 2 0) e))))
 
 returns-6 : tie.Need-returns-6
 returns-6 c =
@@ -30,11 +30,11 @@ returns-6 c =
     let d = f .before .before .before in
     let i = d .before .before .before in
     let w = i .before .four-code in
-    let one = d .before .wide in
-    let two = f .before .wide2 in
-    let three = g .before .wide3 in
+    let one = d .before .as-usize in
+    let two = f .before .as-usize2 in
+    let three = g .before .as-usize3 in
     four-last _ _ _ _ _ _ (w .ensures)
-    (i .if2 .left) (i .before .before .if1 .left) (one .ensures .0) (two .ensures .0) (three .ensures .0) (c .wide4 .ensures .0) (d .if3 .left)
+    (i .if2 .left) (i .before .before .if1 .left) (one .ensures .0) (two .ensures .0) (three .ensures .0) (c .as-usize4 .ensures .0) (d .if3 .left)
     (f .if4 .left) (g .if5 .left)
 
 pub in-four-spec : {M : Type 1} → Rattle.script.proofs.values.in_four.Statement.statement M

@@ -1,12 +1,12 @@
 -- `row_crossings` meets its contract.
 use Rattle.general.proofs.Names.{_+_, _-_, arith, needs}
 use Rattle.symbol.specs.Layout.{mOf, crossing}
-use Rattle.symbol.proofs.Lines.{roomy}
-use Rattle.symbol.proofs.Plots.{Turned, begun, again, ended}
+use Rattle.symbol.proofs.Lines.{fits-square}
+use Rattle.symbol.proofs.Plots.{TurnsDone, begun, again, ended}
 use Rattle.symbol.proofs.alignment.row_crossings.Tie as tie
 
 abbrev Inv-loop : tie.InvT-loop
-Inv-loop grid₀ p n lines j₀ grid j = Turned (p .side) (crossing (p .version) n) (mOf (p .version) + 2) grid₀ grid j
+Inv-loop grid₀ p n lines j₀ grid j = TurnsDone (p .side) (crossing (p .version) n) (mOf (p .version) + 2) grid₀ grid j
 
 abbrev μ-loop : tie.MeasureT-loop
 μ-loop grid₀ p n lines j₀ grid j = lines - j
@@ -14,7 +14,7 @@ abbrev μ-loop : tie.MeasureT-loop
 crossing-requires : tie.Need-crossing-requires Inv-loop μ-loop
 crossing-requires c κs =
     let start = c .before .before .before .before .before in
-    (roomy (start .pre .0) (c .before .before .loop .inv .kept), start .pre .1, omega arith)
+    (fits-square (start .pre .0) (c .before .before .loop .inv .kept), start .pre .1, omega arith)
 
 loop-again : tie.Need-loop-again Inv-loop μ-loop
 loop-again c =

@@ -7,11 +7,11 @@ use mir.Val.{toZ, ofZ}
 use mir.Facts.{toZ-ofZ}
 use Rattle.symbol.specs.Layout.{lineModule, lineDown}
 use Rattle.symbol.proofs.Coordinates.{small, near, mag-forth, forth-is, forth-fits, unsigned}
-use Rattle.symbol.proofs.Plots.{Turned, begun, again, ended, heard}
+use Rattle.symbol.proofs.Plots.{TurnsDone, begun, again, ended, heard}
 use Rattle.symbol.proofs.patterns.edge_down.Tie as tie
 
 abbrev Inv-loop : tie.InvT-loop
-Inv-loop grid₀ side x y height i₀ grid i = Turned side (λ n. lineModule (toZ w64 x) (toZ w64 y +ℤ pos (n + 1))) (height - 1) grid₀ grid i
+Inv-loop grid₀ side x y height i₀ grid i = TurnsDone side (λ n. lineModule (toZ w64 x) (toZ w64 y +ℤ pos (n + 1))) (height - 1) grid₀ grid i
 
 abbrev μ-loop : tie.MeasureT-loop
 μ-loop grid₀ side x y height i₀ grid i = height - 1 - i

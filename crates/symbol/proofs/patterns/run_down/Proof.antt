@@ -3,11 +3,11 @@ use Rattle.general.proofs.Names.{_+_, _-_, sym, ap, _∙_, [], _∷_, arith}
 use lib.IntN.{ℤ, pos, _+ℤ_}
 use Rattle.symbol.specs.Layout.{plot, lineModule, lineDown}
 use Rattle.symbol.proofs.Coordinates.{difference}
-use Rattle.symbol.proofs.Plots.{next, exactly, Turned, begun, again, ended}
+use Rattle.symbol.proofs.Plots.{next, exactly, TurnsDone, begun, again, ended}
 use Rattle.symbol.proofs.patterns.run_down.Tie as tie
 
 abbrev Inv-loop : tie.InvT-loop
-Inv-loop grid₀ side column row height i₀ grid i = Turned side (λ n. lineModule (pos column) (pos row +ℤ pos (n + 1))) (height - 1) grid₀ grid i
+Inv-loop grid₀ side column row height i₀ grid i = TurnsDone side (λ n. lineModule (pos column) (pos row +ℤ pos (n + 1))) (height - 1) grid₀ grid i
 
 abbrev μ-loop : tie.MeasureT-loop
 μ-loop grid₀ side column row height i₀ grid i = height - 1 - i

@@ -1,0 +1,216 @@
+-- The answer for the corrected blocks of a square is what its reading gives. Assumes nothing.
+use Rattle.general.proofs.Names.{_≡_, sym, ap, subst, _∙_, _≢_, cond, List, _++_, ℕ, _*_, _≤_, _<_, arith, ℕ-discrete, eq-eqb, ne-eqb, eqb, length, take}
+use Rattle.general.proofs.Names.{take-at, take-all}
+use Rattle.symbol.specs.Version.{sideOf}
+use Rattle.symbol.specs.Layout.{layoutOf, layoutWritten}
+use Rattle.symbol.proofs.Coordinates.{square-le}
+use Rattle.symbol.proofs.Theorems.{layout-length}
+use Rattle.block_table.specs.Blocks.{totalOf, rowOf, Shape, shapes, shapesOf, totalSize, cut, joined, dataParts}
+use Rattle.symbol.specs.Layout.{dataModules}
+use Rattle.block_table.specs.Inner.{Sound}
+use Rattle.block_table.proofs.Theorems.{shapes-sound}
+use Rattle.codewords.specs.Codewords.{maskBit, dataBits, toStream}
+use Rattle.placement.specs.Walk.{BitsAndKinds}
+use Rattle.small_marks.proofs.Open.{open-enough}
+use Rattle.codewords.proofs.Placement.{data-front, length-data}
+use Rattle.blocks.specs.declared.Blocks.{Blocks}
+use Rattle.blocks.specs.declared.Blocks.the-variants.{Corrected, Refused}
+use Rattle.blocks.specs.Blockwise.{corrected, firstRefused, countOf, blocksOf, numberOf, correctionsOf}
+use Rattle.blocks.proofs.Corrects.{count-le}
+use Rattle.blocks.proofs.Theorems.{data-left}
+use Rattle.segments.specs.FromData.{DataOutcome, fromData}
+use Rattle.marks.specs.Receipt.{receiptOf, refusalReceipt}
+use Rattle.marks.specs.Read.{Reading, readingOf, refused, streamFrom, outcomeReading, bodyOf, blocksIn}
+use Rattle.marks.proofs.Modules.{stream-bits, stream-length}
+use Rattle.marks.proofs.Starts.{layout-front, has-blocks, no-blocks, row-total, row-small}
+use Rattle.receipts.specs.declared.Mark.{Mark}
+use Rattle.receipts.specs.declared.SquareAnswer.{SquareAnswer}
+use Rattle.receipts.specs.Inner.{receiptIn, FitsReceipt, Refuses, FromOutcome}
+use Rattle.receipts.proofs.Receipts.{in-accepted, in-refused}
+use Rattle.decoding.specs.Inner.{PassesFirstRefusals, InTable, HasLayout, HasStream, AnswersStream, readingIn, bodyOr1}
+use Rattle.bits.specs.Bits.{firstWords}
+use Rattle.blocks.specs.Inner.{correctedData}
+
+-- ---- the answer, as a reading
+
+pub refuses-small : (n : ℕ) (t : SquareAnswer) → n < 256 → Refuses n t → FitsReceipt t
+refuses-small n t h R = record {
+  number = omega (arith, R .number);
+  count = omega (arith, R .count);
+  payload = omega (arith, R .payload);
+  script = omega (arith, R .script);
+}
+
+pub refuses-reading : (m : Mark) (n : ℕ) (t : SquareAnswer) (p s : List ℕ) → n ≢ 0 → Refuses n t → readingIn m t p s ≡ refused n p s
+unfolding readingIn refused
+refuses-reading m n t p s d R =
+    ap (λ (r : List ℕ). readingOf (t .number) r p s) (sym (in-refused m t (λ e. d (sym (R .number) ∙ e))))
+    ∙ ap (λ (x : ℕ). readingOf x (refusalReceipt x) p s) (R .number)
+
+receipt-cases : (m : Mark) (t : SquareAnswer) (n : ℕ) → (t .number ≡ 0 → t .count ≡ n)
+    → receiptIn m t ≡ cond (eqb (t .number) 0) (receiptOf (m .version) (m .level) (m .mask) n (m .distance) (t .payload) (t .script)) (refusalReceipt (t .number))
+receipt-cases m t n h = elim (ℕ-discrete (t .number) 0) [
+  | yes e ↦ sym (in-accepted m t e) ∙ ap (λ (x : ℕ). receiptOf (m .version) (m .level) (m .mask) x (m .distance) (t .payload) (t .script)) (h e)
+      ∙ sym (simp (eq-eqb (t .number) 0 e))
+  | no d ↦ sym (in-refused m t d) ∙ sym (simp (ne-eqb (t .number) 0 d))
+]
+
+pub outcome-reading : (m : Mark) (n : ℕ) (o : DataOutcome) (t : SquareAnswer) (p s : List ℕ) → FromOutcome n o t p s
+    → readingIn m t p s ≡ outcomeReading (m .version) (m .level) (m .mask) (m .distance) n o
+unfolding readingIn outcomeReading
+outcome-reading m n o t p s W =
+    ap (λ (r : List ℕ). readingOf (t .number) r p s) (receipt-cases m t n (W .count))
+    ∙ ap (outcomeReading (m .version) (m .level) (m .mask) (m .distance) n) (sym (W .outcome))
+
+-- the receipt written
+pub finished : (m : Mark) (t : SquareAnswer) (r p s : List ℕ) (b : Reading) → readingIn m t p s ≡ b → r ≡ receiptIn m t → readingOf (t .number) r p s ≡ b
+unfolding readingIn
+finished m t r p s b e f = ap (λ (x : List ℕ). readingOf (t .number) x p s) f ∙ e
+
+-- ---- the layout
+
+pub has-layout : (m : Mark) (sq out ks : List ℕ) → PassesFirstRefusals m sq → sideOf (m .version) * sideOf (m .version) ≤ length out
+    → ks ≡ layoutWritten (m .version) out → HasLayout (m .version) ks
+has-layout m sq out ks F h e =
+    let f = layout-front (m .version) out ks (F .low) (F .high) h e in
+    record { room = f .0; front = f .1 }
+
+-- ---- the stream of a square
+
+module _ (m : Mark) (sq ks : List ℕ) (F : PassesFirstRefusals m sq) (D : HasLayout (m .version) ks) where
+  abbrev v : ℕ
+  v = m .version
+
+  front-is : take (length sq) ks ≡ layoutOf v
+  front-is = ap (λ (n : ℕ). take n ks) (F .size) ∙ D .front
+
+  bits-are : (f : ℕ → ℕ) → dataBits f 0 ks sq ≡ dataBits f 0 (layoutOf v) sq
+  bits-are f = data-front f 0 ks sq ∙ ap (λ (l : List ℕ). dataBits f 0 l sq) front-is
+
+  pub bits-and-kinds : BitsAndKinds ks sq
+  bits-and-kinds = record { kinds = omega (arith, D .room, F .size); few = omega (arith, F .size, square-le (sideOf v) (omega (arith, F .high))); bits = F .bits }
+
+  pub enough-bits : (f : ℕ → ℕ) (total : ℕ) → total ≡ totalOf v → 8 * totalOf v ≤ dataModules (layoutOf v) → 8 * total ≤ length (dataBits f 0 ks sq)
+  enough-bits f total e h = omega (arith, length-data f 0 ks sq, ap dataModules front-is)
+
+  pub stream-is : (side total : ℕ) (st rest : List ℕ) → side ≡ sideOf v → total ≡ totalOf v
+      → st ≡ toStream (firstWords 8 total (dataBits (maskBit side (m .mask)) 0 ks sq)) ++ rest → HasStream m sq st
+  stream-is side total st rest e f g = record {
+    rest = rest;
+    is = g
+        ∙ (λ i. toStream (firstWords 8 (f i) (dataBits (maskBit (e i) (m .mask)) 0 ks sq)) ++ rest)
+        ∙ ap (λ (bs : List ℕ). toStream (firstWords 8 (totalOf v) bs) ++ rest) (bits-are (maskBit (sideOf v) (m .mask)))
+        ∙ ap (λ (l : List ℕ). l ++ rest) (sym (stream-bits v sq (F .bits) (m .mask)));
+  }
+
+  -- ---- whether there are enough data modules
+
+  module _ (n total : ℕ) (en : n ≡ dataModules (take (length sq) ks)) (et : total ≡ totalOf v) (p s : List ℕ) where
+    counted : n ≡ dataModules (layoutOf v)
+    counted = en ∙ ap dataModules front-is
+
+    pub too-few : n < 8 * total → (t : SquareAnswer) → Refuses 1 t → (readingIn m t p s ≡ bodyOr1 m sq p s) × FitsReceipt t
+    unfolding bodyOr1
+    too-few h t R =
+        (refuses-reading m 1 t p s (λ z. omega arith) R ∙ sym (simp (no-blocks v (m .level) (omega (arith, counted)))), refuses-small 1 t (omega arith) R)
+
+    pub enough : 8 * total ≤ n → 8 * totalOf v ≤ dataModules (layoutOf v)
+    enough h = omega (arith, counted)
+
+    pub with-blocks : 8 * total ≤ n → (r : Reading) → r ≡ bodyOf v (m .level) (m .mask) (m .distance) sq p s → r ≡ bodyOr1 m sq p s
+    unfolding bodyOr1
+    with-blocks h r e = e ∙ sym (simp (has-blocks v (m .level) (F .low) (F .high) (F .level) (enough h)))
+
+-- ---- a version with no alignment patterns: its layout need not be drawn
+
+pub open-layout : (v : ℕ) → HasLayout v (layoutOf v)
+open-layout v = record { room = omega (arith, layout-length v); front = take-all (sideOf v * sideOf v) (layoutOf v) (omega (arith, layout-length v)) }
+
+pub open-blocks : (m : Mark) (sq p s : List ℕ) (r : Reading) → PassesFirstRefusals m sq → m .version < 4
+    → r ≡ bodyOf (m .version) (m .level) (m .mask) (m .distance) sq p s → r ≡ bodyOr1 m sq p s
+unfolding bodyOr1
+open-blocks m sq p s r F h e = e ∙ sym (simp (has-blocks (m .version) (m .level) (F .low) (F .high) (F .level) (open-enough (m .version) (F .low) (omega arith))))
+
+-- ---- the blocks of a stream, corrected
+
+pub in-table : (m : Mark) (sq : List ℕ) → PassesFirstRefusals m sq → InTable m
+in-table m sq F = record { low = F .low; high = F .high; level = F .level }
+
+module _ (m : Mark) (R : InTable m) (row : List ℕ) (e : row ≡ rowOf (m .version) (m .level)) where
+  abbrev bs : List Shape
+  bs = shapes row
+
+  length-is : totalSize bs ≡ totalOf (m .version)
+  length-is = row-total (m .version) (m .level) (R .low) (R .high) (R .level) row e
+
+  sound : Sound bs
+  unfolding shapesOf
+  sound = subst (λ (r : List ℕ). Sound (shapes r)) (sym e) (shapes-sound (m .version) (m .level) (R .low) (R .high) (R .level))
+
+  pub count-small : (r : Blocks) (n : ℕ) (st : List ℕ) → r ≡ Corrected n → (numberOf r ≡ 0 → correctionsOf r ≡ countOf (corrected bs st)) → n < 65536
+  unfolding numberOf correctionsOf
+  count-small r n st a c =
+      let k : n ≡ countOf (corrected bs st) = sym (ap correctionsOf a) ∙ c (ap numberOf a) in
+      omega (arith, count-le bs st, row-small (m .version) (m .level) (R .low) (R .high) (R .level) row e)
+
+  module _ (st p s sq : List ℕ) (S : HasStream m sq st) where
+    abbrev stream : List ℕ
+    stream = streamFrom (m .version) (m .mask) sq
+
+    size : length stream ≡ totalSize bs
+    size = stream-length (m .version) (m .mask) sq ∙ sym length-is
+
+    taken : take (totalSize bs) st ≡ stream
+    taken = ap (take (totalSize bs)) (S .is) ∙ take-at stream (S .rest) (totalSize bs) size
+
+    -- the reading by a row's blocks
+    abbrev reading : List Shape → Reading
+    reading cs =
+        cond (eqb (firstRefused (corrected cs stream)) 0)
+        (outcomeReading (m .version) (m .level) (m .mask) (m .distance) (countOf (corrected cs stream)) (fromData (correctedData cs stream) p s))
+        (refused (firstRefused (corrected cs stream)) p s)
+
+    reading-is : reading bs ≡ bodyOf (m .version) (m .level) (m .mask) (m .distance) sq p s
+    unfolding bodyOf blocksIn shapesOf
+    reading-is = ap (λ (r : List ℕ). reading (shapes r)) e
+
+    refused-is : (r : Blocks) (t : SquareAnswer) → r ≡ Refused → numberOf r ≡ firstRefused (corrected bs (take (totalSize bs) st)) → Refuses 6 t
+        → readingIn m t p s ≡ bodyOf (m .version) (m .level) (m .mask) (m .distance) sq p s
+    unfolding numberOf
+    refused-is r t a b R6 =
+        let six : firstRefused (corrected bs stream) ≡ 6 = ap (λ (x : List ℕ). firstRefused (corrected bs x)) (sym taken) ∙ sym b ∙ ap numberOf a in
+        refuses-reading m 6 t p s (λ z. omega arith) R6
+        ∙ sym (ap (λ (x : ℕ). cond (eqb x 0) (outcomeReading (m .version) (m .level) (m .mask) (m .distance) (countOf (corrected bs stream))
+        (fromData (correctedData bs stream) p s)) (refused x p s)) six)
+        ∙ reading-is
+
+    corrected-is : (r : Blocks) (n : ℕ) (st′ rest′ : List ℕ) (t : SquareAnswer) (p′ s′ : List ℕ) → r ≡ Corrected n
+        → numberOf r ≡ firstRefused (corrected bs (take (totalSize bs) st))
+        → (numberOf r ≡ 0 → (correctionsOf r ≡ countOf (corrected bs (take (totalSize bs) st)))
+        × (st′ ≡ joined (blocksOf (corrected bs (take (totalSize bs) st))) ++ rest′))
+        → FromOutcome n (fromData (dataParts bs (cut bs st′)) p s) t p′ s′
+        → readingIn m t p′ s′ ≡ bodyOf (m .version) (m .level) (m .mask) (m .distance) sq p s
+    unfolding numberOf correctionsOf
+    corrected-is r n st′ rest′ t p′ s′ a b c W =
+        let zero : firstRefused (corrected bs stream) ≡ 0 = ap (λ (x : List ℕ). firstRefused (corrected bs x)) (sym taken) ∙ sym b ∙ ap numberOf a in
+        let k = c (ap numberOf a) in
+        let count : n ≡ countOf (corrected bs stream) = sym (ap correctionsOf a) ∙ k .0 ∙ ap (λ (x : List ℕ). countOf (corrected bs x)) taken in
+        let left : st′ ≡ joined (blocksOf (corrected bs stream)) ++ rest′ = k .1 ∙ ap (λ (x : List ℕ). joined (blocksOf (corrected bs x)) ++ rest′) taken in
+        let parts : dataParts bs (cut bs st′) ≡ correctedData bs stream = ap (λ (x : List ℕ). dataParts bs (cut bs x)) left ∙ data-left bs sound stream size rest′ in
+        outcome-reading m n _ t p′ s′ W
+        ∙ (λ i. outcomeReading (m .version) (m .level) (m .mask) (m .distance) (count i) (fromData (parts i) p s))
+        ∙ sym (ap (λ (x : ℕ). cond (eqb x 0) (outcomeReading (m .version) (m .level) (m .mask) (m .distance) (countOf (corrected bs stream))
+        (fromData (correctedData bs stream) p s)) (refused x p s)) zero)
+        ∙ reading-is
+
+  pub blocks-refused : (st p s : List ℕ) (r : Blocks) (t : SquareAnswer) → r ≡ Refused → numberOf r ≡ firstRefused (corrected bs (take (totalSize bs) st))
+      → Refuses 6 t → AnswersStream m st p s t p s
+  blocks-refused st p s r t a b R6 = record { reading = λ sq S. refused-is st p s sq S r t a b R6; small = refuses-small 6 t (omega arith) R6 }
+
+  pub blocks-corrected : (st p s : List ℕ) (r : Blocks) (n : ℕ) (st′ rest′ : List ℕ) (t : SquareAnswer) (p′ s′ : List ℕ) → r ≡ Corrected n
+      → numberOf r ≡ firstRefused (corrected bs (take (totalSize bs) st))
+      → (numberOf r ≡ 0 → (correctionsOf r ≡ countOf (corrected bs (take (totalSize bs) st)))
+      × (st′ ≡ joined (blocksOf (corrected bs (take (totalSize bs) st))) ++ rest′))
+      → FromOutcome n (fromData (dataParts bs (cut bs st′)) p s) t p′ s′
+      → AnswersStream m st p s t p′ s′
+  blocks-corrected st p s r n st′ rest′ t p′ s′ a b c W = record { reading = λ sq S. corrected-is st p s sq S r n st′ rest′ t p′ s′ a b c W; small = W .small }

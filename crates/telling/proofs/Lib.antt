@@ -1,2 +1,0 @@
--- Laws of what is told of a square.
-pub mod Body
