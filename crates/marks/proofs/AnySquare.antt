@@ -1,5 +1,5 @@
 -- What a reading answers for any square that passes the first refusals. Assumes nothing.
-use Rattle.general.proofs.Names.{_≡_, refl, sym, ap, ap₂, _∙_, _⊎_, inl, inr, _≢_, Bool, true, false, cond, Option, none, some, List, [], _∷_, ℕ, suc, _≤_}
+use Rattle.general.proofs.Names.{_≡_, refl, sym, ap, ap₂, _∙_, inl, inr, _≢_, Bool, true, false, cond, Option, none, some, List, [], _∷_, ℕ, suc, _≤_}
 use Rattle.general.proofs.Names.{_<_, arith, ℕ-discrete, eq-eqb, eqb, ltb, length}
 use Rattle.symbol.specs.Version.{isSide, sideVersion}
 use Rattle.information.specs.Information.{isInfo}
@@ -28,16 +28,13 @@ use Rattle.marks.proofs.Marks.{Ranges, ranges}
 use Rattle.marks.proofs.Starts.{in-body, no-receipt, in-refusal, side-range}
 use Rattle.blocks.specs.Inner.{correctedData}
 use Rattle.marks.specs.Inner.{levelIn, maskIn, distanceIn}
+use Rattle.bits.proofs.Tests.{never}
 
 -- ---- Segments from data never answers 6
 
 not-six : (b : Bool) (x y : Given) → x .number ≢ 6 → y .number ≢ 6 → cond b x y .number ≢ 6
 not-six true x y p q = p
 not-six false x y p q = q
-
-other : (n : ℕ) → n ≡ 6 → n < 6 ⊎ 6 < n → ⊥
-other n e (inl h) = omega arith
-other n e (inr h) = omega arith
 
 in-buffers-not-six : (gs : List Segment) (p s : List ℕ) → inBuffers gs p s .number ≢ 6
 in-buffers-not-six gs p s =
@@ -52,13 +49,8 @@ data-not-six ds p s =
 
 -- ---- a search does not find nothing and something
 
-somes : Option (List ℕ) → ℕ
-somes none = 0
-somes (some w) = 1
-
 not-both : (u : List ℕ) {o : Option (List ℕ)} → o ≡ none → o ≡ some u → ⊥
-unfolding somes
-not-both u e f = let z : _≡_ {A = ℕ} 0 1 = sym (ap somes e) ∙ ap somes f in omega arith
+not-both u e f = never cc
 
 shaped-number : (bs : List Shape) (ws : List (List ℕ)) → Shaped bs ws → length ws ≡ length bs
 shaped-number [] [] h = refl

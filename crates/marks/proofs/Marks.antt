@@ -1,5 +1,5 @@
 -- A mark made by the writer: what its making says, and what is read of its information. Assumes nothing.
-use Rattle.general.proofs.Names.{_≡_, refl, sym, ap, ap₂, _∙_, subst, Bool, true, false, cond, _&&_, Option, none, some, List, [], _∷_, ℕ, _+_, _*_, _/_}
+use Rattle.general.proofs.Names.{_≡_, refl, sym, ap, ap₂, _∙_, Bool, true, false, _&&_, Option, none, some, List, [], _∷_, ℕ, _+_, _*_, _/_, leb-true, eqb-true}
 use Rattle.general.proofs.Names.{_%_, _^_, _-_, _<_, _≤_, arith, ℕ-discrete, eq-eqb, ne-eqb, le-leb, ltb-true, eqb, ltb, leb, length}
 use Rattle.symbol.specs.Version.{sideOf, isVersion, isSide, sideVersion}
 use Rattle.symbol.specs.Layout.{layoutOf}
@@ -17,7 +17,7 @@ use Rattle.script.specs.Check.{commandsOf}
 use Rattle.script.specs.Inner.{Fits, allHave, scriptData}
 use Rattle.marks.specs.Read.{firstRefusal, unless, nearestIn}
 use Rattle.marks.specs.Write.{Writing, roomOf, scriptRefusals, writeRefusal, markOf, writeOf}
-use Rattle.marks.proofs.Refusals.{true-unless, first-none, first-one, both-true, true-both, leb-fact, eqb-fact}
+use Rattle.marks.proofs.Refusals.{true-unless, first-none, first-one, both-true}
 use Rattle.marks.proofs.Modules.{nearest-bits}
 use Rattle.codewords.proofs.Masks.{mask-bit-lt}
 use Rattle.codewords.proofs.Small.{Below, square-below}
@@ -38,28 +38,24 @@ ranges v l k e =
     let a = both-true (leb 1 v && leb v 84) (leb l 3 && leb k 3) e in
     let b = both-true (leb 1 v) (leb v 84) (a .0) in
     let c = both-true (leb l 3) (leb k 3) (a .1) in
-    record { low = leb-fact 1 v (b .0); high = leb-fact v 84 (b .1); level = leb-fact l 3 (c .0); mask = leb-fact k 3 (c .1) }
+    record { low = leb-true 1 v (b .0); high = leb-true v 84 (b .1); level = leb-true l 3 (c .0); mask = leb-true k 3 (c .1) }
 
 pub version-is : (v : ℕ) → 1 ≤ v → v ≤ 84 → isVersion v ≡ true
 unfolding isVersion
-version-is v a b = true-both (leb 1 v) (leb v 84) (le-leb 1 v a) (le-leb v 84 b)
+version-is v a b = rw (le-leb 1 v a, le-leb v 84 b)
 
 pub info-is : (v l k : ℕ) → Ranges v l k → isInfo v l k ≡ true
 unfolding isInfo
-info-is v l k R =
-    true-both (isVersion v) (leb l 3 && leb k 3) (version-is v (R .low) (R .high))
-    (true-both (leb l 3) (leb k 3) (le-leb l 3 (R .level)) (le-leb k 3 (R .mask)))
+info-is v l k R = rw (version-is v (R .low) (R .high), le-leb l 3 (R .level), le-leb k 3 (R .mask))
 
 -- a version's side is one, and says the version
 pub side-is : (v : ℕ) → 1 ≤ v → v ≤ 84 → isSide (sideOf v) ≡ true
 unfolding isSide
-side-is v a b =
-    true-both (leb 23 (sideOf v)) (leb (sideOf v) 189 && eqb (sideOf v % 2) 1) (le-leb 23 (sideOf v) (omega arith))
-    (true-both (leb (sideOf v) 189) (eqb (sideOf v % 2) 1) (le-leb (sideOf v) 189 (omega arith)) (eq-eqb (sideOf v % 2) 1 (omega arith)))
+side-is v a b = rw (le-leb 23 (sideOf v) (omega arith), le-leb (sideOf v) 189 (omega arith), eq-eqb (sideOf v % 2) 1 (omega arith))
 
 pub side-version : (v : ℕ) → 1 ≤ v → v ≤ 84 → sideVersion (sideOf v) ≡ v
 unfolding sideVersion
-side-version v a b = ap (λ (t : Bool). cond t ((sideOf v - 21) / 2) 0) (side-is v a b) ∙ (let e : (sideOf v - 21) / 2 ≡ v = omega arith in e)
+side-version v a b = rw (side-is v a b) (omega arith)
 
 -- ---- what an accepted writing says
 
@@ -83,7 +79,7 @@ script-fits s p n (some gs) q e =
       are = q;
       have = true-unless (allHave gs) 11 (a .0);
       filled = ltb-true 0 (length p) (true-unless (ltb 0 (length p)) 7 (b .0));
-      room = leb-fact (length (encodings gs)) (8 * n) (true-unless room 12 (c .0));
+      room = leb-true (length (encodings gs)) (8 * n) (true-unless room 12 (c .0));
     }
 
 module _ (v l k : ℕ) (s p sq : List ℕ) where
@@ -102,7 +98,7 @@ module _ (v l k : ℕ) (s p sq : List ℕ) where
       record {
         ranged = ranges v l k (true-unless (isInfo v l k) 0 (a .0));
         blocked = true-unless (hasBlocks v l) 0 (b .0);
-        size = eqb-fact (length sq) (sideOf v * sideOf v) (true-unless sized 1 (c .0));
+        size = eqb-true (length sq) (sideOf v * sideOf v) (true-unless sized 1 (c .0));
         fits = script-fits s p (roomOf v l) (commandsOf s p) refl (c .1);
       }
 
@@ -145,7 +141,7 @@ module _ (v l k : ℕ) (s p : List ℕ) (R : Ranges v l k) where
       ap₂ (infoBits v) a b
 
   word-small : infoBits v l k < 2 ^ 34
-  word-small = subst (λ (w : ℕ). w < 2 ^ 34) (sym word-is) (word-lt v (4 * l + k) (R .high) (omega (arith, R .level, R .mask)))
+  word-small = rw word-is (word-lt v (4 * l + k) (R .high) (omega (arith, R .level, R .mask)))
 
   -- with at most 8 information modules flipped, level and mask are those written
   module _ (h : List ℕ) (size : length h ≡ sideOf v * sideOf v) (b : Below 2 h) (few : infoFlips (layoutOf v) mark h ≤ 8) where
@@ -164,14 +160,11 @@ module _ (v l k : ℕ) (s p : List ℕ) (R : Ranges v l k) where
     near =
         flips-nearest v (R .low) mark h mark-length size (4 * l + k) mark-below b first-copy second-copy (R .high) (omega (arith, R .level, R .mask)) few
 
-    versioned : isVersion v ≡ true
-    versioned = version-is v (R .low) (R .high)
-
     found : nearestIn v h ≡ record { number = 0; level = l; mask = k; distance = wordDistance v (copy false) (copy true) (4 * l + k) }
     unfolding nearestOf
     found =
         nearest-bits v h b
-        ∙ simp (versioned, near)
+        ∙ simp (version-is v (R .low) (R .high), near)
         (let a : (4 * l + k) / 4 ≡ l = omega (arith, R .mask) in
         let b : (4 * l + k) % 4 ≡ k = omega (arith, R .mask) in
         λ i. record { number = 0; level = a i; mask = b i; distance = wordDistance v (copy false) (copy true) (4 * l + k) })

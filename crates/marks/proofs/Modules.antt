@@ -1,5 +1,5 @@
 -- Modules are bits, the stream of a square has bytes and the version's length, and codewords in front of a buffer. Assumes nothing.
-use Rattle.general.proofs.Names.{_≡_, refl, ap, ap₂, _∙_, true, false, List, [], _∷_, _++_, map, ℕ, zero, suc, _<_, arith, leb, length, take, take-at}
+use Rattle.general.proofs.Names.{_≡_, refl, ap, ap₂, _∙_, true, false, List, [], _∷_, _++_, map, ℕ, zero, suc, _<_, arith, leb, length, take, take-at, le-leb, leb-true}
 use Rattle.symbol.specs.Version.{sideOf}
 use Rattle.symbol.specs.Layout.{layoutOf}
 use Rattle.information.specs.Information.{copyOf, nearestOf}
@@ -9,24 +9,19 @@ use Rattle.codewords.specs.Inner.{streamIn}
 use Rattle.codewords.proofs.Interleave.{length-stream}
 use Rattle.codewords.proofs.Small.{Below}
 use Rattle.marks.specs.Read.{moduleBit, nearestIn, streamFrom}
-use Rattle.marks.proofs.Refusals.{both-true, leb-fact, true-both}
+use Rattle.marks.proofs.Refusals.{both-true}
 use Rattle.bits.specs.Bits.{firstWords}
 use Rattle.marks.specs.Inner.{areModules}
 use Rattle.bits.proofs.Words.{first-length}
 
 pub modules-below : (sq : List ℕ) → areModules sq ≡ true → Below 2 sq
 modules-below [] e i = omega arith
-modules-below (m ∷ ms) e zero = omega (arith, leb-fact m 1 (both-true (leb m 1) (areModules ms) e .0))
+modules-below (m ∷ ms) e zero = omega (arith, leb-true m 1 (both-true (leb m 1) (areModules ms) e .0))
 modules-below (m ∷ ms) e (suc i) = modules-below ms (both-true (leb m 1) (areModules ms) e .1) i
 
 pub below-modules : (sq : List ℕ) → Below 2 sq → areModules sq ≡ true
 below-modules [] b = refl
-below-modules (m ∷ ms) b = true-both (leb m 1) (areModules ms) (one m (b 0)) (below-modules ms (λ i. b (suc i)))
-  where
-    one : (m : ℕ) → m < 2 → leb m 1 ≡ true
-    one zero h = refl
-    one (suc zero) h = refl
-    one (suc (suc m)) h = absurd (omega arith)
+below-modules (m ∷ ms) b = rw (le-leb m 1 (omega (arith, b 0)), below-modules ms (λ i. b (suc i)))
 
 -- modules that are bits are read as they are
 pub bits-are : (sq : List ℕ) → Below 2 sq → map moduleBit sq ≡ sq

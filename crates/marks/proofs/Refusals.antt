@@ -1,20 +1,18 @@
 -- The first refusal of a list of tests: 0 exactly where every test holds. Assumes nothing.
-use Rattle.general.proofs.Names.{_≡_, refl, sym, ap, _∙_, Bool, true, false, _&&_, _≢_, List, [], _∷_, _++_, ℕ, suc, _≤_, arith, ℕ-discrete, eq-eqb, ne-eqb}
-use Rattle.general.proofs.Names.{T, eqb, leb, eqb→eq, leb→le}
+use Rattle.general.proofs.Names.{_≡_, refl, sym, _∙_, Bool, true, false, _&&_, _≢_, List, [], _∷_, _++_, ℕ, suc, arith, ℕ-discrete, eq-eqb, ne-eqb}
 use Rattle.bits.proofs.Tests.{never}
 use Rattle.marks.specs.Read.{firstRefusal, unless}
 
 -- a test that holds gives no refusal, and only such a test
 pub unless-true : (b : Bool) (n : ℕ) → b ≡ true → unless b n ≡ 0
-unless-true true n e = refl
-unless-true false n e = never cc
+unless-true b n e = rw e
 
 pub true-unless : (b : Bool) (n : ℕ) → unless b (suc n) ≡ 0 → b ≡ true
 true-unless true n e = refl
 true-unless false n e = absurd (omega arith)
 
 pub unless-false : (b : Bool) (n : ℕ) → b ≡ false → unless b n ≡ n
-unless-false b n e = ap (λ (t : Bool). unless t n) e
+unless-false b n e = rw e
 
 pub false-unless : (b : Bool) (n : ℕ) → unless b (suc n) ≡ suc n → b ≡ false
 false-unless true n e = absurd (omega arith)
@@ -66,17 +64,3 @@ first-one n = elim (ℕ-discrete n 0) [
 pub both-true : (a b : Bool) → (a && b) ≡ true → (a ≡ true) × (b ≡ true)
 both-true true b e = (refl, e)
 both-true false b e = never cc
-
-pub true-both : (a b : Bool) → a ≡ true → b ≡ true → (a && b) ≡ true
-true-both true b p q = q
-true-both false b p q = never cc
-
-T-of : (b : Bool) → b ≡ true → T b
-T-of true e = tt
-T-of false e = never cc
-
-pub leb-fact : (m n : ℕ) → leb m n ≡ true → m ≤ n
-leb-fact m n e = leb→le m n (T-of (leb m n) e)
-
-pub eqb-fact : (m n : ℕ) → eqb m n ≡ true → m ≡ n
-eqb-fact m n e = eqb→eq m n (T-of (eqb m n) e)

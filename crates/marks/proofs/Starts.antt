@@ -1,6 +1,6 @@
 -- What reading and writing begin with: version, level and mask in their ranges, the version's layout, and whether it has blocks.
 -- Assumes nothing.
-use Rattle.general.proofs.Names.{_≡_, refl, sym, ap, subst, _∙_, Bool, true, false, cond, _&&_, List, _++_, _≢_, ℕ, _+_, _-_, _*_, _/_, _%_, _≤_, _<_}
+use Rattle.general.proofs.Names.{_≡_, refl, sym, ap, _∙_, Bool, true, false, cond, _&&_, List, _++_, _≢_, ℕ, _+_, _-_, _*_, _/_, _%_, _≤_, _<_, leb-true, eqb-true, [], _∷_}
 use Rattle.general.proofs.Names.{arith, eq-eqb, ne-eqb, le-leb, lt-leb, le-ltb, T, leb, eqb, length, take, drop, length-append, take-at}
 use Rattle.symbol.specs.Version.{sideOf, isVersion, isSide, sideVersion}
 use Rattle.symbol.specs.Layout.{layoutOf, layoutRefusal, layoutWritten}
@@ -9,15 +9,14 @@ use Rattle.information.specs.declared.InfoBits.{InfoBits}
 use Rattle.information.specs.declared.InfoBits.the-variants.{Word, OutOfRange}
 use Rattle.information.specs.Information.{infoBits, isInfo, InfoAnswer, infoOf, infoAnswer, nearestWord, wordDistance, NearestAnswer, nearestOf}
 use Rattle.information.proofs.Apart.{nearest-le}
-use Rattle.block_table.specs.Blocks.{totalOf, rowOf, rowHolds, shapes, shapesOf, totalSize, totalData, hasBlocks}
+use Rattle.block_table.specs.Blocks.{totalOf, rowOf, rowHolds, shapes, shapesOf, totalSize, totalData, hasBlocks, Shape}
 use Rattle.symbol.specs.Layout.{dataModules}
 use Rattle.block_table.proofs.Rows.{total-small}
 use Rattle.block_table.proofs.Theorems.{row-holds}
 use Rattle.blocks.proofs.Theorems.{row-holds-own}
 use Rattle.marks.specs.Read.{Reading, readingOf, refused, withReceipt, nearestIn}
-use Rattle.marks.proofs.Refusals.{both-true, true-both, true-unless, false-unless, leb-fact, eqb-fact}
+use Rattle.marks.proofs.Refusals.{both-true, true-unless, false-unless}
 use Rattle.marks.proofs.Marks.{version-is}
-use Rattle.marks.proofs.ReadBack.{data-le}
 use Rattle.marks.specs.Inner.{levelIn, maskIn}
 
 -- ---- the layout of a version, written into a buffer that is long enough
@@ -60,14 +59,12 @@ and-false false = refl
 pub has-blocks : (v l : ℕ) → 1 ≤ v → v ≤ 84 → l ≤ 3 → 8 * totalOf v ≤ dataModules (layoutOf v) → hasBlocks v l ≡ true
 unfolding hasBlocks
 has-blocks v l low high level h =
-    true-both (rowHolds (shapesOf v l) (totalOf v)) (leb (8 * totalOf v) (dataModules (layoutOf v)))
-    (is-true (rowHolds (shapesOf v l) (totalOf v)) (row-holds v l low high level)) (le-leb (8 * totalOf v) (dataModules (layoutOf v)) h)
+    rw (is-true (rowHolds (shapesOf v l) (totalOf v)) (row-holds v l low high level), le-leb (8 * totalOf v) (dataModules (layoutOf v)) h)
 
 pub no-blocks : (v l : ℕ) → dataModules (layoutOf v) < 8 * totalOf v → hasBlocks v l ≡ false
 unfolding hasBlocks
 no-blocks v l h =
-    ap (λ (b : Bool). rowHolds (shapesOf v l) (totalOf v) && b) (lt-leb (8 * totalOf v) (dataModules (layoutOf v)) h)
-    ∙ and-false (rowHolds (shapesOf v l) (totalOf v))
+    rw (lt-leb (8 * totalOf v) (dataModules (layoutOf v)) h) (and-false (rowHolds (shapesOf v l) (totalOf v)))
 
 -- ---- what a reading answers, by its first refusal
 
@@ -85,15 +82,15 @@ in-refusal r p s n m body e z d = sym (simp (eq-eqb (length r) 12 e, z, ne-eqb m
 
 -- ---- the version of a side, and the nearest level and mask
 
-pub side-range : (side : ℕ) → isSide side ≡ true → (1 ≤ sideVersion side) × (sideVersion side ≤ 84)
+side-facts : (side : ℕ) → isSide side ≡ true → (23 ≤ side) × (side ≤ 189) × (side % 2 ≡ 1) × (sideVersion side ≡ (side - 21) / 2)
 unfolding sideVersion isSide
-side-range side e =
+side-facts side e =
     let a = both-true (leb 23 side) (leb side 189 && eqb (side % 2) 1) e in
     let b = both-true (leb side 189) (eqb (side % 2) 1) (a .1) in
-    let lo = leb-fact 23 side (a .0) in
-    let hi = leb-fact side 189 (b .0) in
-    let q : cond (leb 23 side && (leb side 189 && eqb (side % 2) 1)) ((side - 21) / 2) 0 ≡ (side - 21) / 2 = ap (λ (t : Bool). cond t ((side - 21) / 2) 0) e in
-    (omega arith, omega arith)
+    (leb-true 23 side (a .0), leb-true side 189 (b .0), eqb-true (side % 2) 1 (b .1), rw e)
+
+pub side-range : (side : ℕ) → isSide side ≡ true → (1 ≤ sideVersion side) × (sideVersion side ≤ 84)
+side-range side e = let f = side-facts side e in (omega arith, omega arith)
 
 abbrev missing : NearestAnswer
 missing = record { number = 1; level = 0; mask = 0; distance = 0 }
@@ -119,21 +116,20 @@ unfolding nearestIn
 mask-range v sq = ranged v _ _ .1
 
 pub side-back : (side : ℕ) → isSide side ≡ true → sideOf (sideVersion side) ≡ side
-unfolding sideVersion isSide
-side-back side e =
-    let a = both-true (leb 23 side) (leb side 189 && eqb (side % 2) 1) e in
-    let b = both-true (leb side 189) (eqb (side % 2) 1) (a .1) in
-    let lo = leb-fact 23 side (a .0) in
-    let odd = eqb-fact (side % 2) 1 (b .1) in
-    let q : cond (leb 23 side && (leb side 189 && eqb (side % 2) 1)) ((side - 21) / 2) 0 ≡ (side - 21) / 2 = ap (λ (t : Bool). cond t ((side - 21) / 2) 0) e in
-    omega arith
+side-back side e = let f = side-facts side e in omega arith
+
+-- the data codewords are no more than the codewords
+pub data-le : (bs : List Shape) → totalData bs ≤ totalSize bs
+unfolding totalData totalSize
+data-le [] = omega arith
+data-le (b ∷ bs) = omega (arith, data-le bs)
 
 -- ---- r is the row of a version and level
 
 module _ (v l : ℕ) (low : 1 ≤ v) (high : v ≤ 84) (level : l ≤ 3) (r : List ℕ) (is : r ≡ rowOf v l) where
   own : (totalSize (shapes r) ≡ totalOf v) × T (rowHolds (shapes r) (totalSize (shapes r)))
   unfolding shapesOf
-  own = row-holds-own (shapes r) (totalOf v) (subst (λ (x : List ℕ). T (rowHolds (shapes x) (totalOf v))) (sym is) (row-holds v l low high level))
+  own = row-holds-own (shapes r) (totalOf v) (rw is (row-holds v l low high level))
 
   -- it has the version's codewords, and holds its rule ..
   pub row-total : totalSize (shapes r) ≡ totalOf v

@@ -1,5 +1,5 @@
 -- How a reading begins: the receipt, the first refusals, and what is read when they are passed. Assumes nothing.
-use Rattle.general.proofs.Names.{_≡_, refl, sym, ap, subst, _∙_, _≢_, Bool, true, false, cond, List, [], _∷_, ℕ, _*_, _≤_, _<_, arith, ℕ-discrete, le-leb}
+use Rattle.general.proofs.Names.{_≡_, refl, sym, ap, subst, _∙_, _≢_, Bool, true, false, cond, List, [], _∷_, ℕ, _*_, _≤_, _<_, arith, ℕ-discrete, le-leb, eqb-true}
 use Rattle.general.proofs.Names.{lt-leb, eqb, leb, length, getD}
 use Rattle.symbol.specs.Version.{sideOf, isSide, sideVersion, sideRefusal, versionOf}
 use Rattle.symbol.specs.Version.{sideNumber as sideNumber}
@@ -13,7 +13,7 @@ use Rattle.block_table.specs.Blocks.{hasBlocks}
 use Rattle.marks.specs.Receipt.{refusalReceipt}
 use Rattle.marks.specs.Read.{Reading, readingOf, refused, firstRefusal, unless, readRefusal, knownRefusal, bodyOf}
 use Rattle.marks.specs.Read.{withReceipt, readOf, readKnownOf, nearestIn}
-use Rattle.marks.proofs.Refusals.{true-unless, unless-true, unless-false, first-skips, first-takes, first-left, first-none, eqb-fact}
+use Rattle.marks.proofs.Refusals.{true-unless, unless-true, unless-false, first-skips, first-takes, first-left, first-none}
 use Rattle.marks.proofs.Modules.{modules-below, nearest-bits}
 use Rattle.marks.proofs.Marks.{ranges, version-is}
 use Rattle.marks.proofs.Starts.{in-body, no-receipt, in-refusal, side-range, side-back, level-range, mask-range}
@@ -122,7 +122,7 @@ module _ (sq : List ℕ) (v l k : ℕ) (p s r : List ℕ) where
             level = R .level;
             mask = R .mask;
             near = omega arith;
-            size = eqb-fact (length sq) (sideOf v * sideOf v) (true-unless (eqb (length sq) (sideOf v * sideOf v)) 1 (t .0));
+            size = eqb-true (length sq) (sideOf v * sideOf v) (true-unless (eqb (length sq) (sideOf v * sideOf v)) 1 (t .0));
             bits = modules-below sq (true-unless (areModules sq) 2 (t .1));
           }
 
@@ -219,7 +219,7 @@ module _ (sq : List ℕ) (side : ℕ) (p s r : List ℕ) where
         module _ (z : n ≡ 0) where
           length-is : length sq ≡ sideOf v * sideOf v
           length-is =
-              eqb-fact (length sq) (side * side) (true-unless (eqb (length sq) (side * side)) 1 (two-skipped sized moduled n [] en z .0))
+              eqb-true (length sq) (side * side) (true-unless (eqb (length sq) (side * side)) 1 (two-skipped sized moduled n [] en z .0))
               ∙ ap (λ (x : ℕ). x * x) (sym (side-back side is-side))
 
           bits-are : (i : ℕ) → getD sq i 0 < 2

@@ -6,8 +6,7 @@ use Rattle.block_table.specs.Blocks.{totalOf, rowOf, shapes, shapesOf, totalDat
 use Rattle.script.specs.Inner.{Fits}
 use Rattle.marks.specs.Write.{roomOf, writeRefusal}
 use Rattle.marks.proofs.Marks.{no-refusal}
-use Rattle.marks.proofs.ReadBack.{data-le}
-use Rattle.marks.proofs.Starts.{row-total, row-data}
+use Rattle.marks.proofs.Starts.{row-total, row-data, data-le}
 use Rattle.writer.specs.declared.Mark.{Mark}
 use Rattle.writer.specs.Inner.{ValidMark}
 
