@@ -1,5 +1,5 @@
 -- The answer for the corrected blocks of a square is what its reading gives. Assumes nothing.
-use Rattle.general.proofs.Names.{_≡_, sym, ap, subst, _∙_, _≢_, cond, List, _++_, ℕ, _*_, _≤_, _<_, arith, ℕ-discrete, eq-eqb, ne-eqb, eqb, length, take}
+use Rattle.general.proofs.Names.{_≡_, sym, ap, _∙_, _≢_, cond, List, _++_, ℕ, _*_, _≤_, _<_, arith, ℕ-discrete, eq-eqb, ne-eqb, eqb, length, take}
 use Rattle.general.proofs.Names.{take-at, take-all}
 use Rattle.symbol.specs.Version.{sideOf}
 use Rattle.symbol.specs.Layout.{layoutOf, layoutWritten}
@@ -43,16 +43,13 @@ refuses-small n t h R = record {
 
 pub refuses-reading : (m : Mark) (n : ℕ) (t : SquareAnswer) (p s : List ℕ) → n ≢ 0 → Refuses n t → readingIn m t p s ≡ refused n p s
 unfolding readingIn refused
-refuses-reading m n t p s d R =
-    ap (λ (r : List ℕ). readingOf (t .number) r p s) (sym (in-refused m t (λ e. d (sym (R .number) ∙ e))))
-    ∙ ap (λ (x : ℕ). readingOf x (refusalReceipt x) p s) (R .number)
+refuses-reading m n t p s d R = rw (← (in-refused m t (λ e. d (sym (R .number) ∙ e))), R .number)
 
 receipt-cases : (m : Mark) (t : SquareAnswer) (n : ℕ) → (t .number ≡ 0 → t .count ≡ n)
     → receiptIn m t ≡ cond (eqb (t .number) 0) (receiptOf (m .version) (m .level) (m .mask) n (m .distance) (t .payload) (t .script)) (refusalReceipt (t .number))
 receipt-cases m t n h = elim (ℕ-discrete (t .number) 0) [
-  | yes e ↦ sym (in-accepted m t e) ∙ ap (λ (x : ℕ). receiptOf (m .version) (m .level) (m .mask) x (m .distance) (t .payload) (t .script)) (h e)
-      ∙ sym (simp (eq-eqb (t .number) 0 e))
-  | no d ↦ sym (in-refused m t d) ∙ sym (simp (ne-eqb (t .number) 0 d))
+  | yes e ↦ rw (← (in-accepted m t e), h e, eq-eqb (t .number) 0 e)
+  | no d ↦ rw (← (in-refused m t d), ne-eqb (t .number) 0 d)
 ]
 
 pub outcome-reading : (m : Mark) (n : ℕ) (o : DataOutcome) (t : SquareAnswer) (p s : List ℕ) → FromOutcome n o t p s
@@ -65,7 +62,7 @@ outcome-reading m n o t p s W =
 -- the receipt written
 pub finished : (m : Mark) (t : SquareAnswer) (r p s : List ℕ) (b : Reading) → readingIn m t p s ≡ b → r ≡ receiptIn m t → readingOf (t .number) r p s ≡ b
 unfolding readingIn
-finished m t r p s b e f = ap (λ (x : List ℕ). readingOf (t .number) x p s) f ∙ e
+finished m t r p s b e f = rw f e
 
 -- ---- the layout
 
@@ -82,10 +79,10 @@ module _ (m : Mark) (sq ks : List ℕ) (F : PassesFirstRefusals m sq) (D : HasLa
   v = m .version
 
   front-is : take (length sq) ks ≡ layoutOf v
-  front-is = ap (λ (n : ℕ). take n ks) (F .size) ∙ D .front
+  front-is = rw (F .size) (D .front)
 
   bits-are : (f : ℕ → ℕ) → dataBits f 0 ks sq ≡ dataBits f 0 (layoutOf v) sq
-  bits-are f = data-front f 0 ks sq ∙ ap (λ (l : List ℕ). dataBits f 0 l sq) front-is
+  bits-are f = data-front f 0 ks sq ∙ rw front-is
 
   pub bits-and-kinds : BitsAndKinds ks sq
   bits-and-kinds = record { kinds = omega (arith, D .room, F .size); few = omega (arith, F .size, square-le (sideOf v) (omega (arith, F .high))); bits = F .bits }
@@ -97,10 +94,7 @@ module _ (m : Mark) (sq ks : List ℕ) (F : PassesFirstRefusals m sq) (D : HasLa
       → st ≡ toStream (firstWords 8 total (dataBits (maskBit side (m .mask)) 0 ks sq)) ++ rest → HasStream m sq st
   stream-is side total st rest e f g = record {
     rest = rest;
-    is = g
-        ∙ (λ i. toStream (firstWords 8 (f i) (dataBits (maskBit (e i) (m .mask)) 0 ks sq)) ++ rest)
-        ∙ ap (λ (bs : List ℕ). toStream (firstWords 8 (totalOf v) bs) ++ rest) (bits-are (maskBit (sideOf v) (m .mask)))
-        ∙ ap (λ (l : List ℕ). l ++ rest) (sym (stream-bits v sq (F .bits) (m .mask)));
+    is = g ∙ rw (f, e, bits-are (maskBit (sideOf v) (m .mask)), stream-bits v sq (F .bits) (m .mask));
   }
 
   -- ---- whether there are enough data modules
@@ -145,7 +139,7 @@ module _ (m : Mark) (R : InTable m) (row : List ℕ) (e : row ≡ rowOf (m .vers
 
   sound : Sound bs
   unfolding shapesOf
-  sound = subst (λ (r : List ℕ). Sound (shapes r)) (sym e) (shapes-sound (m .version) (m .level) (R .low) (R .high) (R .level))
+  sound = rw e (shapes-sound (m .version) (m .level) (R .low) (R .high) (R .level))
 
   pub count-small : (r : Blocks) (n : ℕ) (st : List ℕ) → r ≡ Corrected n → (numberOf r ≡ 0 → correctionsOf r ≡ countOf (corrected bs st)) → n < 65536
   unfolding numberOf correctionsOf
@@ -161,7 +155,7 @@ module _ (m : Mark) (R : InTable m) (row : List ℕ) (e : row ≡ rowOf (m .vers
     size = stream-length (m .version) (m .mask) sq ∙ sym length-is
 
     taken : take (totalSize bs) st ≡ stream
-    taken = ap (take (totalSize bs)) (S .is) ∙ take-at stream (S .rest) (totalSize bs) size
+    taken = rw (S .is) (take-at stream (S .rest) (totalSize bs) size)
 
     -- the reading by a row's blocks
     abbrev reading : List Shape → Reading
@@ -178,11 +172,9 @@ module _ (m : Mark) (R : InTable m) (row : List ℕ) (e : row ≡ rowOf (m .vers
         → readingIn m t p s ≡ bodyOf (m .version) (m .level) (m .mask) (m .distance) sq p s
     unfolding numberOf
     refused-is r t a b R6 =
-        let six : firstRefused (corrected bs stream) ≡ 6 = ap (λ (x : List ℕ). firstRefused (corrected bs x)) (sym taken) ∙ sym b ∙ ap numberOf a in
-        refuses-reading m 6 t p s (λ z. omega arith) R6
-        ∙ sym (ap (λ (x : ℕ). cond (eqb x 0) (outcomeReading (m .version) (m .level) (m .mask) (m .distance) (countOf (corrected bs stream))
-        (fromData (correctedData bs stream) p s)) (refused x p s)) six)
-        ∙ reading-is
+        let six : firstRefused (corrected bs stream) ≡ 6 = rw taken at (sym b ∙ ap numberOf a) in
+        let is : refused 6 p s ≡ reading bs = rw six in
+        refuses-reading m 6 t p s (λ z. omega arith) R6 ∙ is ∙ reading-is
 
     corrected-is : (r : Blocks) (n : ℕ) (st′ rest′ : List ℕ) (t : SquareAnswer) (p′ s′ : List ℕ) → r ≡ Corrected n
         → numberOf r ≡ firstRefused (corrected bs (take (totalSize bs) st))
@@ -192,16 +184,13 @@ module _ (m : Mark) (R : InTable m) (row : List ℕ) (e : row ≡ rowOf (m .vers
         → readingIn m t p′ s′ ≡ bodyOf (m .version) (m .level) (m .mask) (m .distance) sq p s
     unfolding numberOf correctionsOf
     corrected-is r n st′ rest′ t p′ s′ a b c W =
-        let zero : firstRefused (corrected bs stream) ≡ 0 = ap (λ (x : List ℕ). firstRefused (corrected bs x)) (sym taken) ∙ sym b ∙ ap numberOf a in
+        let zero : firstRefused (corrected bs stream) ≡ 0 = rw taken at (sym b ∙ ap numberOf a) in
         let k = c (ap numberOf a) in
-        let count : n ≡ countOf (corrected bs stream) = sym (ap correctionsOf a) ∙ k .0 ∙ ap (λ (x : List ℕ). countOf (corrected bs x)) taken in
-        let left : st′ ≡ joined (blocksOf (corrected bs stream)) ++ rest′ = k .1 ∙ ap (λ (x : List ℕ). joined (blocksOf (corrected bs x)) ++ rest′) taken in
-        let parts : dataParts bs (cut bs st′) ≡ correctedData bs stream = ap (λ (x : List ℕ). dataParts bs (cut bs x)) left ∙ data-left bs sound stream size rest′ in
-        outcome-reading m n _ t p′ s′ W
-        ∙ (λ i. outcomeReading (m .version) (m .level) (m .mask) (m .distance) (count i) (fromData (parts i) p s))
-        ∙ sym (ap (λ (x : ℕ). cond (eqb x 0) (outcomeReading (m .version) (m .level) (m .mask) (m .distance) (countOf (corrected bs stream))
-        (fromData (correctedData bs stream) p s)) (refused x p s)) zero)
-        ∙ reading-is
+        let count : n ≡ countOf (corrected bs stream) = sym (ap correctionsOf a) ∙ (rw taken at (k .0)) in
+        let parts : dataParts bs (cut bs st′) ≡ correctedData bs stream = rw (k .1, taken) (data-left bs sound stream size rest′) in
+        let o = outcomeReading (m .version) (m .level) (m .mask) (m .distance) in
+        let is : o n (fromData (dataParts bs (cut bs st′)) p s) ≡ reading bs = rw (zero, count, parts) in
+        outcome-reading m n _ t p′ s′ W ∙ is ∙ reading-is
 
   pub blocks-refused : (st p s : List ℕ) (r : Blocks) (t : SquareAnswer) → r ≡ Refused → numberOf r ≡ firstRefused (corrected bs (take (totalSize bs) st))
       → Refuses 6 t → AnswersStream m st p s t p s
