@@ -1,5 +1,5 @@
 -- The room for data codewords in the row of a version and level. Assumes nothing.
-use Rattle.general.proofs.Names.{_≡_, refl, sym, ap, _∙_, subst, List, _++_, ℕ, _*_, _≤_, arith, length, take, drop, length-append, length-drop}
+use Rattle.general.proofs.Names.{_≡_, refl, _∙_, List, _++_, ℕ, _*_, _≤_, arith, length, take, drop, length-append, length-drop}
 use Rattle.general.proofs.Names.{length-take-le}
 use Rattle.symbol.specs.Version.{sideOf}
 use Rattle.block_table.specs.Blocks.{totalOf, rowOf, shapes, shapesOf, totalData}
@@ -15,7 +15,7 @@ pub room-is : {m : Mark} (R : ValidMark m) (r : List ℕ) → r ≡ rowOf (m .ve
     → (n ≡ roomOf (m .version) (m .level)) × (n ≤ 3886) × (n ≤ totalOf (m .version))
 unfolding shapesOf
 room-is {m} R r is n e = (
-  e ∙ ap (λ (x : List ℕ). totalData (shapes x)) is,
+  e ∙ rw is,
   omega (arith, row-data (m .version) (m .level) (R .low) (R .high) (R .level) r is),
   omega (arith, data-le (shapes r), row-total (m .version) (m .level) (R .low) (R .high) (R .level) r is),
 )
@@ -28,7 +28,7 @@ room-small {m} R = row-data (m .version) (m .level) (R .low) (R .high) (R .level
 -- script and payload that fit, where the first n bytes of a buffer are lent for the data codewords
 pub fits-lent : (s p xs : List ℕ) (n room : ℕ) → n ≡ room → n ≤ 3886 → n ≤ length xs → Fits s p room
     → Fits s p (length (take n xs)) × (length (take n xs) ≤ 3886)
-fits-lent s p xs n room e m h f = let l = length-take-le n xs h in (subst (Fits s p) (sym (l ∙ e)) f, omega arith)
+fits-lent s p xs n room e m h f = let l = length-take-le n xs h in (rw (l, e) f, omega arith)
 
 -- the buffer afterwards, where what is lent keeps its length
 pub lent-back : (n t : ℕ) (front xs : List ℕ) → length front ≡ length (take n xs) → n ≤ length xs → t ≤ length xs → t ≤ length (front ++ drop n xs)

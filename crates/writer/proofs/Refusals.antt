@@ -16,7 +16,7 @@ use Rattle.script.specs.Inner.{capped, checkedOf, checkOf, allHave}
 use Rattle.script.proofs.Scripts.{positive}
 use Rattle.script.proofs.Theorems.{bits-by-formulas, capped-fits}
 use Rattle.marks.specs.Read.{firstRefusal, unless}
-use Rattle.marks.specs.Write.{Writing, roomOf, writingOf, scriptRefusals, writeRefusal, markOf, writeOf}
+use Rattle.marks.specs.Write.{roomOf, writingOf, scriptRefusals, writeRefusal, markOf, writeOf}
 use Rattle.marks.proofs.Marks.{info-is}
 use Rattle.marks.proofs.Refusals.{unless-true, unless-false, first-skips, first-takes, first-left, first-right, first-one}
 use Rattle.marks.proofs.Starts.{has-blocks, no-blocks}
@@ -78,13 +78,11 @@ module _ (m : Mark) (ks : List ℕ) (R : MarkWithLayout m ks) (size side total r
   sized = eqb size (sideOf (m .version) * sideOf (m .version))
 
   counted : r ≡ dataModules (layoutOf (m .version))
-  counted = er ∙ ap (λ (n : ℕ). dataModules (take (n * n) ks)) es ∙ ap dataModules (R .kinds)
+  counted = er ∙ rw (es, R .kinds)
 
   pub too-few : r < 8 * total → 1 ≡ placeRefusal (m .version) (m .level) size
-  unfolding placeRefusal
-  too-few h =
-      let u = unless-false blocks 1 (no-blocks (m .version) (m .level) (omega (arith, counted))) in
-      sym (first-takes (unless blocks 1) (unless sized 2 ∷ []) (λ z. omega (arith, u)) ∙ u)
+  unfolding placeRefusal firstRefusal
+  too-few h = rw (no-blocks (m .version) (m .level) (omega (arith, counted)))
 
   module _ (h : 8 * total ≤ r) where
     blocked : placeRefusal (m .version) (m .level) size ≡ unless sized 2
@@ -108,18 +106,15 @@ module _ (v l k : ℕ) (s p sq : List ℕ) where
   abbrev refusal : ℕ
   refusal = writeRefusal v l k s p sq
 
-  abbrev answer : Bool → Writing
-  answer t = cond t (writingOf 0 (markOf v l k s p)) (writingOf refusal sq)
-
   -- a refusal leaves the square
   answers-refusal : (n : ℕ) → n ≢ 0 → n ≡ refusal → writingOf n sq ≡ writeOf v l k s p sq
   unfolding writeOf
-  answers-refusal n d e = ap (λ (x : ℕ). writingOf x sq) e ∙ sym (ap answer (ne-eqb refusal 0 (λ z. d (e ∙ z))))
+  answers-refusal n d e = rw (ne-eqb refusal 0 (λ z. d (e ∙ z)), e)
 
   -- no refusal: the mark
   answers-mark : (g : List ℕ) → refusal ≡ 0 → g ≡ markOf v l k s p → writingOf 0 g ≡ writeOf v l k s p sq
   unfolding writeOf
-  answers-mark g z e = ap (writingOf 0) e ∙ sym (ap answer (eq-eqb refusal 0 z))
+  answers-mark g z e = rw (eq-eqb refusal 0 z, e)
 
   abbrev places : List ℕ
   places = unless (hasBlocks v l) 1 ∷ unless (eqb (length sq) (sideOf v * sideOf v)) 2 ∷ []

@@ -1,9 +1,9 @@
 -- The stream in front of a lent buffer, the square that it is placed in, and the mark. Assumes nothing.
-use Rattle.general.proofs.Names.{_≡_, sym, ap, ap₂, _∙_, List, _++_, ℕ, _*_, _≤_, arith, length, take, drop, length-append, length-drop, take-at}
+use Rattle.general.proofs.Names.{_≡_, ap, _∙_, List, _++_, ℕ, _*_, _≤_, arith, length, take, drop, length-append, length-drop, take-at}
 use Rattle.bits.specs.Bits.{bitsOf}
 use Rattle.symbol.specs.Version.{sideOf}
 use Rattle.symbol.specs.Layout.{layoutOf}
-use Rattle.information.specs.Information.{infoBits, infoWritten}
+use Rattle.information.specs.Information.{infoWritten}
 use Rattle.block_table.specs.Blocks.{totalOf, rowOf, Shape, shapes, shapesOf, totalSize, totalData}
 use Rattle.codewords.specs.Codewords.{maskBit, placed, fromStream}
 use Rattle.blocks.specs.Blockwise.{streamOf}
@@ -25,15 +25,14 @@ pub stream-encoded : (script payload : List ℕ) (bs : List Shape) (ds s s′ : 
     → totalSize bs ≤ length s → length s′ ≡ length s → s′ ≡ streamOf bs ds ++ drop (totalSize bs) s
     → take (totalSize bs) s′ ≡ streamOf bs (scriptData (totalData bs) (commandsOf script payload))
 stream-encoded script payload bs ds s s′ n en ed h k e =
-    front (totalSize bs) (streamOf bs ds) s s′ h k e ∙ ap (streamOf bs) (ed ∙ ap (λ (x : ℕ). scriptData x (commandsOf script payload)) en)
+    front (totalSize bs) (streamOf bs ds) s s′ h k e ∙ rw (ed, en)
 
 -- for the row of a version and level
 pub stream-of-row : (script payload : List ℕ) (v l : ℕ) (r s : List ℕ) → r ≡ rowOf v l → totalSize (shapes r) ≡ totalOf v
     → take (totalSize (shapes r)) s ≡ streamOf (shapes r) (scriptData (totalData (shapes r)) (commandsOf script payload))
     → take (totalOf v) s ≡ streamOf (shapesOf v l) (scriptData (roomOf v l) (commandsOf script payload))
 unfolding shapesOf
-stream-of-row script payload v l r s er en e =
-    ap (λ (n : ℕ). take n s) (sym en) ∙ e ∙ ap (λ (x : List ℕ). streamOf (shapes x) (scriptData (totalData (shapes x)) (commandsOf script payload))) er
+stream-of-row script payload v l r s er en e = rw (← en, ← er) e
 
 -- ---- the square
 
@@ -44,11 +43,7 @@ module _ (m : Mark) (ks : List ℕ) (R : MarkWithLayout m ks) (stream found foun
       → length sq ≡ sideOf (m .version) * sideOf (m .version) → sq′ ≡ placed (maskBit side (m .mask)) 0 (take (length sq) ks) (bitsOf (take total found′))
       → sq′ ≡ squareOf (maskBit (sideOf (m .version)) (m .mask)) (layoutOf (m .version)) (take (totalOf (m .version)) stream)
   stream-placed h k e n f =
-      let a : take (length sq) ks ≡ layoutOf (m .version) = ap (λ (x : ℕ). take x ks) n ∙ R .kinds in
-      let b : take total found′ ≡ fromStream (take (totalOf (m .version)) stream) =
-      front total (fromStream (take total stream)) found found′ h k e ∙ ap (λ (x : ℕ). fromStream (take x stream)) et in
-      f ∙ ap₂ (λ (x y : List ℕ). placed (maskBit side (m .mask)) 0 x (bitsOf y)) a b
-      ∙ ap (λ (x : ℕ). placed (maskBit x (m .mask)) 0 (layoutOf (m .version)) (bitsOf (fromStream (take (totalOf (m .version)) stream)))) es
+      f ∙ rw (front total (fromStream (take total stream)) found found′ h k e, n, R .kinds, es, et)
 
 -- the mark: its stream placed, then its word written
 pub mark-made : (m : Mark) (s p stream sq sq′ : List ℕ) (side : ℕ) → ValidMark m → side ≡ sideOf (m .version)
@@ -56,6 +51,4 @@ pub mark-made : (m : Mark) (s p stream sq sq′ : List ℕ) (side : ℕ) → Val
     → sq ≡ squareOf (maskBit (sideOf (m .version)) (m .mask)) (layoutOf (m .version)) stream → sq′ ≡ infoWritten side (m .word) sq
     → sq′ ≡ markOf (m .version) (m .level) (m .mask) s p
 unfolding markOf
-mark-made m s p stream sq sq′ side R es a b e =
-    let f = b ∙ ap (squareOf (maskBit (sideOf (m .version)) (m .mask)) (layoutOf (m .version))) a in
-    e ∙ ap₂ (λ (x y : ℕ). infoWritten x y sq) es (R .word) ∙ ap (infoWritten (sideOf (m .version)) (infoBits (m .version) (m .level) (m .mask))) f
+mark-made m s p stream sq sq′ side R es a b e = e ∙ rw (es, R .word, b, a)
