@@ -1,5 +1,5 @@
 -- How a reading begins: the receipt, the first refusals, and what is read when they are passed. Assumes nothing.
-use Rattle.general.proofs.Names.{_≡_, refl, sym, ap, subst, _∙_, _≢_, Bool, true, false, cond, List, [], _∷_, ℕ, _*_, _≤_, _<_, arith, ℕ-discrete, le-leb, eqb-true}
+use Rattle.general.proofs.Names.{_≡_, refl, sym, ap, _∙_, _≢_, Bool, true, false, cond, List, [], _∷_, ℕ, _*_, _≤_, _<_, arith, ℕ-discrete, le-leb, eqb-true}
 use Rattle.general.proofs.Names.{lt-leb, eqb, leb, length, getD}
 use Rattle.symbol.specs.Version.{sideOf, isSide, sideVersion, sideRefusal, versionOf}
 use Rattle.symbol.specs.Version.{sideNumber as sideNumber}
@@ -63,11 +63,8 @@ module _ (m : Mark) (sq p s r : List ℕ) (n : ℕ) (h : length r ≡ 12) (e : n
 
   by-blocks : (b : Bool) → hasBlocks (m .version) (m .level) ≡ b → cond b body (refused 1 p s) ≡ withReceipt r p s n body
   unfolding firstRefusal
-  by-blocks true f = sym (in-body r p s n body h (e ∙ first-skips (unless (hasBlocks (m .version) (m .level)) 1) []
-      (unless-true (hasBlocks (m .version) (m .level)) 1 f)))
-  by-blocks false f =
-      let u : unless (hasBlocks (m .version) (m .level)) 1 ≡ 1 = unless-false (hasBlocks (m .version) (m .level)) 1 f in
-      in-refusal r p s n 1 body h (e ∙ first-takes (unless (hasBlocks (m .version) (m .level)) 1) [] (λ z. omega (arith, u)) ∙ u) (λ z. omega arith)
+  by-blocks true f = sym (in-body r p s n body h (e ∙ rw f))
+  by-blocks false f = in-refusal r p s n 1 body h (e ∙ rw f) (λ z. omega arith)
 
   left-blocks : bodyOr1 m sq p s ≡ withReceipt r p s n body
   unfolding bodyOr1
@@ -90,23 +87,20 @@ module _ (sq : List ℕ) (v l k : ℕ) (p s r : List ℕ) where
   known-receipt d = no-receipt r p s _ _ d
 
   pub known-range : length r ≡ 12 → isInfo v l k ≡ false → (n : ℕ) (r′ : List ℕ) → (n ≡ 1) × (r′ ≡ refusalReceipt 1) → readingOf n r′ p s ≡ known
-  unfolding readKnownOf knownRefusal refused
-  known-range h f n r′ e =
-      (λ i. readingOf (e .0 i) (e .1 i) p s)
-      ∙ in-refusal r p s _ 1 _ h (let u = unless-false (isInfo v l k) 1 f in first-takes (unless (isInfo v l k) 1) _ (λ z. omega (arith, u)) ∙ u) (λ z. omega arith)
+  unfolding readKnownOf knownRefusal refused firstRefusal
+  known-range h f n r′ e = rw (e .0, e .1) (in-refusal r p s (knownRefusal v l k sq) 1 _ h (rw f) (λ z. omega arith))
 
   module _ (h : length r ≡ 12) (f : isInfo v l k ≡ true) (side n : ℕ) (es : side ≡ sideOf v)
       (en : n ≡ firstRefusal (unless (eqb (length sq) (side * side)) 2 ∷ bytes ∷ [])) where
     first : n ≡ firstRefusal (size ∷ bytes ∷ [])
-    first = en ∙ ap (λ (x : ℕ). firstRefusal (unless (eqb (length sq) (x * x)) 2 ∷ bytes ∷ [])) es
+    first = en ∙ rw es
 
     passed : (ns : List ℕ) → firstRefusal (unless (isInfo v l k) 1 ∷ ns) ≡ firstRefusal ns
     passed ns = first-skips (unless (isInfo v l k) 1) ns (unless-true (isInfo v l k) 1 f)
 
     pub known-early : n ≢ 0 → (m : ℕ) (r′ : List ℕ) → (m ≡ n) × (r′ ≡ refusalReceipt n) → readingOf m r′ p s ≡ known
     unfolding readKnownOf knownRefusal refused
-    known-early d m r′ e =
-        (λ i. readingOf (e .0 i) (e .1 i) p s) ∙ in-refusal r p s _ n _ h (passed _ ∙ two-taken size bytes n _ first d) d
+    known-early d m r′ e = rw (e .0, e .1) (in-refusal r p s _ n _ h (passed _ ∙ two-taken size bytes n _ first d) d)
 
     module _ (z : n ≡ 0) where
       abbrev mark : Mark
@@ -139,14 +133,8 @@ in-square v side sq low high es h b = (omega arith, omega arith, omega (arith, a
 
 module _ (v side a b : ℕ) (sq : List ℕ) (bits : (i : ℕ) → getD sq i 0 < 2) (es : side ≡ sideOf v) (ea : a ≡ copyOf side false sq) (eb : b ≡ copyOf side true sq)
     (r : NearestInfo) where
-  first-is : a ≡ copyOf (sideOf v) false sq
-  first-is = ea ∙ ap (λ (x : ℕ). copyOf x false sq) es
-
-  second-is : b ≡ copyOf (sideOf v) true sq
-  second-is = eb ∙ ap (λ (x : ℕ). copyOf x true sq) es
-
   nearest-is : (l k d : ℕ) → r ≡ Nearest l k d → nearestAnswer r ≡ nearestOf v a b → record { number = 0; level = l; mask = k; distance = d } ≡ nearestIn v sq
-  nearest-is l k d e f = sym (ap nearestAnswer e) ∙ f ∙ (λ i. nearestOf v (first-is i) (second-is i)) ∙ sym (nearest-bits v sq bits)
+  nearest-is l k d e f = sym (ap nearestAnswer e) ∙ f ∙ rw (ea, eb, es) (sym (nearest-bits v sq bits))
 
   pub nearest-mark : (l k d : ℕ) → r ≡ Nearest l k d → nearestAnswer r ≡ nearestOf v a b
       → near.Nearest v sq (record { version = v; level = l; mask = k; distance = d })
@@ -189,11 +177,10 @@ module _ (sq : List ℕ) (side : ℕ) (p s r : List ℕ) where
 
   module _ (h : length r ≡ 12) (a : FromSide) (ea : sideNumber a ≡ sideRefusal side) (ev : versionOf a ≡ sideVersion side) where
     pub read-side : a ≡ from-side.NoVersion → (n : ℕ) (r′ : List ℕ) → (n ≡ 1) × (r′ ≡ refusalReceipt 1) → readingOf n r′ p s ≡ reading
-    unfolding readOf readRefusal refused sideRefusal
+    unfolding readOf readRefusal refused sideRefusal firstRefusal
     read-side f n r′ e =
-        (λ i. readingOf (e .0 i) (e .1 i) p s)
-        ∙ in-refusal r p s _ 1 _ h
-        (let u : unless (isSide side) 1 ≡ 1 = sym ea ∙ ap sideNumber f in first-takes (unless (isSide side) 1) _ (λ z. omega (arith, u)) ∙ u) (λ z. omega arith)
+        let u : unless (isSide side) 1 ≡ 1 = sym ea ∙ ap sideNumber f in
+        rw (e .0, e .1) (in-refusal r p s (readRefusal side sq) 1 _ h (rw u) (λ z. omega arith))
 
     module _ (w : Version) (f : a ≡ from-side.Found w) where
       no-first : unless (isSide side) 1 ≡ 0
@@ -212,15 +199,11 @@ module _ (sq : List ℕ) (side : ℕ) (p s r : List ℕ) where
       module _ (n : ℕ) (en : n ≡ firstRefusal (sized ∷ moduled ∷ [])) where
         pub read-early : n ≢ 0 → (m : ℕ) (r′ : List ℕ) → (m ≡ n) × (r′ ≡ refusalReceipt n) → readingOf m r′ p s ≡ reading
         unfolding readOf readRefusal refused
-        read-early d m r′ e =
-            (λ i. readingOf (e .0 i) (e .1 i) p s)
-            ∙ in-refusal r p s _ n _ h (first-skips (unless (isSide side) 1) _ no-first ∙ two-taken sized moduled n _ en d) d
+        read-early d m r′ e = rw (e .0, e .1) (in-refusal r p s _ n _ h (first-skips (unless (isSide side) 1) _ no-first ∙ two-taken sized moduled n _ en d) d)
 
         module _ (z : n ≡ 0) where
           length-is : length sq ≡ sideOf v * sideOf v
-          length-is =
-              eqb-true (length sq) (side * side) (true-unless (eqb (length sq) (side * side)) 1 (two-skipped sized moduled n [] en z .0))
-              ∙ ap (λ (x : ℕ). x * x) (sym (side-back side is-side))
+          length-is = rw (side-back side is-side) (eqb-true _ _ (true-unless (eqb (length sq) (side * side)) 1 (two-skipped sized moduled n [] en z .0)))
 
           bits-are : (i : ℕ) → getD sq i 0 < 2
           bits-are = modules-below sq (true-unless (areModules sq) 2 (two-skipped sized moduled n [] en z .1))
@@ -229,21 +212,19 @@ module _ (sq : List ℕ) (side : ℕ) (p s r : List ℕ) where
           pub read-square-fits : (1 ≤ w .number) × (w .number ≤ 84) × (length sq ≡ sideOf (w .number) * sideOf (w .number)) × ((i : ℕ) → getD sq i 0 < 2)
           read-square-fits =
               let g = side-range side is-side in
-              (omega (arith, g .0, number-is), omega (arith, g .1, number-is), length-is ∙ ap (λ (x : ℕ). sideOf x * sideOf x) (sym number-is), bits-are)
+              (omega (arith, g .0, number-is), omega (arith, g .1, number-is), rw number-is length-is, bits-are)
 
           module _ (m : Mark) (N : near.Nearest (w .number) sq m) where
             nearest : near.Nearest v sq m
-            nearest = subst (λ (x : ℕ). near.Nearest x sq m) number-is N
+            nearest = rw number-is at N
 
             pub read-far : 10 < m .distance → (n′ : ℕ) (r′ : List ℕ) → (n′ ≡ 4) × (r′ ≡ refusalReceipt 4) → readingOf n′ r′ p s ≡ reading
             unfolding readOf readRefusal refused
             read-far d n′ r′ e =
                 let u : unless (leb (distanceIn v sq) 10) 4 ≡ 4 = unless-false (leb (distanceIn v sq) 10) 4
                 (lt-leb (distanceIn v sq) 10 (omega (arith, nearest .distance))) in
-                (λ i. readingOf (e .0 i) (e .1 i) p s)
-                ∙ in-refusal r p s _ 4 _ h
-                (first-skips (unless (isSide side) 1) _ no-first ∙ two-skipped sized moduled n _ en z .2
-                ∙ first-takes (unless (leb (distanceIn v sq) 10) 4) _ (λ y. omega (arith, u)) ∙ u) (λ y. omega arith)
+                rw (e .0, e .1) (in-refusal r p s _ 4 _ h (first-skips (unless (isSide side) 1) _ no-first ∙ two-skipped sized moduled n _ en z .2
+                ∙ first-takes (unless (leb (distanceIn v sq) 10) 4) _ (λ y. omega (arith, u)) ∙ u) (λ y. omega arith))
 
             module _ (d : m .distance ≤ 10) where
               pub read-fits : PassesFirstRefusals m sq
@@ -255,7 +236,7 @@ module _ (sq : List ℕ) (side : ℕ) (p s r : List ℕ) where
                     level = omega (arith, nearest .level, level-range v sq);
                     mask = omega (arith, nearest .mask, mask-range v sq);
                     near = d;
-                    size = length-is ∙ ap (λ (x : ℕ). sideOf x * sideOf x) (sym (nearest .version));
+                    size = rw (nearest .version) length-is;
                     bits = bits-are;
                   }
 
@@ -265,10 +246,10 @@ module _ (sq : List ℕ) (side : ℕ) (p s r : List ℕ) where
                   first-skips (unless (isSide side) 1) _ no-first ∙ two-skipped sized moduled n _ en z .2
                   ∙ first-skips (unless (leb (distanceIn v sq) 10) 4) _
                   (unless-true (leb (distanceIn v sq) 10) 4 (le-leb (distanceIn v sq) 10 (omega (arith, nearest .distance))))
-                  ∙ (λ i. firstRefusal (unless (hasBlocks (sym (nearest .version) i) (sym (nearest .level) i)) 1 ∷ []))
+                  ∙ rw (nearest .version, nearest .level)
 
               pub read-left : bodyOr1 m sq p s ≡ reading
               unfolding readOf
               read-left =
                   left-blocks m sq p s r (readRefusal side sq) h only-blocks
-                  ∙ (λ i. withReceipt r p s (readRefusal side sq) (bodyOf (nearest .version i) (nearest .level i) (nearest .mask i) (nearest .distance i) sq p s))
+                  ∙ rw (nearest .version, nearest .level, nearest .mask, nearest .distance)
