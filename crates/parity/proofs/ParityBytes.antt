@@ -1,6 +1,6 @@
 -- Data followed by bytes that make them a codeword: no other bytes do, the rest of the division does, and so it is the parity. Assumes
 -- nothing.
-use Rattle.general.proofs.Names.{_≡_, refl, sym, ap, ap₂, _∙_, subst, fun-ext, Bool, true, false, cond, some, List, [], _∷_, _++_, ℕ, zero, suc, _+_, _-_}
+use Rattle.general.proofs.Names.{_≡_, refl, sym, ap, ap₂, _∙_, fun-ext, Bool, true, false, cond, some, List, [], _∷_, _++_, ℕ, zero, suc, _+_, _-_}
 use Rattle.general.proofs.Names.{_≤_, _<_, arith, decLt, eq-eqb, eqb, length, take, drop, replicate, length-append, length-drop, take-append-drop}
 use Rattle.general.proofs.Names.{List·getD-append, List·getD-eq-default, ext-getD, getD-append-add, drop-append-seam, length-take-le, getD-take, getD-drop}
 use Rattle.field.specs.Field.{power}
@@ -13,7 +13,7 @@ use Rattle.reed_solomon.proofs.Search.{Bytes, Passing, passing-some}
 use Rattle.reed_solomon.proofs.Codeword.{eval-horner, zero-codeword, near-equal}
 use Rattle.reed_solomon.proofs.Massey.{zeros}
 use Rattle.parity.specs.Encode.{writtenOf}
-use Rattle.parity.specs.Inner.{Monic, Generator, Divided, copiedFrom, withParity}
+use Rattle.parity.specs.Inner.{Monic, Generator, Divided, copiedFrom}
 use Rattle.parity.proofs.Remainder.{generator-start, generator-next, divided-start, divided-next, joined-root, copied-low, copied-high}
 use Rattle.general.proofs.Lists.{length-table, getD-table}
 
@@ -100,8 +100,7 @@ module _ (poly : ℕ) (P : Primitive poly) (first parity : ℕ) (ds : List ℕ) 
     where
       more : (n : ℕ) (g : ℕ → ℕ) → Generator poly first n g → Generator poly first (suc n) (stepped poly (power poly (first + n)) 1 g g)
       more n g G =
-          let e : n + 1 ≡ suc n = omega arith in
-          subst (λ (m : ℕ). Generator poly first m (stepped poly (power poly (first + n)) 1 g g)) e (generator-next poly P first n g G)
+          let e : n + 1 ≡ suc n = omega arith in rw e at (generator-next poly P first n g G)
 
   some-rest : (g : ℕ → ℕ) → Monic parity g → (n : ℕ) (w : ℕ → ℕ) → ((i : ℕ) → w i < 256) → (k : ℕ) → k + parity ≤ n → (w′ : ℕ → ℕ) × Divided poly parity g n k w w′
   some-rest g M n w b zero h = (w, divided-start poly P parity g M n w b)
@@ -110,8 +109,7 @@ module _ (poly : ℕ) (P : Primitive poly) (first parity : ℕ) (ds : List ℕ) 
       let e : k + 1 ≡ suc k = omega arith in
       let o : k + suc parity ≤ n = omega arith in (
         stepped poly (r .0 k) k (r .0) g,
-        subst (λ (m : ℕ). Divided poly parity g n m w (stepped poly (r .0 k) k (r .0) g)) e
-            (divided-next poly P parity g M n w k (r .0) (r .1) o),
+        rw e at (divided-next poly P parity g M n w k (r .0) (r .1) o),
       )
 
   pub some-completes : Bytes ds → (p : List ℕ) × CompletesCodeword poly first parity ds p
@@ -129,11 +127,13 @@ pub written-by : (poly : ℕ) → Primitive poly → (first k : ℕ) (block bloc
     → CompletesCodeword poly first (length block - k) (take k block) (drop k block′) → block′ ≡ writtenOf poly first (length block - k) block
 unfolding writtenOf
 written-by poly P first k block block′ bytes small h stay F =
-    sym (take-append-drop k block′) ∙ ap (λ (xs : List ℕ). xs ++ drop k block′) stay
-    ∙ sym ((let e : length block - (length block - k) ≡ k = omega arith in
-    ap (λ (m : ℕ). withParity (take m block) (parityOf poly first (length block - k) (take m block))) e)
-    ∙ ap (withParity (take k block)) (completes-found poly P first (length block - k) (take k block) (take-bytes k block bytes)
-    (omega (arith, length-take-le k block h)) (drop k block′) F))
+    let e : length block - (length block - k) ≡ k = omega arith in
+    sym (take-append-drop k block′) ∙ rw (
+      stay,
+      e,
+      completes-found poly P first (length block - k) (take k block) (take-bytes k block bytes)
+          (omega (arith, length-take-le k block h)) (drop k block′) F,
+    )
 
 -- ---- by plain division: w₁ are the data and zeros, w₂ the rest of their division
 
@@ -167,6 +167,6 @@ module _ (poly : ℕ) (P : Primitive poly) (k : ℕ) (block block′ w₁ w₂ :
   written first G =
       written-by poly P first k block block′ bytes small h data-stay
       (rest-completes poly P first (length block - k) ds k ds-length g (seq w₂) G
-      (subst (λ (w : ℕ → ℕ). Divided poly (length block - k) g (k + (length block - k)) k w (seq w₂)) data-zeros D) (drop k block′)
+      (rw data-zeros at D) (drop k block′)
       (length-drop k block′ ∙ ap (λ (n : ℕ). n - k) (E₂ .size))
       (λ i l. getD-drop k block′ i 0 ∙ E₂ .done (k + i) (omega arith) ∙ copied-high k w₂ (k + i) (seq block (k + i)) (omega arith)))

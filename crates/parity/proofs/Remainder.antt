@@ -1,5 +1,5 @@
 -- Polynomials as sequences: the generator, division by it, and the codeword that the rest makes. Assumes nothing.
-use Rattle.general.proofs.Names.{_≡_, refl, sym, ap, ap₂, _∙_, subst, fun-ext, List, if-pos, if-neg, ℕ, zero, suc, _+_, _-_, _%_, _≤_, _<_, arith, add-one}
+use Rattle.general.proofs.Names.{_≡_, refl, sym, ap, _∙_, fun-ext, List, if-pos, if-neg, ℕ, zero, suc, _+_, _-_, _%_, _≤_, _<_, arith, add-one}
 use Rattle.general.proofs.Names.{add-zero, add-suc, ℕ-discrete, decLt, xor-self, xor-zero-l, xor-zero-r}
 use Rattle.field.specs.Field.{power, mul}
 use Rattle.field.proofs.Xor.{xor-swap}
@@ -25,8 +25,7 @@ unfolding Tail stepped
 whole poly q m l top f f′ g E t h = fun-ext (λ i. elim (decLt i top) [
   | yes u ↦ E .done i u
   | no u ↦ E .rest i (omega arith)
-      ∙ sym (stepped-high poly q m (seq f) (seq g) i (omega arith) ∙ ap (λ (x : ℕ). seq f i ⊕ mul poly q x) (t (i - m) (omega arith))
-      ∙ ap (λ (x : ℕ). seq f i ⊕ x) (mul-right-zero poly q) ∙ xor-zero-r (seq f i))
+      ∙ sym (stepped-high poly q m (seq f) (seq g) i (omega arith) ∙ rw (t (i - m) (omega arith), mul-right-zero, xor-zero-r))
 ])
 
 -- ---- values
@@ -35,30 +34,25 @@ module _ (poly x : ℕ) where
   horner-zeros : (f : ℕ → ℕ) (n : ℕ) → ((i : ℕ) → i < n → f i ≡ 0) → horner poly f x n ≡ 0
   unfolding horner
   horner-zeros f zero z = refl
-  horner-zeros f (suc n) z =
-      ap₂ (λ (a b : ℕ). mul poly a x ⊕ b) (horner-zeros f n (λ i h. z i (omega arith))) (z n (omega arith)) ∙ ap (λ (a : ℕ). a ⊕ 0) (mul-left-zero poly x)
+  horner-zeros f (suc n) z = rw (horner-zeros f n (λ i h. z i (omega arith)), z n (omega arith), mul-left-zero)
 
   -- zeros in front
   horner-moved : (g : ℕ → ℕ) (m r : ℕ) → horner poly (moved m g) x (m + r) ≡ horner poly g x r
   unfolding horner
-  horner-moved g m zero = ap (horner poly (moved m g) x) (add-zero m) ∙ horner-zeros (moved m g) m (moved-low m g)
-  horner-moved g m (suc r) =
-      ap (horner poly (moved m g) x) (add-suc m r)
-      ∙ ap₂ (λ (a b : ℕ). mul poly a x ⊕ b) (horner-moved g m r) (moved-high m g (m + r) (omega arith) ∙ (let e : m + r - m ≡ r = omega arith in ap g e))
+  horner-moved g m zero = rw add-zero (horner-zeros (moved m g) m (moved-low m g))
+  horner-moved g m (suc r) = let e : m + r - m ≡ r = omega arith in rw (add-suc, horner-moved g m r, moved-high m g (m + r) (omega arith), e)
 
   -- zeros behind
   module _ (g : ℕ → ℕ) (d : ℕ) (t : Tail g d) (z : horner poly g x (suc d) ≡ 0) where
     horner-behind : (s : ℕ) → horner poly g x (suc d + s) ≡ 0
     unfolding horner Tail
-    horner-behind zero = ap (horner poly g x) (add-zero (suc d)) ∙ z
-    horner-behind (suc s) =
-        ap (horner poly g x) (add-suc (suc d) s)
-        ∙ ap₂ (λ (a b : ℕ). mul poly a x ⊕ b) (horner-behind s) (t (suc d + s) (omega arith)) ∙ ap (λ (a : ℕ). a ⊕ 0) (mul-left-zero poly x)
+    horner-behind zero = rw add-zero z
+    horner-behind (suc s) = rw (add-suc, horner-behind s, t (suc d + s) (omega arith), mul-left-zero)
 
     moved-root : (m n : ℕ) → m + suc d ≤ n → horner poly (moved m g) x n ≡ 0
     moved-root m n h =
-        (let e : n ≡ m + (suc d + (n - (m + suc d))) = omega arith in ap (horner poly (moved m g) x) e)
-        ∙ horner-moved g m (suc d + (n - (m + suc d))) ∙ horner-behind (n - (m + suc d))
+        let e : n ≡ m + (suc d + (n - (m + suc d))) = omega arith in
+        ap (horner poly (moved m g) x) e ∙ horner-moved g m (suc d + (n - (m + suc d))) ∙ horner-behind (n - (m + suc d))
 
   module _ (P : Primitive poly) where
     horner-stepped : (q m : ℕ) (f g : ℕ → ℕ) (n : ℕ) → horner poly (stepped poly q m f g) x n ≡ horner poly f x n ⊕ mul poly q (horner poly (moved m g) x n)
@@ -67,18 +61,15 @@ module _ (poly x : ℕ) where
     horner-stepped q m f g (suc n) =
         let F = horner poly f x n in
         let G = horner poly (moved m g) x n in
-        ap (λ (a : ℕ). mul poly a x ⊕ (f n ⊕ mul poly q (moved m g n))) (horner-stepped q m f g n)
-        ∙ ap (λ (a : ℕ). a ⊕ (f n ⊕ mul poly q (moved m g n))) (sum-mul poly P F (mul poly q G) x ∙ ap (λ (a : ℕ). mul poly F x ⊕ a) (mul-assoc poly P q G x))
-        ∙ xor-swap (mul poly F x) (mul poly q (mul poly G x)) (f n) (mul poly q (moved m g n))
-        ∙ ap (λ (a : ℕ). (mul poly F x ⊕ f n) ⊕ a) (sym (mul-add poly P q (mul poly G x) (moved m g n)))
+        rw (horner-stepped q m f g n, sum-mul poly P F (mul poly q G) x, mul-assoc poly P q G x, mul-add poly P q (mul poly G x) (moved m g n))
+        (xor-swap (mul poly F x) (mul poly q (mul poly G x)) (f n) (mul poly q (moved m g n)))
 
     horner-add : (f g : ℕ → ℕ) (n : ℕ) → horner poly (λ i. f i ⊕ g i) x n ≡ horner poly f x n ⊕ horner poly g x n
     unfolding horner
     horner-add f g zero = refl
     horner-add f g (suc n) =
-        ap (λ (a : ℕ). mul poly a x ⊕ (f n ⊕ g n)) (horner-add f g n)
-        ∙ ap (λ (a : ℕ). a ⊕ (f n ⊕ g n)) (sum-mul poly P (horner poly f x n) (horner poly g x n) x)
-        ∙ xor-swap (mul poly (horner poly f x n) x) (mul poly (horner poly g x n) x) (f n) (g n)
+        rw (horner-add f g n, sum-mul poly P (horner poly f x n) (horner poly g x n) x)
+        (xor-swap (mul poly (horner poly f x n) x) (mul poly (horner poly g x n) x) (f n) (g n))
 
 -- ---- the generator
 
@@ -89,8 +80,7 @@ generator-start poly first g u z = record { monic = record { unit = u; tail = λ
 rooted-stepped : (poly a : ℕ) (f : ℕ → ℕ) (i : ℕ) → stepped poly a 1 f f i ≡ rooted poly a f i
 unfolding rooted
 rooted-stepped poly a f zero = stepped-low poly a 1 f f 0 (omega arith)
-rooted-stepped poly a f (suc i) = stepped-high poly a 1 f f (suc i) (omega arith)
-    ∙ (let e : suc i - 1 ≡ i = omega arith in ap (λ (k : ℕ). f (suc i) ⊕ mul poly a (f k)) e)
+rooted-stepped poly a f (suc i) = let e : suc i - 1 ≡ i = omega arith in stepped-high poly a 1 f f (suc i) (omega arith) ∙ rw e
 
 -- times x + α^(first + n)
 pub generator-next : (poly : ℕ) → Primitive poly → (first n : ℕ) (g : ℕ → ℕ) → Generator poly first n g
@@ -111,22 +101,18 @@ generator-next poly P first n g G = record {
 
     none : (j : ℕ) → j < n + 1 → mul poly (power poly (first + j) ⊕ a) (horner poly g (power poly (first + j)) (suc n)) ≡ 0
     none j h = elim (ℕ-discrete j n) [
-      | yes e ↦ ap (λ (k : ℕ). mul poly (power poly (first + k) ⊕ a) (horner poly g (power poly (first + j)) (suc n))) e
-          ∙ ap (λ (y : ℕ). mul poly y (horner poly g (power poly (first + j)) (suc n))) (xor-self a)
-          ∙ mul-left-zero poly (horner poly g (power poly (first + j)) (suc n))
-      | no d ↦ ap (mul poly (power poly (first + j) ⊕ a)) (G .roots j (omega arith)) ∙ mul-right-zero poly (power poly (first + j) ⊕ a)
+      | yes e ↦ rw (e, xor-self) (mul-left-zero poly (horner poly g a (suc n)))
+      | no d ↦ rw (G .roots j (omega arith)) (mul-right-zero poly (power poly (first + j) ⊕ a))
     ]
 
 -- the same on arrays
 pub multiplied : (poly : ℕ) → Primitive poly → (first n a : ℕ) (g g′ : List ℕ) → Generator poly first n (seq g) → a ≡ power poly (first + n)
     → Each (added poly a 1 g) (n + 2) g g′ → Generator poly first (n + 1) (seq g′)
 multiplied poly P first n a g g′ G e E =
-    subst (Generator poly first (n + 1))
-    (sym (whole poly a 1 n (n + 2) g g′ g E (G .monic .tail) (omega arith) ∙ ap (λ (b : ℕ). stepped poly b 1 (seq g) (seq g)) e))
-    (generator-next poly P first n (seq g) G)
+    rw (whole poly a 1 n (n + 2) g g′ g E (G .monic .tail) (omega arith), e) (generator-next poly P first n (seq g) G)
 
 pub generator-end : (poly first n m : ℕ) (g : ℕ → ℕ) → Generator poly first n g → n ≤ m → m ≤ n → Generator poly first m g
-generator-end poly first n m g G h k = let e : n ≡ m = omega arith in subst (λ (x : ℕ). Generator poly first x g) e G
+generator-end poly first n m g G h k = let e : n ≡ m = omega arith in rw e at G
 
 pub generator-monic : (poly first n m : ℕ) (g : ℕ → ℕ) → Generator poly first n g → n ≤ m → m ≤ n → Monic m g
 generator-monic poly first n m g G h k = generator-end poly first n m g G h k .monic
@@ -147,26 +133,23 @@ module _ (poly : ℕ) (P : Primitive poly) (d : ℕ) (g : ℕ → ℕ) (M : Moni
     ];
     same = λ x z.
         horner-stepped poly x P (w′ i) i w′ g n
-        ∙ ap (λ (y : ℕ). horner poly w′ x n ⊕ mul poly (w′ i) y) (moved-root poly x g d (M .tail) z i n h)
-        ∙ ap (λ (y : ℕ). horner poly w′ x n ⊕ y) (mul-right-zero poly (w′ i)) ∙ xor-zero-r (horner poly w′ x n) ∙ D .same x z;
+        ∙ rw (moved-root poly x g d (M .tail) z i n h, mul-right-zero, xor-zero-r) (D .same x z);
   }
     where
       gone : stepped poly (w′ i) i w′ g i ≡ 0
       gone =
-          stepped-high poly (w′ i) i w′ g i (omega arith)
-          ∙ (let e : i - i ≡ 0 = omega arith in ap (λ (k : ℕ). w′ i ⊕ mul poly (w′ i) (g k)) e)
-          ∙ ap (λ (y : ℕ). w′ i ⊕ mul poly (w′ i) y) (M .unit)
-          ∙ ap (λ (y : ℕ). w′ i ⊕ y) (mul-one poly P (w′ i) ∙ (let b : w′ i % 256 ≡ w′ i = omega (arith, D .bytes i) in b)) ∙ xor-self (w′ i)
+          let e : i - i ≡ 0 = omega arith in
+          let b : w′ i % 256 ≡ w′ i = omega (arith, D .bytes i) in
+          stepped-high poly (w′ i) i w′ g i (omega arith) ∙ rw (e, M .unit, mul-one poly P (w′ i), b) (xor-self (w′ i))
 
 -- the same on arrays
 pub reduced : (poly : ℕ) → Primitive poly → (d n i : ℕ) (g w w′ w″ : List ℕ) → Monic d (seq g) → Divided poly d (seq g) n i (seq w) (seq w′) → i + suc d ≤ n
     → Each (added poly (seq w′ i) i g) (i + d + 1) w′ w″ → Divided poly d (seq g) n (i + 1) (seq w) (seq w″)
 reduced poly P d n i g w w′ w″ M D h E =
-    subst (Divided poly d (seq g) n (i + 1) (seq w)) (sym (whole poly (seq w′ i) i d (i + d + 1) w′ w″ g E (M .tail) (omega arith)))
-    (divided-next poly P d (seq g) M n (seq w) i (seq w′) D h)
+    rw (whole poly (seq w′ i) i d (i + d + 1) w′ w″ g E (M .tail) (omega arith)) (divided-next poly P d (seq g) M n (seq w) i (seq w′) D h)
 
 pub divided-end : (poly d : ℕ) (g : ℕ → ℕ) (n i k : ℕ) (w w′ : ℕ → ℕ) → Divided poly d g n i w w′ → i ≤ k → k ≤ i → Divided poly d g n k w w′
-divided-end poly d g n i k w w′ D h l = let e : i ≡ k = omega arith in subst (λ (x : ℕ). Divided poly d g n x w w′) e D
+divided-end poly d g n i k w w′ D h l = let e : i ≡ k = omega arith in rw e at D
 
 -- data w with zeros behind them, and the rest w′ of their division: data followed by the rest are zero wherever g is
 pub joined-root : (poly : ℕ) → Primitive poly → (d : ℕ) (g : ℕ → ℕ) (n k : ℕ) (w w′ b : ℕ → ℕ) → Divided poly d g n k w w′
@@ -175,10 +158,10 @@ pub joined-root : (poly : ℕ) → Primitive poly → (d : ℕ) (g : ℕ → ℕ
 joined-root poly P d g n k w w′ b D z front back x r =
     horner-ext poly b (λ i. w i ⊕ w′ i) x n
     (λ i h. elim (decLt i k) [
-      | yes l ↦ front i l ∙ sym (ap (λ (y : ℕ). w i ⊕ y) (D .front i l) ∙ xor-zero-r (w i))
-      | no l ↦ back i (omega arith) h ∙ sym (ap (λ (y : ℕ). y ⊕ w′ i) (z i (omega arith)) ∙ xor-zero-l (w′ i))
+      | yes l ↦ front i l ∙ rw (D .front i l, xor-zero-r)
+      | no l ↦ back i (omega arith) h ∙ rw (z i (omega arith), xor-zero-l)
     ])
-    ∙ horner-add poly x P w w′ n ∙ ap (λ (y : ℕ). horner poly w x n ⊕ y) (D .same x r) ∙ xor-self (horner poly w x n)
+    ∙ horner-add poly x P w w′ n ∙ rw (D .same x r) (xor-self (horner poly w x n))
 
 -- ---- copying from a place on
 
