@@ -113,10 +113,8 @@ module _ (poly : ℕ) (P : Primitive poly) where
   unfolding behind
   behind-double x e r =
       let d = digits poly x in
-      ap (λ (y : ℕ). d (d (d y 8 (doubleOf poly 8 (r .b))) 8 (doubleOf poly 8 (r .c))) 8 (doubleOf poly 8 (r .d))) (digits-double x 8 e (r .a))
-      ∙ ap (λ (y : ℕ). d (d y 8 (doubleOf poly 8 (r .c))) 8 (doubleOf poly 8 (r .d))) (digits-double x 8 (d e 8 (r .a)) (r .b))
-      ∙ ap (λ (y : ℕ). d y 8 (doubleOf poly 8 (r .d))) (digits-double x 8 (d (d e 8 (r .a)) 8 (r .b)) (r .c))
-      ∙ digits-double x 8 (d (d (d e 8 (r .a)) 8 (r .b)) 8 (r .c)) (r .d)
+      rw (digits-double x 8 e (r .a), digits-double x 8 (d e 8 (r .a)) (r .b), digits-double x 8 (d (d e 8 (r .a)) 8 (r .b)) (r .c))
+      (digits-double x 8 (d (d (d e 8 (r .a)) 8 (r .b)) 8 (r .c)) (r .d))
 
   pub zero-double : (x v : ℕ) (r : Register) → Zero poly x v r → Zero poly x (doubleOf poly 4 v) (doubledOf poly r)
   zero-double x v r z =

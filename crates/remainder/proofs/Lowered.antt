@@ -44,11 +44,8 @@ behind-horner : (poly x : ℕ) (r : Register) → behind poly x 0 r ≡ horner p
 unfolding behind horner wordAt
 behind-horner poly x r =
     let f = byteAt r in
-    let d = digits poly x in
-    ap (λ (y : ℕ). d (d (d y 8 (r .b)) 8 (r .c)) 8 (r .d)) (digits-horner poly x f 0 8 (r .a) (λ k h. byte-in r 0 k h))
-    ∙ ap (λ (y : ℕ). d (d y 8 (r .c)) 8 (r .d)) (digits-horner poly x f 8 8 (r .b) (λ k h. byte-in r 1 k h))
-    ∙ ap (λ (y : ℕ). d y 8 (r .d)) (digits-horner poly x f 16 8 (r .c) (λ k h. byte-in r 2 k h))
-    ∙ digits-horner poly x f 24 8 (r .d) (λ k h. byte-in r 3 k h)
+    rw (digits-horner poly x f 0 8 (r .a) (byte-in r 0), digits-horner poly x f 8 8 (r .b) (byte-in r 1), digits-horner poly x f 16 8 (r .c) (byte-in r 2))
+    (digits-horner poly x f 24 8 (r .d) (byte-in r 3))
 
 pub bytes-value : (poly x : ℕ) (r : Register) (s : List ℕ) → length s ≡ 32 → ((i : ℕ) → i < 32 → seq s i ≡ byteAt r i) → eval poly x s ≡ behind poly x 0 r
 bytes-value poly x r s e h = eval-horner poly x s ∙ ap (horner poly (seq s) x) e ∙ horner-ext poly (seq s) (byteAt r) x 32 h ∙ sym (behind-horner poly x r)

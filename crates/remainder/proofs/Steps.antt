@@ -26,11 +26,9 @@ module _ (poly : ℕ) (P : Primitive poly) (x : ℕ) where
   add-row m e h y i n row w z =
       let f = y / 2 ^ (4 * i) % 16 in
       let lo = y % 2 ^ (4 * i) in
-      ap (λ (a : ℕ). behind poly x a (sumOf n row))
-      (ap₂ (λ (a b : ℕ). digits poly x a m b) (sym (xor-zero-r e)) (ap (bitXor h) (sym (low-next y i)) ∙ sym (xor-assoc h lo (f * 2 ^ (4 * i))))
-      ∙ digits-sum poly P x m e 0 (bitXor h lo) (f * 2 ^ (4 * i)))
-      ∙ behind-sum poly P x (digits poly x e m (bitXor h lo)) (digits poly x 0 m (f * 2 ^ (4 * i))) n row
-      ∙ ap₂ bitXor z w
+      let s = rw xor-zero-r at (digits-sum poly P x m e 0 (bitXor h lo) (f * 2 ^ (4 * i))) in
+      rw (← (low-next y i), ← (xor-assoc h lo (f * 2 ^ (4 * i))), s)
+      (behind-sum poly P x (digits poly x e m (bitXor h lo)) (digits poly x 0 m (f * 2 ^ (4 * i))) n row ∙ ap₂ bitXor z w)
 
 module _ (poly x : ℕ) (t : List ℕ) (R : Rows poly x t) where
   P : Primitive poly
@@ -53,8 +51,7 @@ no-digits h y = let o : y % 1 ≡ 0 = omega arith in ap (bitXor h) o ∙ xor-zer
 pub all-digits : (y i : ℕ) → i ≤ 8 → 8 ≤ i → y < 2 ^ 32 → y % 2 ^ (4 * i) ≡ y
 all-digits y i a b l =
     let e : 4 * i ≡ 32 = omega arith in
-    let m : y % 4294967296 ≡ y = omega arith in
-    ap (λ (n : ℕ). y % 2 ^ n) e ∙ m
+    let m : y % 4294967296 ≡ y = omega arith in rw e m
 
 back : (h v : ℕ) → bitXor h (bitXor h v) ≡ v
 back h v = sym (xor-assoc h h v) ∙ ap (λ (a : ℕ). bitXor a v) (xor-self h) ∙ xor-zero-l v
@@ -122,10 +119,7 @@ front-lt xs (suc (suc (suc (suc i)))) v F h = absurd (omega arith)
 -- nothing followed by nothing
 pub empty-zero : (poly : ℕ) → Primitive poly → (x : ℕ) → behind poly x 0 (record { a = 0; b = 0; c = 0; d = 0 }) ≡ 0
 unfolding behind
-empty-zero poly P x =
-    ap (λ (y : ℕ). digits poly x (digits poly x (digits poly x y 8 0) 8 0) 8 0) (digits-none poly P x 8)
-    ∙ ap (λ (y : ℕ). digits poly x (digits poly x y 8 0) 8 0) (digits-none poly P x 8)
-    ∙ ap (λ (y : ℕ). digits poly x y 8 0) (digits-none poly P x 8) ∙ digits-none poly P x 8
+empty-zero poly P x = simp (digits-none poly P x 8)
 
 -- nothing read
 pub left-none : (Root : ℕ → Type 0) (block : List ℕ) → Left Root 0 block (record { a = 0; b = 0; c = 0; d = 0 })
