@@ -1,5 +1,5 @@
 -- What stands in the table of a field: logarithms and powers, and so products and quotients. Assumes nothing.
-use Rattle.general.proofs.Names.{_≡_, refl, sym, ap, _∙_, subst, List, _++_, ℕ, zero, suc, _+_, _-_, _*_, _%_, _^_, _≤_, _<_, arith, ℕ-discrete}
+use Rattle.general.proofs.Names.{_≡_, refl, sym, ap, _∙_, List, _++_, ℕ, zero, suc, _+_, _-_, _*_, _%_, _^_, _≤_, _<_, arith, ℕ-discrete}
 use Rattle.general.proofs.Names.{decLt, T, bitXor, xor-block, xor-zero-l, xor-self, length, getD, replicate, getD-replicate}
 use Rattle.general.proofs.Names.{List·getD-append, getD-append-add}
 use Rattle.field.specs.Field.{raised, timesAlpha, power, powers, log, times, mul, orderTest}
@@ -81,31 +81,30 @@ module _ (t : List ℕ) (F : Field t) where
   -- a times α^n
   pub scaled-at : (a n : ℕ) → a < 256 → n ≤ 255 → getD t (256 + (getD t a 0 + n)) 0 ≡ mul poly a (power poly n)
   scaled-at a n h l = elim (ℕ-discrete a 0) [
-    | yes e ↦ (let z : getD t a 0 ≡ 510 = ap (λ (x : ℕ). getD t x 0) e ∙ log-zero in
-        zero-at (getD t a 0 + n) (omega arith) (omega arith) ∙ sym (ap (λ (x : ℕ). mul poly x (power poly n)) e ∙ mul-left-zero poly (power poly n)))
+    | yes e ↦ rw (e, log-zero, zero-at (510 + n) (omega arith) (omega arith)) (sym (mul-left-zero poly (power poly n)))
     | no d ↦ (let p = log-pos a (omega arith) h in
-        power-at (getD t a 0 + n) (omega arith)
-        ∙ ap (λ (k : ℕ). power poly (k + n)) (p .0)
-        ∙ sym (mul-power poly the-field (log poly a) n)
-        ∙ ap (λ (x : ℕ). mul poly x (power poly n)) (power-log poly the-field a (omega arith) h))
+        power-at (getD t a 0 + n) (omega arith) ∙ rw (p .0, ← (mul-power poly the-field (log poly a) n), power-log poly the-field a (omega arith) h))
   ]
 
   pub product-at : (a b : ℕ) → a < 256 → b < 256 → getD t (256 + (getD t a 0 + getD t b 0)) 0 ≡ mul poly a b
   product-at a b ha hb = elim (ℕ-discrete b 0) [
-    | yes e ↦ (let z : getD t b 0 ≡ 510 = ap (λ (x : ℕ). getD t x 0) e ∙ log-zero in
-        zero-at (getD t a 0 + getD t b 0) (omega arith) (omega (arith, log-le a ha)) ∙ sym (ap (mul poly a) e ∙ mul-right-zero poly a))
+    | yes e ↦ rw (e, log-zero, zero-at (getD t a 0 + 510) (omega arith) (omega (arith, log-le a ha))) (sym (mul-right-zero poly a))
     | no d ↦ (let p = log-pos b (omega arith) hb in
-        scaled-at a (getD t b 0) ha (omega arith) ∙ ap (mul poly a) (ap (power poly) (p .0) ∙ power-log poly the-field b (omega arith) hb))
+        scaled-at a (getD t b 0) ha (omega arith) ∙ rw (p .0, power-log poly the-field b (omega arith) hb))
   ]
 
   -- a by b
   pub quotient-at : (a b : ℕ) → a < 256 → 0 < b → b < 256 → mul poly (getD t (256 + (getD t a 0 + (255 - getD t b 0))) 0) b ≡ a
   quotient-at a b ha pb hb =
       let p = log-pos b pb hb in
-      ap (λ (x : ℕ). mul poly x b) (scaled-at a (255 - getD t b 0) ha (omega arith) ∙ ap (λ (k : ℕ). mul poly a (power poly (255 - k))) (p .0))
-      ∙ mul-assoc poly the-field a (power poly (255 - log poly b)) b
-      ∙ ap (mul poly a) (mul-comm poly the-field (power poly (255 - log poly b)) b ∙ mul-inverse poly the-field b pb hb)
-      ∙ mul-one poly the-field a ∙ (let z : a % 256 ≡ a = omega arith in z)
+      let z : a % 256 ≡ a = omega arith in
+      rw (
+        scaled-at a (255 - getD t b 0) ha (omega arith),
+        p .0,
+        mul-assoc poly the-field a (power poly (255 - log poly b)) b,
+        mul-comm poly the-field (power poly (255 - log poly b)) b,
+        mul-inverse poly the-field b pb hb,
+      ) (mul-one poly the-field a ∙ z)
 
 -- α^8 is the polynomial without its highest term
 alpha-eight : (poly : ℕ) → 256 ≤ poly → poly < 512 → power poly 8 ≡ poly - 256
@@ -123,4 +122,4 @@ poly-of-table poly test =
 pub field-of : (poly : ℕ) → T (orderTest poly) → Field (tableOf poly)
 field-of poly test =
     let e = poly-of-table poly test in
-    record { test = subst (λ (p : ℕ). T (orderTest p)) (sym e) test; is = ap tableOf (sym e) }
+    record { test = rw e test; is = rw e }
