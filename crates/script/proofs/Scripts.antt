@@ -2,7 +2,7 @@
 use Rattle.general.proofs.Names.{_≡_, refl, Bool, true, false, cond, _&&_, Option, none, some, bind, List, [], _∷_, _++_, flatMap, ℕ, zero, suc, _+_, _*_}
 use Rattle.general.proofs.Names.{_/_, _%_, _<_, _≤_, arith, eqb-true, eqb-false, ltb-false, ltb-true, leb-true, eq-eqb, ne-eqb, ltb, eqb, leb, length, getD}
 use Rattle.general.proofs.Names.{take, drop, take-append-drop, getD-drop, length-take-le}
-use Rattle.bits.proofs.Tests.{never}
+use Rattle.bits.proofs.Tests.{never, chosen, chosen-less}
 use Rattle.segments.specs.Script.{Segment, run, eci, bytesOf, commandOf, payloadOf, scriptOf}
 use Rattle.script.specs.Check.{allowed, taking, segmentAt, commands}
 use Rattle.script.specs.Inner.{lengthOperand, valueOperand, with}
@@ -47,15 +47,6 @@ front-1 : (s : List ℕ) → 0 < length s → getD s 0 0 ≡ 7 → 7 ∷ drop 1 
 front-1 [] h e = absurd (omega arith)
 front-1 (x ∷ s) h e = rw (← e)
 
--- what an allowed length is
-numeric-allowed : (mode n : ℕ) → allowed mode n ≡ true → mode ≡ 1 → 0 < n
-unfolding allowed
-numeric-allowed mode n h e = ltb-true 0 n (rw (eq-eqb mode 1 e) at h)
-
-bytes-allowed : (mode n : ℕ) → allowed mode n ≡ true → mode ≡ 3 → n ≤ 8191
-unfolding allowed
-bytes-allowed mode n h e = leb-true n 8191 (rw (ne-eqb mode 1 (λ g. omega arith), eq-eqb mode 3 e) at h)
-
 module _ (s p : List ℕ) (b : (i : ℕ) → getD s i 0 < 256) (l : 0 < length s) where
   abbrev mode : ℕ
   mode = getD s 0 0
@@ -64,43 +55,31 @@ module _ (s p : List ℕ) (b : (i : ℕ) → getD s i 0 < 256) (l : 0 < length s
   front-taking : (m n : ℕ) → runCommand m n ++ drop (length (runCommand m n)) s ≡ s → 1 ≤ m → m ≤ 7 → (m ≡ 1 → 0 < n)
       → (m ≡ 3 → n ≤ 8191)
       → Front s p (taking m n p)
-  front-taking m n c m1 m7 d1 d3 = go (ltb (length p) n) refl
-    where
-      go : (x : Bool) → ltb (length p) n ≡ x → Front s p (cond x none (some (run m (take n p))))
-      go true e = tt
-      go false e =
-          let k : length (take n p) ≡ n = length-take-le n p (ltb-false (length p) n e) in
-          (rw k c, rw k (take-append-drop n p), (m1, m7, λ q. rw k (d1 q), λ q. rw k (d3 q)))
+  front-taking m n c m1 m7 d1 d3 =
+      chosen-less (Front s p) (length p) n (λ e. tt)
+      (λ e. let k = length-take-le n p e in (rw k c, rw k (take-append-drop n p), (m1, m7, λ q. rw k (d1 q), λ q. rw k (d3 q))))
 
-  front-run : (1 ≤ mode) × (mode ≤ 6) → (x : Bool) → ltb (length s) 3 ≡ x → (y : Bool) → allowed mode (lengthOperand s) ≡ y
-      → Front s p (cond x none (cond y (taking mode (lengthOperand s) p) none))
-  front-run m true e y f = tt
-  front-run m false e false f = tt
-  front-run m false e true f =
-      front-taking mode (lengthOperand s) (rw (ne-eqb mode 7 (λ q. omega arith)) (front-3 s mode (ltb-false (length s) 3 e) b refl)) (m .0) (omega arith)
-      (numeric-allowed mode (lengthOperand s) f) (bytes-allowed mode (lengthOperand s) f)
-
-  front-eci : mode ≡ 8 → (x : Bool) → ltb (length s) 4 ≡ x → (y : Bool) → ltb 2097151 (valueOperand s) ≡ y
-      → Front s p (cond x none (cond y none (some (eci (valueOperand s)))))
-  front-eci e true f y g = tt
-  front-eci e false f true g = tt
-  front-eci e false f false g = (front-4 s (ltb-false (length s) 4 f) b e, refl, ltb-false 2097151 (valueOperand s) g)
+  -- an allowed length
+  front-run : (1 ≤ mode) × (mode ≤ 6) → 3 ≤ length s → allowed mode (lengthOperand s) ≡ true → Front s p (taking mode (lengthOperand s) p)
+  unfolding allowed
+  front-run m e f =
+      front-taking mode (lengthOperand s) (rw (ne-eqb mode 7 (λ q. omega arith)) (front-3 s mode e b refl)) (m .0) (omega arith)
+      (λ q. ltb-true 0 (lengthOperand s) (rw (eq-eqb mode 1 q) at f))
+      (λ q. leb-true (lengthOperand s) 8191 (rw (ne-eqb mode 1 (λ g. omega arith), eq-eqb mode 3 q) at f))
 
   front : Front s p (segmentAt s p)
   unfolding segmentAt
-  front = go (eqb mode 7) refl (eqb mode 8) refl (leb 1 mode && leb mode 6) refl
-    where
-      go : (x : Bool) → eqb mode 7 ≡ x → (y : Bool) → eqb mode 8 ≡ y → (z : Bool) → (leb 1 mode && leb mode 6) ≡ z
-          → Front s p
-          (cond x (taking 7 4 p)
-          (cond y (cond (ltb (length s) 4) none (cond (ltb 2097151 (valueOperand s)) none (some (eci (valueOperand s)))))
-          (cond z (cond (ltb (length s) 3) none (cond (allowed mode (lengthOperand s)) (taking mode (lengthOperand s) p) none)) none)))
-      go true e y f z g = front-taking 7 4 (front-1 s l (eqb-true mode 7 e)) (omega arith) (omega arith) (λ q. omega arith) (λ q. omega arith)
-      go false e true f z g = front-eci (eqb-true mode 8 f) (ltb (length s) 4) refl (ltb 2097151 (valueOperand s)) refl
-      go false e false f false g = tt
-      go false e false f true g =
-          let k = both (leb 1 mode) (leb mode 6) g in
-          front-run (leb-true 1 mode (k .0), leb-true mode 6 (k .1)) (ltb (length s) 3) refl (allowed mode (lengthOperand s)) refl
+  front =
+      chosen (Front s p) (eqb mode 7)
+      (λ e. front-taking 7 4 (front-1 s l (eqb-true mode 7 e)) (omega arith) (omega arith) (λ q. omega arith) (λ q. omega arith))
+      (λ e. chosen (Front s p) (eqb mode 8)
+      (λ f. chosen-less (Front s p) (length s) 4 (λ g. tt)
+      (λ g. chosen-less (Front s p) 2097151 (valueOperand s) (λ k. tt) (λ k. (front-4 s g b (eqb-true mode 8 f), refl, k))))
+      (λ f. chosen (Front s p) (leb 1 mode && leb mode 6)
+      (λ g. let k = both (leb 1 mode) (leb mode 6) g in
+      chosen-less (Front s p) (length s) 3 (λ q. tt)
+      (λ q. chosen (Front s p) (allowed mode (lengthOperand s)) (front-run (leb-true 1 mode (k .0), leb-true mode 6 (k .1)) q) (λ r. tt)))
+      (λ g. tt)))
 
 -- ---- all of them
 
@@ -135,16 +114,15 @@ module _ (k : ℕ) (s p : List ℕ) (gs : List Segment) (b : (i : ℕ) → getD 
   taken none f h = never cc
   taken (some g) f h = rest g f (behind g) refl h
 
-  more : (x : Bool) → eqb (length s) 0 ≡ x → (y : Bool) → eqb (length p) 0 ≡ y
-      → cond x (cond y (some []) none) (bind (segmentAt s p) (λ g. with g (behind g))) ≡ some gs → Again s p gs
+  more : cond (eqb (length s) 0) (cond (eqb (length p) 0) (some []) none) (bind (segmentAt s p) (λ g. with g (behind g))) ≡ some gs → Again s p gs
   unfolding scriptOf payloadOf flatMap
-  more true q false r h = never cc
-  more true q true r h =
-      let g : gs ≡ [] = cc in
-      rw (g, empty s (eqb-true (length s) 0 q), empty p (eqb-true (length p) 0 r)) (refl, refl, tt)
-  more false q y r h = taken (segmentAt s p) (front s p b (positive (length s) (eqb-false (length s) 0 q))) h
+  more =
+      chosen (λ z. z ≡ some gs → Again s p gs) (eqb (length s) 0)
+      (λ q. chosen (λ z. z ≡ some gs → Again s p gs) (eqb (length p) 0)
+      (λ r h. let g : gs ≡ [] = cc in rw (g, empty s (eqb-true (length s) 0 q), empty p (eqb-true (length p) 0 r)) (refl, refl, tt)) (λ r h. never cc))
+      (λ q h. taken (segmentAt s p) (front s p b (positive (length s) (eqb-false (length s) 0 q))) h)
 
 pub commands-again : (k : ℕ) (s p : List ℕ) (gs : List Segment) → ((i : ℕ) → getD s i 0 < 256) → commands k s p ≡ some gs → Again s p gs
 unfolding commands
 commands-again zero s p gs b e = never cc
-commands-again (suc k) s p gs b e = more k s p gs b (commands-again k) (eqb (length s) 0) refl (eqb (length p) 0) refl e
+commands-again (suc k) s p gs b e = more k s p gs b (commands-again k) e
