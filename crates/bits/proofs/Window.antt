@@ -1,13 +1,13 @@
 -- Bits read by bytes: the bytes that hold some bits, as one number, shifted and cut.
 use Rattle.general.proofs.Names.{_≡_, refl, _∙_, sym, List, [], _∷_, _++_, flatMap, ℕ, zero, suc, _+_, _-_, _*_, _/_, _%_, _^_, _<_, _≤_, mod-eq-of-lt}
-use Rattle.general.proofs.Names.{lt-of-lt-of-le, one-mul, arith, le-leb, length, getD, take, drop, length-drop, take-add, drop-drop, length-take-le}
-use Rattle.general.proofs.Names.{getD-drop, take-at, drop-at}
+use Rattle.general.proofs.Names.{lt-of-lt-of-le, one-mul, arith, le-leb, length, getD, take, drop, take-add, drop-drop, length-take-le}
+use Rattle.general.proofs.Names.{take-at, drop-at}
 use lib.Pow.{high, low, pow-mono, shl-exact}
 use Rattle.bits.specs.declared.Word.the-variants.{Value}
 use Rattle.bits.specs.Bits.{lowBits, bitsOf, value, readBits, wordBits}
 use Rattle.bits.proofs.Reading.{length-left, value-lt}
 use Rattle.bits.proofs.Words.{length-low, value-low}
-use Rattle.bits.proofs.Bytes.{value-add, value-small, take-small}
+use Rattle.bits.proofs.Bytes.{value-add}
 
 value-append : (a : ℕ) (xs ys : List ℕ) → value a (xs ++ ys) ≡ value (value a xs) ys
 unfolding value

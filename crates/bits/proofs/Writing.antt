@@ -1,6 +1,6 @@
 -- Laws of writing: a flipped bit of a byte is a changed bit of the list, and what a turn of `write_bits` does.
-use Rattle.general.proofs.Names.{_≡_, refl, ap, _∙_, sym, ⊎-elim, List, [], _∷_, _++_, flatMap, ℕ, zero, suc, _+_, _-_, _*_, _/_, _%_, _^_, _<_, _≤_}
-use Rattle.general.proofs.Names.{mul-mod-left, div-eq-of-lt, pow-suc, div-self, le-of-suc-le-suc, one-mul, not-suc-le-zero, eq-or-lt-of-le, arith, length}
+use Rattle.general.proofs.Names.{_≡_, refl, ap, _∙_, sym, List, [], _∷_, _++_, flatMap, ℕ, zero, suc, _+_, _-_, _*_, _/_, _%_, _^_, _<_, _≤_}
+use Rattle.general.proofs.Names.{mul-mod-left, div-eq-of-lt, pow-suc, div-self, le-of-suc-le-suc, one-mul, not-suc-le-zero, arith, length}
 use Rattle.general.proofs.Names.{getD, set, sets, ℕ-discrete, set-append-left, set-getD, bitXor, xor-shr, xor-mod, xor-zero-r}
 use lib.Pow.{pow-add, shl-shr, pow-lt, pow-pos, shl-exact}
 use Rattle.bits.specs.Bits.{lowBits, bitsOf, wordBits}

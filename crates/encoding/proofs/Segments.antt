@@ -1,6 +1,6 @@
 -- Segments that are left to write.
-use Rattle.general.proofs.Names.{_≡_, refl, ap, _∙_, sym, Bool, true, false, cond, Option, none, some, List, [], _∷_, _++_, append-assoc, append-nil}
-use Rattle.general.proofs.Names.{flatMap, ℕ, zero, suc, _+_, _-_, _*_, _<_, _≤_, zero-add, add-zero, arith, eq-eqb, ltb-true, ltb-false, ltb, eqb, length}
+use Rattle.general.proofs.Names.{_≡_, refl, ap, _∙_, sym, true, Option, none, some, List, [], _∷_, _++_, append-assoc, append-nil}
+use Rattle.general.proofs.Names.{flatMap, ℕ, zero, suc, _+_, _-_, _*_, _<_, _≤_, zero-add, add-zero, arith, eq-eqb, eqb, length}
 use Rattle.general.proofs.Names.{getD, take, drop, replicate, length-append, length-drop, decLt}
 use Rattle.bits.specs.Bits.{bitsOf, words}
 use Rattle.bits.proofs.Tests.{never, chosen}

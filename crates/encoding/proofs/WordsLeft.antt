@@ -1,9 +1,9 @@
 -- Words that are left to write, and bits that are written one part after the other.
-use Rattle.general.proofs.Names.{_≡_, refl, _∙_, sym, subst, Bool, true, false, not, List, [], _∷_, _++_, append-assoc, append-nil, flatMap, ℕ, suc, _+_}
+use Rattle.general.proofs.Names.{_≡_, refl, _∙_, sym, Bool, true, not, List, [], _∷_, _++_, append-assoc, append-nil, flatMap, ℕ, suc, _+_}
 use Rattle.general.proofs.Names.{_-_, _*_, _/_, _%_, _^_, _<_, _≤_, mul-suc, mul-zero, add-zero, mod-lt, add-one, arith, length, getD, take, drop}
 use Rattle.general.proofs.Names.{length-append, length-drop, drop-of-length-le, drop-cons, drop-drop, take-all}
 use lib.Pow.{high, split, pow-pos}
-use Rattle.bits.specs.Bits.{bitsOf, lowBits, wordBits}
+use Rattle.bits.specs.Bits.{lowBits, wordBits}
 use Rattle.bits.proofs.Words.{length-low, length-words}
 use Rattle.bits.proofs.Bytes.{low-add}
 use Rattle.bits.proofs.Appending.{low-split}

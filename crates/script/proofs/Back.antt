@@ -1,5 +1,5 @@
 -- Segments that are written are read back, with zero bits behind them.
-use Rattle.general.proofs.Names.{_≡_, refl, ap, _∙_, Bool, true, false, cond, List, [], _∷_, _++_, append-assoc, flatMap, ℕ, zero, suc, _+_, _*_, _^_, _<_, drop-append-seam}
+use Rattle.general.proofs.Names.{_≡_, refl, _∙_, true, false, List, [], _∷_, _++_, append-assoc, flatMap, ℕ, zero, suc, _+_, _*_, _^_, _<_, drop-append-seam}
 use Rattle.general.proofs.Names.{_≤_, le-of-suc-le-suc, arith, ne-eqb, lt-ltb, le-ltb, ltb-true, ltb, length, getD, drop, replicate, length-append, take-at}
 use Rattle.general.proofs.Names.{drop-at}
 use Rattle.bits.specs.Bits.{lowBits, value, words, wordBits}

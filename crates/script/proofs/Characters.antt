@@ -1,5 +1,5 @@
 -- Bytes and pairs that are written in text mode, the regions and the two-byte mode are read back.
-use Rattle.general.proofs.Names.{_≡_, refl, _∙_, Bool, true, false, not, cond, List, [], _∷_, _++_, ℕ, suc, _+_, _/_, _<_, _≤_, arith, ne-eqb, lt-ltb}
+use Rattle.general.proofs.Names.{_≡_, refl, Bool, true, false, not, List, [], _∷_, _++_, ℕ, _+_, _/_, _<_, _≤_, arith, ne-eqb, lt-ltb}
 use Rattle.general.proofs.Names.{length, getD}
 use Rattle.segments.specs.Segments.{got, before, charOf, textOf, highOf, lowOf, regionSize, regionOf, doubleByteOf}
 use Rattle.script.specs.Writer.{allPairs, codeOf, inSubset, inText, textWords, pairCode, inRegion, inRegions, regionWords, doubleCode}

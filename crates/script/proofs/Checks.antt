@@ -1,7 +1,7 @@
 -- The check's steps: a command at a place of a script, and what it leaves of the answer.
-use Rattle.general.proofs.Names.{_≡_, refl, ap, _∙_, subst, sym, Bool, true, false, cond, _&&_, Option, none, some, bind, List, [], _∷_, ℕ, zero, suc, _+_}
-use Rattle.general.proofs.Names.{_-_, _*_, _/_, _%_, _<_, _≤_, add-zero, zero-add, add-assoc, arith, eq-eqb, ne-eqb, lt-ltb, le-ltb, lt-leb, le-leb}
-use Rattle.general.proofs.Names.{ltb-false, leb-true, ltb, eqb, leb, length, getD, take, drop, length-drop, getD-drop, drop-drop, length-take-le}
+use Rattle.general.proofs.Names.{_≡_, refl, ap, _∙_, sym, Bool, true, false, cond, _&&_, Option, none, some, bind, List, [], ℕ, zero, suc, _+_}
+use Rattle.general.proofs.Names.{_-_, _*_, _<_, _≤_, add-zero, zero-add, add-assoc, arith, eq-eqb, ne-eqb, lt-ltb, le-ltb, lt-leb, le-leb}
+use Rattle.general.proofs.Names.{leb-true, ltb, eqb, leb, length, getD, take, drop, length-drop, getD-drop, drop-drop, length-take-le}
 use Rattle.bits.proofs.Tests.{never, tested, chosen, chosen-less}
 use Rattle.segments.specs.Script.{Segment, run, eci, bytesOf, commandOf}
 use Rattle.script.specs.declared.Command.{Command}
@@ -42,37 +42,36 @@ module _ (s : List ℕ) (i : ℕ) where
   eci-cut h = rw (length-drop, lt-ltb (length s - i) 4 h)
 
   module _ (a b c : ℕ) (h : 4 ≤ length s - i) (ea : a ≡ getD s (i + 1) 0) (eb : b ≡ getD s (i + 2) 0) (ec : c ≡ getD s (i + 3) 0) where
-    pub eci-large : 2097151 < a * 65536 + b * 256 + c → Wrong ≡ eciAt (drop i s)
+    eci-is : eciAt (drop i s) ≡ cond (ltb 2097151 (a * 65536 + b * 256 + c)) Wrong (Eci (a * 65536 + b * 256 + c))
     unfolding eciAt
-    eci-large l =
-        rw (length-drop, le-ltb (length s - i) 4 h, getD-drop, getD-drop, getD-drop, ← ea, ← eb, ← ec, lt-ltb 2097151 (a * 65536 + b * 256 + c) l)
+    eci-is = rw (length-drop, le-ltb (length s - i) 4 h, getD-drop, getD-drop, getD-drop, ← ea, ← eb, ← ec)
+
+    pub eci-large : 2097151 < a * 65536 + b * 256 + c → Wrong ≡ eciAt (drop i s)
+    eci-large l = rw (eci-is, lt-ltb 2097151 (a * 65536 + b * 256 + c) l)
 
     pub eci-read : a * 65536 + b * 256 + c ≤ 2097151 → Eci (a * 65536 + b * 256 + c) ≡ eciAt (drop i s)
-    unfolding eciAt
-    eci-read l =
-        rw (length-drop, le-ltb (length s - i) 4 h, getD-drop, getD-drop, getD-drop, ← ea, ← eb, ← ec, le-ltb 2097151 (a * 65536 + b * 256 + c) l)
+    eci-read l = rw (eci-is, le-ltb 2097151 (a * 65536 + b * 256 + c) l)
 
   module _ (m : ℕ) (e : m ≡ getD s i 0) where
-    pub command-four : m ≡ 7 → Run 7 4 ≡ commandAt (drop i s)
+    command-is : commandAt (drop i s) ≡ cond (eqb m 7) (Run 7 4) (cond (eqb m 8) (eciAt (drop i s)) (cond (leb 1 m && leb m 6) (runAt (drop i s)) Wrong))
     unfolding commandAt
-    command-four f = rw (first, ← e, eq-eqb m 7 f)
+    command-is = rw (first, ← e)
+
+    pub command-four : m ≡ 7 → Run 7 4 ≡ commandAt (drop i s)
+    command-four f = rw (command-is, eq-eqb m 7 f)
 
     pub command-eci : (m ≡ 7 → ⊥) → m ≡ 8 → commandAt (drop i s) ≡ eciAt (drop i s)
-    unfolding commandAt
-    command-eci n f = rw (first, ← e, ne-eqb m 7 n, eq-eqb m 8 f)
+    command-eci n f = rw (command-is, ne-eqb m 7 n, eq-eqb m 8 f)
 
     module _ (n : m ≡ 7 → ⊥) (k : m ≡ 8 → ⊥) where
       pub command-zero : m < 1 → Wrong ≡ commandAt (drop i s)
-      unfolding commandAt
-      command-zero h = rw (first, ← e, ne-eqb m 7 n, ne-eqb m 8 k, lt-leb 1 m h)
+      command-zero h = rw (command-is, ne-eqb m 7 n, ne-eqb m 8 k, lt-leb 1 m h)
 
       pub command-large : 1 ≤ m → 6 < m → Wrong ≡ commandAt (drop i s)
-      unfolding commandAt
-      command-large l h = rw (first, ← e, ne-eqb m 7 n, ne-eqb m 8 k, le-leb 1 m l, lt-leb m 6 h)
+      command-large l h = rw (command-is, ne-eqb m 7 n, ne-eqb m 8 k, le-leb 1 m l, lt-leb m 6 h)
 
       pub command-run : 1 ≤ m → m ≤ 6 → commandAt (drop i s) ≡ runAt (drop i s)
-      unfolding commandAt
-      command-run l h = rw (first, ← e, ne-eqb m 7 n, ne-eqb m 8 k, le-leb 1 m l, le-leb m 6 h)
+      command-run l h = rw (command-is, ne-eqb m 7 n, ne-eqb m 8 k, le-leb 1 m l, le-leb m 6 h)
 
 -- ---- what a command has
 
@@ -96,7 +95,8 @@ module _ (s : List ℕ) (b : (i : ℕ) → getD s i 0 < 256) (l : 0 < length s) 
   bounded =
       chosen (Bounded s) (eqb (getD s 0 0) 7) (λ p. (omega arith, omega arith, omega arith, l))
       (λ p. chosen (Bounded s) (eqb (getD s 0 0) 8) (λ q. eci-bounded) (λ q. chosen (Bounded s) (leb 1 (getD s 0 0) && leb (getD s 0 0) 6)
-      (λ r. let k = both (leb 1 (getD s 0 0)) (leb (getD s 0 0) 6) r in run-bounded (leb-true 1 (getD s 0 0) (k .0), leb-true (getD s 0 0) 6 (k .1))) (λ r. tt)))
+      (λ r. let k = both (leb 1 (getD s 0 0)) (leb (getD s 0 0) 6) r in
+      run-bounded (leb-true 1 (getD s 0 0) (k .0), leb-true (getD s 0 0) 6 (k .1))) (λ r. tt)))
 
 module _ (s : List ℕ) (i : ℕ) (b : (j : ℕ) → getD s j 0 < 256) (h : i < length s) (c : Command) (e : c ≡ commandAt (drop i s)) where
   here : Bounded (drop i s) c
@@ -204,9 +204,9 @@ module _ {s p : List ℕ} {i j : ℕ} {lacks : Bool} {t : ℕ} {c : Command} (d 
     (e : c ≡ commandAt (drop i s)) where
   answered : (z : Option (List Segment)) → commands (suc (d .fuel - 1)) (drop i s) (drop j p) ≡ z → checkOf s p ≡ checkedAfter lacks t z p
   answered z q =
-      let m = d .enough in
       let k : suc (d .fuel - 1) ≡ d .fuel = omega arith in
-      d .same ∙ ap (λ (y : Option (List Segment)). checkedAfter lacks t y p) (rw k at q)
+      let q′ = rw k at q in
+      d .same ∙ rw q′
 
   pub check-from-wrong : c ≡ Wrong → Malformed ≡ checkOf s p
   check-from-wrong q = sym (answered none (at-wrong s p i j h c e (d .fuel - 1) q))

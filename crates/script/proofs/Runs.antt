@@ -1,14 +1,14 @@
 -- Runs of characters, word by word.
-use Rattle.general.proofs.Names.{_≡_, refl, ap, _∙_, subst, sym, Bool, true, false, cond, not, _&&_, List, [], _∷_, ℕ, zero, suc, _+_, _-_, _*_, _/_, _%_}
-use Rattle.general.proofs.Names.{_<_, _≤_, mul-le-mul, le-of-lt, add-one, arith, eq-eqb, ne-eqb, lt-ltb, le-ltb, lt-leb, le-leb, ltb-true, ltb-false, eqb}
+use Rattle.general.proofs.Names.{_≡_, refl, ap, _∙_, sym, Bool, true, false, cond, not, _&&_, List, [], _∷_, ℕ, zero, suc, _+_, _-_, _*_, _/_, _%_}
+use Rattle.general.proofs.Names.{_<_, _≤_, mul-le-mul, le-of-lt, add-one, arith, eq-eqb, ne-eqb, lt-ltb, le-ltb, lt-leb, le-leb, eqb}
 use Rattle.general.proofs.Names.{ltb, length, getD, drop, length-drop, drop-of-length-le, drop-cons, drop-drop, decLt}
 use Rattle.segments.specs.Segments.{fourBytes}
 use Rattle.script.specs.declared.Character.{Character}
 use Rattle.script.specs.declared.Character.the-variants.{Same, Other, Lacking}
 use Rattle.script.specs.declared.Cost.the-variants.{Takes, NotInMode}
-use Rattle.script.specs.Writer.{allPairs, isDigit, codeOf, inSubset, inText, pairCode, inRegion, inRegions, doubleCode, inDouble}
+use Rattle.script.specs.Writer.{allPairs, isDigit, inSubset, inText, inRegion, inRegions, inDouble}
 use Rattle.script.specs.Writer.{textWords, regionWords, doubleWords, fourCode, same, inFour, modeHas}
-use Rattle.script.specs.Lengths.{textSwitches, regionSwitches, modeLength}
+use Rattle.script.specs.Lengths.{modeLength}
 use Rattle.script.specs.Characters.{wordsOf, hasAll, stepOf, widthOf, switchOf, endOf, textCharacter, regionCharacter, doubleCharacter}
 use Rattle.script.specs.Characters.{CharacterIs, beginsIn, charCost, costOf}
 use mathlib.Core.Bool.{and-true, and-assoc}

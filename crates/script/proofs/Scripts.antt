@@ -1,9 +1,9 @@
 -- The segments that a script and its payload come to: their script and payload are these again, and each is as the check asks.
-use Rattle.general.proofs.Names.{_≡_, refl, Bool, true, false, cond, _&&_, Option, none, some, bind, List, [], _∷_, _++_, flatMap, ℕ, zero, suc, _+_, _*_}
-use Rattle.general.proofs.Names.{_/_, _%_, _<_, _≤_, arith, eqb-true, eqb-false, ltb-false, ltb-true, leb-true, eq-eqb, ne-eqb, ltb, eqb, leb, length, getD}
-use Rattle.general.proofs.Names.{take, drop, take-append-drop, getD-drop, length-take-le}
+use Rattle.general.proofs.Names.{_≡_, refl, true, cond, _&&_, Option, none, some, bind, List, [], _∷_, _++_, flatMap, ℕ, zero, suc, _+_, _*_}
+use Rattle.general.proofs.Names.{_/_, _%_, _<_, _≤_, arith, eqb-true, eqb-false, ltb-true, leb-true, eq-eqb, ne-eqb, eqb, leb, length, getD}
+use Rattle.general.proofs.Names.{drop, sym, _∙_, drop-cons, take-append-drop, getD-drop, length-take-le}
 use Rattle.bits.proofs.Tests.{never, chosen, chosen-less}
-use Rattle.segments.specs.Script.{Segment, run, eci, bytesOf, commandOf, payloadOf, scriptOf}
+use Rattle.segments.specs.Script.{Segment, bytesOf, commandOf, payloadOf, scriptOf}
 use Rattle.script.specs.Check.{allowed, taking, segmentAt, commands}
 use Rattle.script.specs.Inner.{lengthOperand, valueOperand, with}
 use Rattle.script.proofs.Tests.{both}
@@ -19,33 +19,25 @@ Front s p (some g) = (commandOf g ++ drop (length (commandOf g)) s ≡ s) × (by
 
 front-3 : (s : List ℕ) (m : ℕ) → 3 ≤ length s → ((i : ℕ) → getD s i 0 < 256) → getD s 0 0 ≡ m
     → m ∷ lengthOperand s / 256 ∷ lengthOperand s % 256 ∷ drop 3 s ≡ s
-front-3 [] m h b e = absurd (omega arith)
-front-3 (x ∷ []) m h b e = absurd (omega arith)
-front-3 (x ∷ y ∷ []) m h b e = absurd (omega arith)
-front-3 (x ∷ y ∷ z ∷ s) m h b e =
-    let l = b 2 in
-    let p : (y * 256 + z) / 256 ≡ y = omega arith in
-    let q : (y * 256 + z) % 256 ≡ z = omega arith in
-    rw (p, q, ← e)
+front-3 s m h b e =
+    let p : lengthOperand s / 256 ≡ getD s 1 0 = omega (arith, b 2) in
+    let q : lengthOperand s % 256 ≡ getD s 2 0 = omega (arith, b 2) in
+    rw (p, q, ← e) (sym (drop-cons s 0 0 (omega arith) ∙ rw (drop-cons s 1 0 (omega arith), drop-cons s 2 0 (omega arith))))
 
 front-4 : (s : List ℕ) → 4 ≤ length s → ((i : ℕ) → getD s i 0 < 256) → getD s 0 0 ≡ 8
     → 8 ∷ valueOperand s / 65536 ∷ valueOperand s / 256 % 256 ∷ valueOperand s % 256 ∷ drop 4 s ≡ s
-front-4 [] h b e = absurd (omega arith)
-front-4 (x ∷ []) h b e = absurd (omega arith)
-front-4 (x ∷ y ∷ []) h b e = absurd (omega arith)
-front-4 (x ∷ y ∷ z ∷ []) h b e = absurd (omega arith)
-front-4 (x ∷ y ∷ z ∷ w ∷ s) h b e =
+front-4 s h b e =
     let l = b 2 in
     let k = b 3 in
-    let p : (y * 65536 + z * 256 + w) / 65536 ≡ y = omega arith in
-    let q : (y * 65536 + z * 256 + w) / 256 ≡ y * 256 + z = omega arith in
-    let r : (y * 65536 + z * 256 + w) / 256 % 256 ≡ z = rw q (omega arith) in
-    let t : (y * 65536 + z * 256 + w) % 256 ≡ w = omega arith in
-    rw (p, r, t, ← e)
+    let p : valueOperand s / 65536 ≡ getD s 1 0 = omega arith in
+    let q : valueOperand s / 256 ≡ getD s 1 0 * 256 + getD s 2 0 = omega arith in
+    let r : valueOperand s / 256 % 256 ≡ getD s 2 0 = rw q (omega arith) in
+    let t : valueOperand s % 256 ≡ getD s 3 0 = omega arith in
+    rw (p, r, t, ← e) (sym (drop-cons s 0 0 (omega arith)
+    ∙ rw (drop-cons s 1 0 (omega arith), drop-cons s 2 0 (omega arith), drop-cons s 3 0 (omega arith))))
 
 front-1 : (s : List ℕ) → 0 < length s → getD s 0 0 ≡ 7 → 7 ∷ drop 1 s ≡ s
-front-1 [] h e = absurd (omega arith)
-front-1 (x ∷ s) h e = rw (← e)
+front-1 s h e = rw (← e) (sym (drop-cons s 0 0 h))
 
 module _ (s p : List ℕ) (b : (i : ℕ) → getD s i 0 < 256) (l : 0 < length s) where
   abbrev mode : ℕ

@@ -1,5 +1,5 @@
 -- What the writer's tests say.
-use Rattle.general.proofs.Names.{_≡_, refl, sym, _∙_, subst, Bool, true, false, not, _&&_, _||_, List, [], _∷_, ℕ, zero, suc, _<_, ltb-true, eqb-true, T}
+use Rattle.general.proofs.Names.{_≡_, refl, subst, Bool, true, false, not, _&&_, _||_, List, [], _∷_, ℕ, zero, suc, _<_, ltb-true, eqb-true, T}
 use Rattle.general.proofs.Names.{ltb, eqb, getD}
 use mathlib.Core.Bool.{or-comm}
 use Rattle.segments.specs.Segments.{charOf, highOf, lowOf, regionSize, firstByte, secondByte}

@@ -1,12 +1,12 @@
 -- How long payload and script can be: a segment gives at most 3 payload bytes for 10 bits, and a script byte for 3 bits.
-use Rattle.general.proofs.Names.{_≡_, refl, Bool, true, false, cond, not, List, [], _∷_, flatMap, ℕ, zero, suc, _+_, _-_, _*_, _/_, _^_, _<_, _≤_, getD, drop}
-use Rattle.general.proofs.Names.{mul-suc, zero-add, arith, ltb-false, ltb, eqb, length, getD, take, drop, length-append, length-drop, getD-drop}
+use Rattle.general.proofs.Names.{_≡_, Bool, true, false, not, List, [], _∷_, flatMap, ℕ, zero, suc, _+_, _-_, _*_, _/_, _^_, _<_, _≤_, getD, drop}
+use Rattle.general.proofs.Names.{mul-suc, zero-add, arith, ltb, eqb, length, getD, take, drop, length-append, length-drop, getD-drop}
 use lib.Pow.{pow-pos}
 use Rattle.bits.specs.Bits.{value, firstWords, words, groups}
 use Rattle.bits.proofs.Reading.{value-bound}
 use Rattle.bits.proofs.Tests.{chosen, chosen-less}
-use Rattle.segments.specs.Script.{Segment, run, eci, bytesOf, commandOf, payloadOf, scriptOf}
-use Rattle.segments.specs.Segments.{cut, lacking, Result, failed, got, andThen, before, inBits, digits, groupsOf, numericOf, charOf, textOf}
+use Rattle.segments.specs.Script.{Segment, run, bytesOf, commandOf, payloadOf, scriptOf}
+use Rattle.segments.specs.Segments.{cut, Result, failed, got, andThen, before, inBits, digits, groupsOf, numericOf, charOf, textOf}
 use Rattle.segments.specs.Segments.{bytesMode, highOf, lowOf, regionSize, regionOf, firstByte, secondByte, doubleByteOf, fourBytes}
 use Rattle.segments.specs.Segments.{fourByteOf, eciValue, eciOf, bytesOfMode, segmentOf, Ending, endMark, fewBits, broken, Parsed, ended}
 use Rattle.segments.specs.Segments.{following, parse}

@@ -1,5 +1,5 @@
 -- One segment and all of them: what a step of the pass leaves of the definitions.
-use Rattle.general.proofs.Names.{_≡_, refl, ap, _∙_, sym, subst, Bool, true, false, cond, List, [], _∷_, _++_, flatMap, ℕ, suc, _+_, _-_, _*_, _/_, _%_}
+use Rattle.general.proofs.Names.{_≡_, refl, ap, _∙_, sym, true, false, List, _∷_, _++_, flatMap, ℕ, suc, _+_, _-_, _*_}
 use Rattle.general.proofs.Names.{_<_, _≤_, one-mul, add-zero, arith, eq-eqb, ne-eqb, lt-ltb, le-ltb, eqb, length, drop, length-append, sets, drop-drop}
 use Rattle.bits.specs.Bits.{bitsOf}
 use Rattle.bits.proofs.Tests.{never, tested}
@@ -79,28 +79,23 @@ module _ (s : List ℕ) (i n : ℕ) (o : List ℕ) (mode : ℕ) where
 pub command-length : (mode n : ℕ) → length (runCommand mode n) ≤ 3
 command-length mode n = tested (eqb mode 7) (λ e. rw e (omega arith)) (λ e. rw e (omega arith))
 
+eci-done : (s : List ℕ) (i : ℕ) (z : Result Segment) (r : Count) (a v : ℕ) → EciLeft s i z r → r ≡ Done a v
+    → (u : ℕ) × (z ≡ got (eci v) u) × (a ≡ i + u) × (i + u ≤ 8 * length s) × (v < 2097152)
+eci-done s i (failed bad) r a v k q = not-done bad (sym k ∙ q)
+eci-done s i (got (run x bs) u) r a v k q = absurd k
+eci-done s i (got (eci v′) u) r a v k q = let ev : v ≡ v′ = cc in (u, rw ev, cc, k .1, rw ev (k .2))
+
 module _ (s : List ℕ) (i n m : ℕ) (o c : List ℕ) (mode : ℕ) (h : m + 4 ≤ i) (l : n ≤ i) where
   pub eci-on : mode ≡ 8 → (a v : ℕ) (r : Count) (y : List ℕ) → EciLeft s i (eciOf (drop i (bitsOf s))) r → r ≡ Done a v
       → y ≡ sets c m (commandOf (eci v))
       → Stepped s i n m o c (segmentOf mode (drop i (bitsOf s))) (On a n (m + 4)) o y
   unfolding segmentOf
-  eci-on e a v r y p q w = rw (eq-eqb mode 8 e) (go (eciOf (drop i (bitsOf s))) p)
-    where
-      go : (z : Result Segment) → EciLeft s i z r → Stepped s i n m o c z (On a n (m + 4)) o y
-      go (failed bad) k = not-done bad (sym k ∙ q)
-      go (got (run x bs) u) k = absurd k
-      go (got (eci v′) u) k =
-          let ea : a ≡ i + u = cc in
-          let ev : v ≡ v′ = cc in
-          (rw (ea, add-zero), refl, rw ev at w, k .1, omega arith, omega arith)
+  eci-on e a v r y p q w =
+      let k = eci-done s i (eciOf (drop i (bitsOf s))) r a v p q in
+      rw (eq-eqb mode 8 e, k .1) (rw (← (k .2), add-zero), refl, w, k .3, omega arith, omega arith)
 
   pub eci-bound : (r : Count) (a v : ℕ) → EciLeft s i (eciOf (drop i (bitsOf s))) r → r ≡ Done a v → v < 2097152
-  eci-bound r a v p q = go (eciOf (drop i (bitsOf s))) p
-    where
-      go : (z : Result Segment) → EciLeft s i z r → v < 2097152
-      go (failed bad) k = not-done bad (sym k ∙ q)
-      go (got (run x bs) u) k = absurd k
-      go (got (eci v′) u) k = let k0 = k .0 in let ev : v ≡ v′ = cc in rw ev (k .2)
+  eci-bound r a v p q = eci-done s i (eciOf (drop i (bitsOf s))) r a v p q .4
 
   pub eci-stop : mode ≡ 8 → (bad : Fault) (r : Count) (x y : List ℕ) → EciLeft s i (eciOf (drop i (bitsOf s))) r → r ≡ counted bad
       → Stepped s i n m o c (segmentOf mode (drop i (bitsOf s))) (stepped bad) x y

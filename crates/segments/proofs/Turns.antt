@@ -1,5 +1,5 @@
 -- What a word that was read does to the state of a mode: one law for each way that a turn of a mode's function goes.
-use Rattle.general.proofs.Names.{_≡_, refl, ap, _∙_, Bool, not, List, [], _∷_, _++_, ℕ, zero, suc, _+_, _-_, _*_, _/_, _%_, _^_, _<_, _≤_, add-zero, decLt, ltb, ltb-true, ltb-false, length-drop, take, true, false, cond, sym}
+use Rattle.general.proofs.Names.{_≡_, refl, ap, _∙_, Bool, not, List, [], _∷_, _++_, ℕ, zero, suc, _+_, _-_, _*_, _/_, _%_, _^_, _<_, _≤_, add-zero, decLt, ltb, length-drop, take, cond}
 use Rattle.general.proofs.Names.{mul-suc, one-mul, mul-one, arith, eq-eqb, ne-eqb, lt-ltb, le-ltb, length, drop, set, length-append, sets, drop-drop}
 use Rattle.bits.specs.declared.Word.{Word}
 use Rattle.bits.specs.declared.Word.the-variants.{Value, Cut as WordCut}
