@@ -137,8 +137,7 @@ with-lacks false t g (some gs) p h = rw h
 -- the segment at the front of a script is what the command there makes
 segment-made : (s p : List ℕ) → segmentAt s p ≡ made (commandAt s) p
 unfolding segmentAt commandAt eciAt runAt
-segment-made s p =
-    sym (simp made-choice)
+segment-made s p = sym (simp made-choice)
   where
     made-choice : (b : Bool) (c d : Command) → made (cond b c d) p ≡ cond b (made c p) (made d p)
     made-choice true c d = refl

@@ -145,12 +145,11 @@ four-same : (w : ℕ) (s : List ℕ) → length s ≡ 4
     ≡ (eqb (0x81 + w / 12600) (getD s 0 0) && (eqb (0x30 + w % 12600 / 1260) (getD s 1 0)
     && (eqb (0x81 + w % 1260 / 10) (getD s 2 0) && (eqb (0x30 + w % 10) (getD s 3 0) && true))))
 unfolding same fourBytes
-four-same w [] e = absurd (omega arith)
-four-same w (a ∷ []) e = absurd (omega arith)
-four-same w (a ∷ b ∷ []) e = absurd (omega arith)
-four-same w (a ∷ b ∷ c ∷ []) e = absurd (omega arith)
-four-same w (a ∷ b ∷ c ∷ d ∷ []) e = refl
-four-same w (a ∷ b ∷ c ∷ d ∷ x ∷ s) e = absurd (omega arith)
+four-same w s e =
+    let l : length s ≤ 4 = omega arith in
+    let q : s ≡ getD s 0 0 ∷ getD s 1 0 ∷ getD s 2 0 ∷ getD s 3 0 ∷ [] = drop-cons s 0 0 (omega arith)
+    ∙ rw (drop-cons s 1 0 (omega arith), drop-cons s 2 0 (omega arith), drop-cons s 3 0 (omega arith), drop-of-length-le s l) in
+    rw q
 
 -- the bytes of a value that is in the mode
 four-bytes : (s : List ℕ) → inFour s ≡ true → s ≡ fourBytes (fourCode s)

@@ -1,7 +1,7 @@
 -- The segments that a script and its payload come to: their script and payload are these again, and each is as the check asks.
 use Rattle.general.proofs.Names.{_≡_, refl, true, cond, _&&_, Option, none, some, bind, List, [], _∷_, _++_, flatMap, ℕ, zero, suc, _+_, _*_}
 use Rattle.general.proofs.Names.{_/_, _%_, _<_, _≤_, arith, eqb-true, eqb-false, ltb-true, leb-true, eq-eqb, ne-eqb, eqb, leb, length, getD}
-use Rattle.general.proofs.Names.{drop, sym, _∙_, drop-cons, take-append-drop, getD-drop, length-take-le}
+use Rattle.general.proofs.Names.{drop, sym, _∙_, drop-cons, drop-of-length-le, take-append-drop, getD-drop, length-take-le}
 use Rattle.bits.proofs.Tests.{never, chosen, chosen-less}
 use Rattle.segments.specs.Script.{Segment, bytesOf, commandOf, payloadOf, scriptOf}
 use Rattle.script.specs.Check.{allowed, taking, segmentAt, commands}
@@ -79,8 +79,7 @@ abbrev pub Again : List ℕ → List ℕ → List Segment → Type 0
 Again s p gs = (scriptOf gs ≡ s) × (payloadOf gs ≡ p) × AllLegal gs
 
 empty : (s : List ℕ) → length s ≡ 0 → s ≡ []
-empty [] e = refl
-empty (x ∷ s) e = absurd (omega arith)
+empty s e = drop-of-length-le s {i = 0} (omega arith)
 
 pub positive : (m : ℕ) → (m ≡ 0 → ⊥) → 0 < m
 positive zero f = absurd (f refl)

@@ -28,14 +28,18 @@ pub other-subset : (f : Bool) (b : ℕ) → inText b ≡ true → inSubset f b �
 unfolding inText
 other-subset f b t e = rw (either-is (λ g. inSubset g b) f, e) at t
 
+-- a code below n whose two bytes are a and b
+pair-has : (c n x a y b : ℕ) → (ltb c n && (eqb x a && eqb y b)) ≡ true → (c < n) × (x ≡ a) × (y ≡ b)
+pair-has c n x a y b e =
+    let h = both (ltb c n) (eqb x a && eqb y b) e in
+    let g = both (eqb x a) (eqb y b) (h .1) in
+    (ltb-true c n (h .0), eqb-true x a (g .0), eqb-true y b (g .1))
+
 -- a region that has a pair
 pub region-has : (f : Bool) (a b : ℕ) → inRegion f a b ≡ true
     → (pairCode f a b < regionSize f) × (highOf f (pairCode f a b) ≡ a) × (lowOf f (pairCode f a b) ≡ b)
 unfolding inRegion
-region-has f a b e =
-    let h = both (ltb (pairCode f a b) (regionSize f)) (eqb (highOf f (pairCode f a b)) a && eqb (lowOf f (pairCode f a b)) b) e in
-    let g = both (eqb (highOf f (pairCode f a b)) a) (eqb (lowOf f (pairCode f a b)) b) (h .1) in
-    (ltb-true (pairCode f a b) (regionSize f) (h .0), eqb-true (highOf f (pairCode f a b)) a (g .0), eqb-true (lowOf f (pairCode f a b)) b (g .1))
+region-has f a b e = pair-has (pairCode f a b) (regionSize f) (highOf f (pairCode f a b)) a (lowOf f (pairCode f a b)) b e
 
 pub other-region : (f : Bool) (a b : ℕ) → inRegions a b ≡ true → inRegion f a b ≡ false → inRegion (not f) a b ≡ true
 unfolding inRegions
@@ -44,10 +48,7 @@ other-region f a b t e = rw (either-is (λ g. inRegion g a b) f, e) at t
 -- the two-byte mode has a pair
 pub double-has : (a b : ℕ) → inDouble a b ≡ true → (doubleCode a b < 23940) × (firstByte (doubleCode a b) ≡ a) × (secondByte (doubleCode a b) ≡ b)
 unfolding inDouble
-double-has a b e =
-    let h = both (ltb (doubleCode a b) 23940) (eqb (firstByte (doubleCode a b)) a && eqb (secondByte (doubleCode a b)) b) e in
-    let g = both (eqb (firstByte (doubleCode a b)) a) (eqb (secondByte (doubleCode a b)) b) (h .1) in
-    (ltb-true (doubleCode a b) 23940 (h .0), eqb-true (firstByte (doubleCode a b)) a (g .0), eqb-true (secondByte (doubleCode a b)) b (g .1))
+double-has a b e = pair-has (doubleCode a b) 23940 (firstByte (doubleCode a b)) a (secondByte (doubleCode a b)) b e
 
 pub same-is : (xs ys : List ℕ) → same xs ys ≡ true → xs ≡ ys
 unfolding same
