@@ -25,12 +25,8 @@ low-mod n x = sym (low-add n n (x / 2 ^ n) (x % 2 ^ n) (omega arith)) ∙ ap (lo
 pub four-bits : (x : ℕ) → bitsOf (fourOf x) ≡ lowBits 32 x
 unfolding wordBits flatMap fourOf
 four-bits x =
-    sym
-    (low-split 8 24 x
-    ∙ ap (λ (l : List ℕ). lowBits 8 (x / 2 ^ 24) ++ l)
-    (low-split 8 16 x
-    ∙ rw (sym (low-mod 8 (x / 2 ^ 16)))
-    (ap (λ (l : List ℕ). lowBits 8 (x / 2 ^ 16 % 2 ^ 8) ++ l) (low-split 8 8 x ∙ rw (sym (low-mod 8 (x / 2 ^ 8)), sym (low-mod 8 x), append-nil)))))
+    sym (low-split 8 24 x
+    ∙ rw (low-split 8 16 x, low-split 8 8 x, ← low-mod 8 (x / 2 ^ 16), ← low-mod 8 (x / 2 ^ 8), ← low-mod 8 x, append-nil))
 
 -- the top bits of a byte, then the n low bits of v, at the top of 32 bits
 pub joined : ℕ → ℕ → ℕ → ℕ → ℕ
@@ -111,10 +107,8 @@ pub appended : (s : List ℕ) (at n v : ℕ) → n ≤ 24 → at / 8 + 4 ≤ len
     → take (at + n) (bitsOf (sets s (at / 8) (fourOf (joined (getD s (at / 8) 0) (at % 8) n v)))) ≡ take at (bitsOf s) ++ lowBits n v
 appended s at n v l k =
     let e : at + n ≡ 8 * (at / 8) + (at % 8 + n) = omega arith in
-    let z : at ≡ 8 * (at / 8) + at % 8 = omega arith in
-    ap (λ (q : ℕ). take q (bitsOf (sets s (at / 8) (fourOf (joined (getD s (at / 8) 0) (at % 8) n v))))) e
-    ∙ inside s (at / 8) (at % 8) n v (omega arith) l k
-    ∙ ap (λ (q : ℕ). take q (bitsOf s) ++ lowBits n v) (sym z)
+    let z : 8 * (at / 8) + at % 8 ≡ at = omega arith in
+    rw e (inside s (at / 8) (at % 8) n v (omega arith) l k ∙ rw z)
 
 -- bits that were set one by one
 pub behind-set : (b : List ℕ) (at : ℕ) (xs : List ℕ) → at + length xs ≤ length b → take (at + length xs) (sets b at xs) ≡ take at b ++ xs

@@ -1,13 +1,13 @@
 -- Bits read by bytes: the bytes that hold some bits, as one number, shifted and cut.
 use Rattle.general.proofs.Names.{_≡_, refl, _∙_, sym, List, [], _∷_, _++_, flatMap, ℕ, zero, suc, _+_, _-_, _*_, _/_, _%_, _^_, _<_, _≤_, mod-eq-of-lt}
-use Rattle.general.proofs.Names.{lt-of-lt-of-le, one-mul, arith, le-leb, length, getD, take, drop, length-drop, take-add, drop-drop, length-take-le}
-use Rattle.general.proofs.Names.{getD-drop, take-at, drop-at}
+use Rattle.general.proofs.Names.{lt-of-lt-of-le, one-mul, arith, le-leb, length, getD, take, drop, take-add, drop-drop, length-take-le}
+use Rattle.general.proofs.Names.{take-at, drop-at}
 use lib.Pow.{high, low, pow-mono, shl-exact}
 use Rattle.bits.specs.declared.Word.the-variants.{Value}
 use Rattle.bits.specs.Bits.{lowBits, bitsOf, value, readBits, wordBits}
-use Rattle.bits.proofs.Reading.{length-left, bit-lt}
+use Rattle.bits.proofs.Reading.{length-left, value-lt}
 use Rattle.bits.proofs.Words.{length-low, value-low}
-use Rattle.bits.proofs.Bytes.{value-add, value-small, take-small}
+use Rattle.bits.proofs.Bytes.{value-add}
 
 value-append : (a : ℕ) (xs ys : List ℕ) → value a (xs ++ ys) ≡ value (value a xs) ys
 unfolding value
@@ -15,16 +15,11 @@ value-append a [] ys = refl
 value-append a (x ∷ xs) ys = value-append (a * 2 + x) xs ys
 
 -- the middle of three parts
-cut-out : (x m z : List ℕ) → value 0 m < 2 ^ length m → value 0 z < 2 ^ length z → value 0 (x ++ (m ++ z)) / 2 ^ length z % 2 ^ length m ≡ value 0 m
-cut-out x m z hm hz =
-    rw (
-      value-append 0 x (m ++ z),
-      value-append (value 0 x) m z,
-      value-add (value (value 0 x) m) z,
-      high (value (value 0 x) m) (length z) hz,
-      value-add (value 0 x) m,
-      low (value 0 x) (length m) hm,
-    )
+cut-out : (x m z : List ℕ) (n p : ℕ) → length m ≡ n → length z ≡ p → value 0 m < 2 ^ n → value 0 z < 2 ^ p
+    → value 0 (x ++ (m ++ z)) / 2 ^ p % 2 ^ n ≡ value 0 m
+cut-out x m z n p en ep hm hz =
+    let y : ℕ = value 0 x in
+    rw (value-append, value-append, value-add (value y m), ep, high (value y m) p hz, value-add y, en, low y n hm)
 
 -- the bits of the byte i
 byte-bits : (s : List ℕ) (i : ℕ) → i < length s → take 8 (drop (8 * i) (bitsOf s)) ≡ lowBits 8 (getD s i 0)
@@ -33,10 +28,7 @@ byte-bits [] i h = absurd (omega arith)
 byte-bits (b ∷ s) zero h = take-at (lowBits 8 b) (bitsOf s) 8 (length-low 8 b)
 byte-bits (b ∷ s) (suc i) h =
     let e : 8 * suc i ≡ 8 + 8 * i = omega arith in
-    rw (e, ← drop-drop (8 * i) 8 (lowBits 8 b ++ bitsOf s), drop-8 b s) (byte-bits s i (omega arith))
-  where
-    drop-8 : (b : ℕ) (s : List ℕ) → drop 8 (lowBits 8 b ++ bitsOf s) ≡ bitsOf s
-    drop-8 b s = drop-at (lowBits 8 b) (bitsOf s) 8 (length-low 8 b)
+    rw (e, ← drop-drop (8 * i) 8 (lowBits 8 b ++ bitsOf s), drop-at (lowBits 8 b) (bitsOf s) 8 (length-low 8 b)) (byte-bits s i (omega arith))
 
 -- the first k bytes from the byte f on, as a number
 pub window : List ℕ → ℕ → ℕ → ℕ
@@ -51,57 +43,38 @@ unfolding window
 window-more s f k b h l e =
     let z : 8 * (k + 1) ≡ 8 * k + 8 = omega arith in
     let y : 8 * f + 8 * k ≡ 8 * (f + k) = omega arith in
-    sym (rw (
-      z,
-      take-add (8 * k) 8 (drop (8 * f) (bitsOf s)),
-      value-append 0 (take (8 * k) (drop (8 * f) (bitsOf s)))
-          (take 8 (drop (8 * k) (drop (8 * f) (bitsOf s)))),
-      drop-drop (8 * k) (8 * f) (bitsOf s),
-      y,
-      byte-bits s (f + k) h,
-      ← e,
-      value-low 8
-          (value 0 (take (8 * k) (drop (8 * f) (bitsOf s)))) b,
-      mod-eq-of-lt l,
-    ))
+    sym (rw (z, take-add (8 * k) 8, value-append, drop-drop (8 * k) (8 * f), y, byte-bits s (f + k) h, ← e, value-low, mod-eq-of-lt l))
 
 pub window-small : (s : List ℕ) (f k m : ℕ) → f + k ≤ length s → k ≤ m → window s f k < 2 ^ (8 * m)
 unfolding window
-window-small s f k m h l =
-    let n : length (take (8 * k) (drop (8 * f) (bitsOf s))) ≡ 8 * k = length-take-le (8 * k) (drop (8 * f) (bitsOf s)) (rw length-left (omega arith)) in
-    let v : value 0 (take (8 * k) (drop (8 * f) (bitsOf s))) < 2 ^ (8 * k) =
-    rw n at (value-small (take (8 * k) (drop (8 * f) (bitsOf s)))
-    (take-small (8 * k) (drop (8 * f) (bitsOf s)) (λ i. rw getD-drop (bit-lt s (8 * f + i))))) in
-    lt-of-lt-of-le v (pow-mono (omega arith))
+window-small s f k m h l = lt-of-lt-of-le (value-lt s (8 * f) (8 * k)) (pow-mono (omega arith))
 
 -- n bits from the position at = 8 f + r on, out of the k bytes from f on
 pub window-read : (s : List ℕ) (f k r n p : ℕ) → f + k ≤ length s → r + n + p ≡ 8 * k → window s f k / 2 ^ p % 2 ^ n ≡ value 0 (take n (drop (8 * f + r) (bitsOf s)))
 unfolding window
 window-read s f k r n p h e =
-    let t : List ℕ = drop (8 * f) (bitsOf s) in
-    let lt : length t ≡ 8 * length s - 8 * f = length-left s (8 * f) in
     let z : 8 * k ≡ r + (n + p) = omega arith in
-    let lm : length (take n (drop r t)) ≡ n = length-take-le n (drop r t) (rw length-drop (omega arith)) in
-    let lz : length (take p (drop n (drop r t))) ≡ p = length-take-le p (drop n (drop r t)) (rw (length-drop, length-drop) (omega arith)) in
-    let bt : (i : ℕ) → getD t i 0 < 2 = λ i. rw getD-drop (bit-lt s (8 * f + i)) in
-    let bm : (i : ℕ) → getD (drop r t) i 0 < 2 = λ i. rw getD-drop (bt (r + i)) in
-    let bz : (i : ℕ) → getD (drop n (drop r t)) i 0 < 2 = λ i. rw getD-drop (bm (n + i)) in
-    let c = cut-out (take r t) (take n (drop r t)) (take p (drop n (drop r t))) (value-small (take n (drop r t)) (take-small n (drop r t) bm))
-    (value-small (take p (drop n (drop r t))) (take-small p (drop n (drop r t)) bz)) in
-    rw (z, take-add r (n + p) t, take-add n p (drop r t), ← drop-drop r (8 * f) (bitsOf s)) (rw (lm, lz) at c)
+    let lm : length (take n (drop (8 * f + r) (bitsOf s))) ≡ n = length-take-le n _ (rw length-left (omega arith)) in
+    let lz : length (take p (drop (8 * f + r + n) (bitsOf s))) ≡ p = length-take-le p _ (rw length-left (omega arith)) in
+    rw (z, take-add r (n + p), take-add n p, drop-drop r (8 * f), drop-drop n (8 * f + r))
+    (cut-out (take r (drop (8 * f) (bitsOf s))) _ _ n p lm lz (value-lt s (8 * f + r) n) (value-lt s (8 * f + r + n) p))
 
 -- what `read_bits` answers
 pub one-shifted : (n : ℕ) → n ≤ 24 → (1 * 2 ^ n) % 2 ^ 64 ≡ 2 ^ n
 one-shifted n h = shl-exact {a = 1} 1 n 64 (omega arith) (omega arith) ∙ one-mul (2 ^ n)
 
+-- out of the k bytes from the byte of the position on, with p bits behind
+read-out : (s : List ℕ) (at n v k p : ℕ) → at / 8 + k ≤ length s → at % 8 + n + p ≡ 8 * k → n ≤ 21 → v ≡ window s (at / 8) k
+    → Value (v / 2 ^ p % ((1 * 2 ^ n) % 2 ^ 64)) ≡ readBits n (drop at (bitsOf s))
+unfolding readBits
+read-out s at n v k p h q l e =
+    let z : 8 * (at / 8) + at % 8 ≡ at = omega arith in
+    let m : n ≤ length (drop at (bitsOf s)) = rw length-left (omega arith) in
+    rw (le-leb n (length (drop at (bitsOf s))) m, e, one-shifted n (omega arith), window-read s (at / 8) k (at % 8) n p h q, z)
+
 pub read-window : (s : List ℕ) (at n v : ℕ) → at + n ≤ 8 * length s → n ≤ 21 → v ≡ window s (at / 8) ((at + n + 7) / 8 - at / 8)
     → Value (v / 2 ^ (8 * ((at + n + 7) / 8) - (at + n)) % ((1 * 2 ^ n) % 2 ^ 64)) ≡ readBits n (drop at (bitsOf s))
-unfolding readBits
-read-window s at n v h l e =
-    let z : 8 * (at / 8) + at % 8 ≡ at = omega arith in
-    let k : n ≤ length (drop at (bitsOf s)) = rw length-left (omega arith) in
-    let w = window-read s (at / 8) ((at + n + 7) / 8 - at / 8) (at % 8) n (8 * ((at + n + 7) / 8) - (at + n)) (omega arith) (omega arith) in
-    rw (le-leb n (length (drop at (bitsOf s))) k, e, one-shifted n (omega arith), w, z)
+read-window s at n v h l e = read-out s at n v ((at + n + 7) / 8 - at / 8) (8 * ((at + n + 7) / 8) - (at + n)) (omega arith) (omega arith) l e
 
 -- four bytes at once
 pub window-four : (s : List ℕ) (f a b c d : ℕ) → f + 4 ≤ length s → (a < 256) × (b < 256) × (c < 256) × (d < 256) → a ≡ getD s f 0
@@ -109,17 +82,11 @@ pub window-four : (s : List ℕ) (f a b c d : ℕ) → f + 4 ≤ length s → (a
     → ((a * 256 + b) * 256 + c) * 256 + d ≡ window s f 4
 window-four s f a b c d h l ea eb ec ed =
     let z : f + 0 ≡ f = omega arith in
-    let one : a ≡ window s f 1 = first (window-more s f 0 a (omega arith) (l .0) (rw z ea)) in
+    let none = window-none s f in
+    let more = window-more s f 0 a (omega arith) (l .0) (rw z ea) in
+    let one : a ≡ window s f 1 = omega arith in
     rw one (rw (window-more s f 1 b (omega arith) (l .1) eb, window-more s f 2 c (omega arith) (l .2) ec) (window-more s f 3 d (omega arith) (l .3) ed))
-  where
-    first : window s f 0 * 256 + a ≡ window s f 1 → a ≡ window s f 1
-    first e = let n = window-none s f in omega arith
 
 pub read-four : (s : List ℕ) (at n v : ℕ) → at / 8 + 4 ≤ length s → n ≤ 21 → v ≡ window s (at / 8) 4
     → Value (v / 2 ^ (32 - at % 8 - n) % ((1 * 2 ^ n) % 2 ^ 64)) ≡ readBits n (drop at (bitsOf s))
-unfolding readBits
-read-four s at n v h l e =
-    let z : 8 * (at / 8) + at % 8 ≡ at = omega arith in
-    let k : n ≤ length (drop at (bitsOf s)) = rw length-left (omega arith) in
-    let w = window-read s (at / 8) 4 (at % 8) n (32 - at % 8 - n) h (omega arith) in
-    rw (le-leb n (length (drop at (bitsOf s))) k, e, one-shifted n (omega arith), w, z)
+read-four s at n v h l e = read-out s at n v 4 (32 - at % 8 - n) h (omega arith) l e

@@ -1,7 +1,7 @@
 -- Laws of writing: a flipped bit of a byte is a changed bit of the list, and what a turn of `write_bits` does.
-use Rattle.general.proofs.Names.{_≡_, refl, ap, _∙_, sym, ⊎-elim, List, [], _∷_, _++_, flatMap, ℕ, zero, suc, _+_, _-_, _*_, _/_, _%_, _^_, _<_, _≤_}
-use Rattle.general.proofs.Names.{mul-mod-left, div-eq-of-lt, pow-suc, div-self, le-of-suc-le-suc, one-mul, not-suc-le-zero, eq-or-lt-of-le, arith, length}
-use Rattle.general.proofs.Names.{getD, set, sets, set-append-left, set-getD, bitXor, xor-shr, xor-mod, xor-zero-r}
+use Rattle.general.proofs.Names.{_≡_, refl, ap, _∙_, sym, List, [], _∷_, _++_, flatMap, ℕ, zero, suc, _+_, _-_, _*_, _/_, _%_, _^_, _<_, _≤_}
+use Rattle.general.proofs.Names.{mul-mod-left, div-eq-of-lt, pow-suc, div-self, le-of-suc-le-suc, one-mul, not-suc-le-zero, arith, length}
+use Rattle.general.proofs.Names.{getD, set, sets, ℕ-discrete, set-append-left, set-getD, bitXor, xor-shr, xor-mod, xor-zero-r}
 use lib.Pow.{pow-add, shl-shr, pow-lt, pow-pos, shl-exact}
 use Rattle.bits.specs.Bits.{lowBits, bitsOf, wordBits}
 use Rattle.bits.proofs.Reading.{bit-at}
@@ -19,11 +19,7 @@ above k n h = ap (λ (z : ℕ). z % 2) (div-eq-of-lt (pow-lt h))
 below : (k n : ℕ) → n < k → 2 ^ k / 2 ^ n % 2 ≡ 0
 below k n h =
     let e : k ≡ suc (k - n - 1) + n = omega arith in
-    ap (λ (z : ℕ). 2 ^ z / 2 ^ n % 2) e
-    ∙ ap (λ (z : ℕ). z / 2 ^ n % 2) (pow-add 2 (suc (k - n - 1)) n)
-    ∙ ap (λ (z : ℕ). z % 2) (shl-shr (2 ^ suc (k - n - 1)) n)
-    ∙ ap (λ (z : ℕ). z % 2) (pow-suc 2 (k - n - 1))
-    ∙ mul-mod-left (2 ^ (k - n - 1)) 2
+    ap (λ (z : ℕ). 2 ^ z / 2 ^ n % 2) e ∙ rw (pow-add 2 (suc (k - n - 1)) n, shl-shr (2 ^ suc (k - n - 1)) n, pow-suc 2 (k - n - 1)) (mul-mod-left _ 2)
 
 -- bits below the one that is flipped stay
 stay : (n k x : ℕ) → n ≤ k → lowBits n (bitXor x (2 ^ k)) ≡ lowBits n x
@@ -44,19 +40,16 @@ flipped (suc (suc o)) b p q f = omega arith
 flip : (n k x b : ℕ) → k < n → b < 2 → (x / 2 ^ k % 2 ≡ b → ⊥) → lowBits n (bitXor x (2 ^ k)) ≡ set (lowBits n x) (n - 1 - k) b
 unfolding lowBits
 flip zero k x b h l f = refl
-flip (suc n) k x b h l f = ⊎-elim here (λ q. there q (flip n k x b q l f)) (eq-or-lt-of-le (le-of-suc-le-suc h))
-  where
-    here : k ≡ n → lowBits (suc n) (bitXor x (2 ^ k)) ≡ set (lowBits (suc n) x) (suc n - 1 - k) b
-    here e =
-        let z : suc n - 1 - k ≡ 0 = omega arith in
-        let o : bitXor x (2 ^ k) / 2 ^ n % 2 ≡ b = rw (← e) (xor-bit x (2 ^ k) k
-        ∙ ap (λ (q : ℕ). bitXor (x / 2 ^ k % 2) (q % 2)) (div-self (pow-pos k)) ∙ flipped (x / 2 ^ k % 2) b (omega arith) l f) in
-        rw (z, o, stay n k x (omega arith))
-
-    there : k < n → lowBits n (bitXor x (2 ^ k)) ≡ set (lowBits n x) (n - 1 - k) b → lowBits (suc n) (bitXor x (2 ^ k)) ≡ set (lowBits (suc n) x) (suc n - 1 - k) b
-    there q e =
-        let z : suc n - 1 - k ≡ suc (n - 1 - k) = omega arith in
-        rw (z, keep x (2 ^ k) n (above k n q), e)
+flip (suc n) k x b h l f = elim (ℕ-discrete k n) [
+  | yes e ↦
+      let z : suc n - 1 - k ≡ 0 = omega arith in
+      let o : bitXor x (2 ^ k) / 2 ^ n % 2 ≡ b = rw (← e) (xor-bit x (2 ^ k) k ∙ rw (div-self (pow-pos k)) (flipped (x / 2 ^ k % 2) b (omega arith) l f)) in
+      rw (z, o, stay n k x (omega arith))
+  | no d ↦
+      let q : k < n = omega arith in
+      let z : suc n - 1 - k ≡ suc (n - 1 - k) = omega arith in
+      rw (z, keep x (2 ^ k) n (above k n q), flip n k x b q l f)
+]
 
 flips : (s : List ℕ) (i j b : ℕ) → i < length s → j < 8 → b < 2 → (getD s i 0 / 2 ^ (7 - j) % 2 ≡ b → ⊥)
     → bitsOf (set s i (bitXor (getD s i 0) (2 ^ (7 - j)))) ≡ set (bitsOf s) (8 * i + j) b

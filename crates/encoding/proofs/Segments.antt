@@ -1,9 +1,9 @@
 -- Segments that are left to write.
-use Rattle.general.proofs.Names.{_≡_, refl, ap, _∙_, sym, Bool, true, false, cond, Option, none, some, List, [], _∷_, _++_, append-assoc, append-nil}
-use Rattle.general.proofs.Names.{flatMap, ℕ, zero, suc, _+_, _-_, _*_, _<_, _≤_, zero-add, add-zero, arith, eq-eqb, ltb-true, ltb-false, ltb, eqb, length}
-use Rattle.general.proofs.Names.{getD, take, drop, replicate, length-append, length-drop}
+use Rattle.general.proofs.Names.{_≡_, refl, ap, _∙_, sym, true, Option, none, some, List, [], _∷_, _++_, append-assoc, append-nil}
+use Rattle.general.proofs.Names.{flatMap, ℕ, zero, suc, _+_, _-_, _*_, _<_, _≤_, zero-add, add-zero, arith, eq-eqb, eqb, length}
+use Rattle.general.proofs.Names.{getD, take, drop, replicate, length-append, length-drop, decLt}
 use Rattle.bits.specs.Bits.{bitsOf, words}
-use Rattle.bits.proofs.Tests.{never}
+use Rattle.bits.proofs.Tests.{never, chosen}
 use Rattle.bits.proofs.Bytes.{words-bits}
 use Rattle.segments.specs.Script.{Segment, run, eci}
 use Rattle.script.specs.declared.Command.{Command}
@@ -19,30 +19,16 @@ use Rattle.encoding.specs.Written.{Written}
 pub record Left (s p : List ℕ) (n : ℕ) (t : List ℕ) (i j a : ℕ) : Type 0 where
   pub fuel : ℕ
   pub enough : length s - i < fuel
-  pub whole : List Segment
+  pub fits : Fits s p n
   pub rest : List Segment
-  pub are : commandsOf s p ≡ some whole
   pub left : commands fuel (drop i s) (drop j p) ≡ some rest
   pub have : allHave rest ≡ true
-  pub room : length (encodings whole) ≤ 8 * n
-  pub place : a + length (encodings rest) ≡ length (encodings whole)
-  pub bits : take a (bitsOf t) ++ encodings rest ≡ encodings whole
+  pub place : a + length (encodings rest) ≡ length (encodings (fits .segments))
+  pub bits : take a (bitsOf t) ++ encodings rest ≡ encodings (fits .segments)
 
 pub begun : (s p : List ℕ) (n : ℕ) (t : List ℕ) → ((i : ℕ) → getD s i 0 < 256) → Fits s p n → Left s p n t 0 0 0
 begun s p n t b f =
-    let gs = f .segments in
-    record {
-      fuel = length s + 1;
-      enough = omega arith;
-      whole = gs;
-      rest = gs;
-      are = f .are;
-      left = f .are;
-      have = f .have;
-      room = f .room;
-      place = zero-add (length (encodings gs));
-      bits = refl;
-    }
+    record { fuel = length s + 1; enough = omega arith; fits = f; rest = f .segments; left = f .are; have = f .have; place = zero-add _; bits = refl }
 
 -- the segment g in front of what is left, by a command of x bytes that takes y payload bytes
 pub record Next (s p : List ℕ) (n : ℕ) (t : List ℕ) (i j a : ℕ) (g : Segment) (x y : ℕ) : Type 0 where
@@ -54,19 +40,13 @@ pub record Next (s p : List ℕ) (n : ℕ) (t : List ℕ) (i j a : ℕ) (g : Seg
 
 size-positive : (mode : ℕ) → 0 < commandSize mode
 unfolding commandSize
-size-positive mode = go (eqb mode 7)
-  where
-    go : (x : Bool) → 0 < cond x 1 3
-    go true = omega arith
-    go false = omega arith
+size-positive mode = chosen (λ x. 0 < x) (eqb mode 7) (λ e. omega arith) (λ e. omega arith)
 
 module _ {s p : List ℕ} {n : ℕ} {t : List ℕ} {i j a : ℕ} {c : Command} (h : i < length s) (e : c ≡ commandAt (drop i s))
     (d : Left s p n t i j a) where
   -- what is left, with one turn to come
   here : commands (suc (d .fuel - 1)) (drop i s) (drop j p) ≡ some (d .rest)
-  here =
-      let z : suc (d .fuel - 1) ≡ d .fuel = omega arith in
-      rw z (d .left)
+  here = let z : suc (d .fuel - 1) ≡ d .fuel = omega arith in rw z (d .left)
 
   split : (g : Segment) (x y : ℕ) (z : Option (List Segment)) → commands (d .fuel - 1) (drop (i + x) s) (drop (j + y) p) ≡ z
       → with g z ≡ some (d .rest) → 0 < x → i + x ≤ length s → y ≤ length p - j → Next s p n t i j a g x y
@@ -75,9 +55,8 @@ module _ {s p : List ℕ} {n : ℕ} {t : List ℕ} {i j a : ℕ} {c : Command} (
   split g x y (some hs) q f b k m =
       let r : d .rest ≡ g ∷ hs = cc in
       let both-have = both (has g) (allHave hs) (rw r at (d .have)) in
-      let parts : a + (length (encodingOf g) + length (encodings hs)) ≡ length (encodings (d .whole)) =
-      ap (λ (z : ℕ). a + z) (sym (length-append (encodingOf g) (encodings hs))) ∙ (rw r at (d .place)) in
-      let bits : take a (bitsOf t) ++ (encodingOf g ++ encodings hs) ≡ encodings (d .whole) = rw r at (d .bits) in
+      let parts : a + (length (encodingOf g) + length (encodings hs)) ≡ length (encodings (d .fits .segments)) = rw (r, length-append) at (d .place) in
+      let room = d .fits .room in
       record {
         command = k;
         taken = m;
@@ -87,14 +66,12 @@ module _ {s p : List ℕ} {n : ℕ} {t : List ℕ} {i j a : ℕ} {c : Command} (
             λ w. record {
               fuel = d .fuel - 1;
               enough = omega arith;
-              whole = d .whole;
+              fits = d .fits;
               rest = hs;
-              are = d .are;
               left = q;
               have = both-have .1;
-              room = d .room;
               place = rw (w .behind) (omega arith);
-              bits = rw (w .bits) (append-assoc (take a (bitsOf t)) (encodingOf g) (encodings hs) ∙ bits);
+              bits = rw (w .bits, append-assoc) (rw r at (d .bits));
             };
       }
 
@@ -104,19 +81,16 @@ module _ {s p : List ℕ} {n : ℕ} {t : List ℕ} {i j a : ℕ} {c : Command} (
   module _ (b : (k : ℕ) → getD s k 0 < 256) where
     pub run-next : {mode m : ℕ} → c ≡ Run mode m
         → (1 ≤ mode) × (mode ≤ 7) × Next s p n t i j a (run mode (take m (drop j p))) (commandSize mode) m
-    run-next {mode} {m} q = (bounds .0, bounds .1, go (ltb (length p - j) m) refl)
-      where
-        bounds : (1 ≤ mode) × (mode ≤ 7) × (m < 65536) × (i + commandSize mode ≤ length s)
-        bounds = run-bounds s i b h c e mode m q
-
-        go : (x : Bool) → ltb (length p - j) m ≡ x → Next s p n t i j a (run mode (take m (drop j p))) (commandSize mode) m
-        go true l =
-            let k : none ≡ some (d .rest) = sym (at-short s p i j h c e (d .fuel - 1) mode m q (ltb-true (length p - j) m l)) ∙ here in
-            never cc
-        go false l =
-            let k = ltb-false (length p - j) m l in
-            split (run mode (take m (drop j p))) (commandSize mode) m (commands (d .fuel - 1) (drop (i + commandSize mode) s) (drop (j + m) p)) refl
-            (sym (at-run s p i j h c e (d .fuel - 1) mode m q k) ∙ here) (size-positive mode) (bounds .3) k
+    run-next {mode} {m} q =
+        let bounds = run-bounds s i b h c e mode m q in (
+          bounds .0,
+          bounds .1,
+          elim (decLt (length p - j) m) [
+            | yes l ↦ let k : none ≡ some (d .rest) = sym (at-short s p i j h c e (d .fuel - 1) mode m q l) ∙ here in never cc
+            | no l ↦ split (run mode (take m (drop j p))) (commandSize mode) m _ refl (sym (at-run s p i j h c e (d .fuel - 1) mode m q (omega arith)) ∙ here)
+                (size-positive mode) (bounds .3) (omega arith)
+          ],
+        )
 
     pub eci-next : {v : ℕ} → c ≡ Eci v → Next s p n t i j a (eci v) 4 0
     eci-next {v} q =
@@ -130,26 +104,22 @@ module _ {s p : List ℕ} {n : ℕ} {t : List ℕ} {i j a : ℕ} (h : length s �
   last zero l e = absurd (omega arith)
   last (suc f) l e =
       let z : length (drop i s) ≡ 0 = rw length-drop (omega arith) in
-      go (eqb (length (drop j p)) 0) (rw (eq-eqb (length (drop i s)) 0 z) at e)
-    where
-      go : (x : Bool) → cond x (some []) none ≡ some (d .rest) → d .rest ≡ []
-      go true k = cc
-      go false k = never cc
+      chosen (λ z. z ≡ some (d .rest) → d .rest ≡ []) (eqb (length (drop j p)) 0) (λ q k. cc) (λ q k. never cc) (rw (eq-eqb (length (drop i s)) 0 z) at e)
 
   nothing : d .rest ≡ []
   nothing = last (d .fuel) (omega arith) (d .left)
 
-  place-is : a ≡ length (encodings (d .whole))
+  place-is : a ≡ length (encodings (d .fits .segments))
   unfolding encodings flatMap
   place-is = rw (nothing, add-zero) at (d .place)
 
   pub end-room : a ≤ 8 * n
-  end-room = let l = place-is in let m = d .room in omega arith
+  end-room = let l = place-is in let m = d .fits .room in omega arith
 
   -- zeros behind
   pub ended : (u : List ℕ) → ((k : ℕ) → getD u k 0 < 256) → bitsOf u ≡ take a (bitsOf t) ++ replicate (8 * n - a) 0
       → u ≡ scriptData n (commandsOf s p)
   unfolding encodings flatMap
   ended u b e =
-      let q : take a (bitsOf t) ≡ encodings (d .whole) = rw (nothing, append-nil) at (d .bits) in
-      rw (d .are) (sym (words-bits u b) ∙ ap (words 8) (rw (q, place-is) at e))
+      let q : take a (bitsOf t) ≡ encodings (d .fits .segments) = rw (nothing, append-nil) at (d .bits) in
+      rw (d .fits .are) (sym (words-bits u b) ∙ ap (words 8) (rw (q, place-is) at e))

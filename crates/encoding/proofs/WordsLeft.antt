@@ -1,9 +1,9 @@
 -- Words that are left to write, and bits that are written one part after the other.
-use Rattle.general.proofs.Names.{_≡_, refl, _∙_, sym, subst, Bool, true, false, not, List, [], _∷_, _++_, append-assoc, append-nil, flatMap, ℕ, suc, _+_}
+use Rattle.general.proofs.Names.{_≡_, refl, _∙_, sym, Bool, true, not, List, [], _∷_, _++_, append-assoc, append-nil, flatMap, ℕ, suc, _+_}
 use Rattle.general.proofs.Names.{_-_, _*_, _/_, _%_, _^_, _<_, _≤_, mul-suc, mul-zero, add-zero, mod-lt, add-one, arith, length, getD, take, drop}
 use Rattle.general.proofs.Names.{length-append, length-drop, drop-of-length-le, drop-cons, drop-drop, take-all}
 use lib.Pow.{high, split, pow-pos}
-use Rattle.bits.specs.Bits.{bitsOf, lowBits, wordBits}
+use Rattle.bits.specs.Bits.{lowBits, wordBits}
 use Rattle.bits.proofs.Words.{length-low, length-words}
 use Rattle.bits.proofs.Bytes.{low-add}
 use Rattle.bits.proofs.Appending.{low-split}
@@ -16,11 +16,7 @@ use Rattle.script.proofs.Runs.{just-end}
 use Rattle.encoding.specs.Written.{Written, WordsLeft, groupAt}
 
 pub written-both : {s t u xs ys : List ℕ} {i a r : ℕ} → Written s i xs a t → Written t a ys r u → Written s i (xs ++ ys) r u
-written-both {s} {t} {u} {xs} {ys} {i} {a} {r} p q =
-    record {
-      behind = q .behind ∙ rw (p .behind, length-append xs ys) (omega arith);
-      bits = q .bits ∙ rw (p .bits) (append-assoc (take i (bitsOf s)) xs ys);
-    }
+written-both p q = record { behind = q .behind ∙ rw (p .behind, length-append) (omega arith); bits = q .bits ∙ rw (p .bits, append-assoc) }
 
 pub begun : (w : ℕ) (s : List ℕ) (i : ℕ) (ws : List ℕ) → WordsLeft w s i ws s i ws
 begun w s i ws = record { place = refl; bits = refl }
@@ -34,10 +30,7 @@ module _ {w : ℕ} {s : List ℕ} {i : ℕ} {ws t : List ℕ} {a : ℕ} where
   unfolding wordBits flatMap
   word-done {u} {us} {t′} {r} d q =
       let b : r ≡ a + w = q .behind ∙ rw length-low in
-      record {
-        place = rw b (omega arith);
-        bits = rw (q .bits) (append-assoc (take a (bitsOf t)) (lowBits w u) (wordBits w us) ∙ d .bits);
-      }
+      record { place = rw b (omega arith); bits = rw (q .bits, append-assoc) (d .bits) }
 
   -- two words at once
   pub two-room : {u v : ℕ} {us : List ℕ} (m : ℕ) → WordsLeft w s i ws t a (u ∷ v ∷ us) → i + w * length ws ≤ m → a + (w + w) ≤ m
@@ -48,12 +41,7 @@ module _ {w : ℕ} {s : List ℕ} {i : ℕ} {ws t : List ℕ} {a : ℕ} where
   unfolding wordBits flatMap
   two-done {u} {v} {us} {t′} {r} d q =
       let b : r ≡ a + (w + w) = q .behind ∙ rw (length-append, length-low, length-low) in
-      record {
-        place = rw b (omega arith);
-        bits =
-            rw (q .bits)
-            (append-assoc (take a (bitsOf t)) (lowBits w u ++ lowBits w v) (wordBits w us) ∙ rw (append-assoc (lowBits w u) (lowBits w v) (wordBits w us)) (d .bits));
-      }
+      record { place = rw b (omega arith); bits = rw (q .bits, append-assoc, append-assoc (lowBits w u) (lowBits w v) (wordBits w us)) (d .bits) }
 
   pub all-done : WordsLeft w s i ws t a [] → Written s i (wordBits w ws) a t
   unfolding wordBits flatMap
@@ -98,8 +86,7 @@ pub one-digit : (run : List ℕ) (j : ℕ) → j + 1 ≡ length run → numericW
 unfolding numericWords
 one-digit run j h =
     let l : length run ≤ suc j = omega arith in
-    let d : drop (suc j) run ≡ [] = drop-of-length-le run l in
-    rw (drop-cons run j 0 (omega arith), d)
+    rw (drop-cons run j 0 (omega arith), drop-of-length-le run l)
 
 pub two-digits : (run : List ℕ) (j : ℕ) → j + 2 ≡ length run
     → numericWords (drop j run) ≡ ((getD run j 0 - 48) * 10 + (getD run (j + 1) 0 - 48)) ∷ 1022 ∷ []
@@ -107,8 +94,7 @@ unfolding numericWords
 two-digits run j h =
     let e1 : j + 1 ≡ suc j = omega arith in
     let l : length run ≤ suc (suc j) = omega arith in
-    let d : drop (suc (suc j)) run ≡ [] = drop-of-length-le run l in
-    rw (e1, drop-cons run j 0 (omega arith), drop-cons run (suc j) 0 (omega arith), d)
+    rw (e1, drop-cons run j 0 (omega arith), drop-cons run (suc j) 0 (omega arith), drop-of-length-le run l)
 
 pub no-digit : (run : List ℕ) (j : ℕ) → length run ≤ j → numericWords (drop j run) ≡ 1023 ∷ []
 unfolding numericWords
@@ -130,37 +116,27 @@ pub record Behind (run : List ℕ) (mode j w : ℕ) (s : List ℕ) (i : ℕ) (ws
   pub have : hasAll mode (drop j run) ≡ true
   pub words-left : WordsLeft w s i ws t a (vs ++ wordsOf mode g (drop j run))
 
-room-behind : (run : List ℕ) (j by k : ℕ) → j ≤ length run → by ≡ k → k ≤ length (drop j run) → j + by ≤ length run
-room-behind run j by k l b q = let m = rw length-drop at q in omega arith
+behind-it : (run : List ℕ) (mode : ℕ) (f : Bool) (j : ℕ) {by w : ℕ} {s : List ℕ} {i : ℕ} {ws t : List ℕ} {a : ℕ} {vs : List ℕ} {g : Bool}
+    → by ≡ stepOf mode → j ≤ length run → hasAll mode (drop j run) ≡ true → WordsLeft w s i ws t a (wordsOf mode f (drop j run))
+    → (wordsOf mode f (drop j run) ≡ vs ++ wordsOf mode g (drop (stepOf mode) (drop j run)))
+    × (hasAll mode (drop j run) ≡ hasAll mode (drop (stepOf mode) (drop j run))) × (stepOf mode ≤ length (drop j run))
+    → Behind run mode (j + by) w s i ws t a vs g
+behind-it run mode f j b l k d q =
+    let m = rw length-drop at (q .2) in
+    record { room = omega arith; have = rw b (rw drop-drop at (sym (q .1) ∙ k)); words-left = rw b (rw (q .0, drop-drop) at d) }
 
 module _ (run : List ℕ) (mode : ℕ) (f : Bool) (j : ℕ) {by w : ℕ} {s : List ℕ} {i : ℕ} {ws t : List ℕ} {a : ℕ} {r : Character}
     (h : CharacterIs mode f (drop j run) r) (b : by ≡ stepOf mode) (l : j ≤ length run) (k : hasAll mode (drop j run) ≡ true)
     (d : WordsLeft w s i ws t a (wordsOf mode f (drop j run))) where
   pub same-words : {v : ℕ} → r ≡ Same v → Behind run mode (j + by) w s i ws t a (v ∷ []) f
-  same-words {v} e =
-      let g : CharacterIs mode f (drop j run) (Same v) = subst (λ (z : Character). CharacterIs mode f (drop j run) z) e h in
-      record {
-        room =
-            room-behind run j by (stepOf mode) l b (g .2);
-        have = rw b (rw drop-drop at (sym (g .1) ∙ k));
-        words-left = rw b (rw (g .0, drop-drop) at d);
-      }
+  same-words e = behind-it run mode f j b l k d (rw e at h)
 
   pub other-words : {v : ℕ} → r ≡ Other v → Behind run mode (j + by) w s i ws t a (switchOf mode ∷ v ∷ []) (not f)
-  other-words {v} e =
-      let g : CharacterIs mode f (drop j run) (Other v) = subst (λ (z : Character). CharacterIs mode f (drop j run) z) e h in
-      record {
-        room =
-            room-behind run j by (stepOf mode) l b (g .2);
-        have = rw b (rw drop-drop at (sym (g .1) ∙ k));
-        words-left = rw b (rw (g .0, drop-drop) at d);
-      }
+  other-words e = behind-it run mode f j b l k d (rw e at h)
 
 pub never-lacking : {A : Type 0} (run : List ℕ) (mode : ℕ) (f : Bool) (j : ℕ) {r : Character} → CharacterIs mode f (drop j run) r
     → hasAll mode (drop j run) ≡ true → r ≡ Lacking → A
-never-lacking run mode f j h t e =
-    let g : hasAll mode (drop j run) ≡ false = subst (λ (z : Character). CharacterIs mode f (drop j run) z) e h in
-    absurd (false-true (sym g ∙ t))
+never-lacking run mode f j h t e = absurd (false-true (sym (rw e at h) ∙ t))
 
 pub end-words : (run : List ℕ) (mode : ℕ) (f : Bool) (j : ℕ) → length run ≤ j → wordsOf mode f (drop j run) ≡ endOf mode ∷ []
-end-words run mode f j h = let d : drop j run ≡ [] = drop-of-length-le run h in rw d (just-end mode f)
+end-words run mode f j h = rw (drop-of-length-le run h) (just-end mode f)

@@ -1,5 +1,5 @@
 -- Segments that are written are read back, with zero bits behind them.
-use Rattle.general.proofs.Names.{_≡_, refl, ap, _∙_, Bool, true, false, cond, List, [], _∷_, _++_, append-assoc, flatMap, ℕ, zero, suc, _+_, _*_, _^_, _<_, drop-append-seam}
+use Rattle.general.proofs.Names.{_≡_, refl, _∙_, true, false, List, [], _∷_, _++_, append-assoc, flatMap, ℕ, zero, suc, _+_, _*_, _^_, _<_, drop-append-seam}
 use Rattle.general.proofs.Names.{_≤_, le-of-suc-le-suc, arith, ne-eqb, lt-ltb, le-ltb, ltb-true, ltb, length, getD, drop, replicate, length-append, take-at}
 use Rattle.general.proofs.Names.{drop-at}
 use Rattle.bits.specs.Bits.{lowBits, value, words, wordBits}
@@ -10,6 +10,7 @@ use Rattle.segments.specs.Segments.{Result, got, inBits, numericOf, textOf, byt
 use Rattle.segments.specs.Segments.{eciOf, bytesOfMode, segmentOf, Parsed, following, parse}
 use Rattle.script.specs.Writer.{numericWords, textWords, regionWords, doubleWords, fourCode, same, inFour, eciBits, modeHas, modeBits}
 use Rattle.script.specs.Writer.{has, encodingOf, encodings}
+use Rattle.bits.proofs.Tests.{chosen-less}
 use Rattle.script.proofs.Tests.{both, same-is}
 use Rattle.script.proofs.Digits.{numeric-back, numeric-small}
 use Rattle.script.proofs.Characters.{text-back, text-small, region-back, region-small, double-back, double-small}
@@ -35,33 +36,18 @@ bytes-mode-back bs rest l h =
     let y : List ℕ = wordBits 8 bs ++ rest in
     let k : 13 + 8 * length bs ≤ length (lowBits 13 (length bs) ++ y) =
     omega (arith, length-append (lowBits 13 (length bs)) y, length-append (wordBits 8 bs) rest, length-low 13 (length bs), length-words 8 bs) in
-    let n : length (lowBits 13 (length bs) ++ wordBits 8 bs) ≡ 13 + 8 * length bs =
-    rw (length-append (lowBits 13 (length bs)) (wordBits 8 bs), length-low, length-words) in
-    rw (
-      append-assoc (lowBits 13 (length bs)) (wordBits 8 bs) rest,
-      n,
-      take-at (lowBits 13 (length bs)) y 13 (length-low 13 (length bs)),
-      low-back 13 (length bs) (omega arith),
-      le-ltb (length (lowBits 13 (length bs) ++ y)) (13 + 8 * length bs) k,
-      drop-at (lowBits 13 (length bs)) y 13 (length-low 13 (length bs)),
-      first-back 8 bs rest (byte-small bs h),
-    )
+    let n : length (lowBits 13 (length bs) ++ wordBits 8 bs) ≡ 13 + 8 * length bs = rw (length-append, length-low, length-words) in
+    let o = length-low 13 (length bs) in
+    rw (append-assoc, n, take-at _ y 13 o, low-back 13 (length bs) (omega arith), le-ltb _ _ k, drop-at _ y 13 o, first-back 8 bs rest (byte-small bs h))
 
 four-back : (bs rest : List ℕ) → inFour bs ≡ true → fourByteOf (lowBits 21 (fourCode bs) ++ rest) ≡ got bs (length (lowBits 21 (fourCode bs)))
 unfolding inFour fourByteOf
 four-back bs rest h =
     let t = both (ltb (fourCode bs) 1587600) (same (fourBytes (fourCode bs)) bs) h in
-    let v : fourCode bs < 1587600 = ltb-true (fourCode bs) 1587600 (t .0) in
-    let k : 21 ≤ length (lowBits 21 (fourCode bs) ++ rest) = omega (arith, length-append (lowBits 21 (fourCode bs)) rest, length-low 21 (fourCode bs)) in
-    rw (
-      le-ltb (length (lowBits 21 (fourCode bs) ++ rest)) 21 k,
-      take-at (lowBits 21 (fourCode bs)) rest 21 (length-low 21 (fourCode bs)),
-      low-back 21
-          (fourCode bs) (omega arith),
-      lt-ltb (fourCode bs) 1587600 v,
-      same-is (fourBytes (fourCode bs)) bs (t .1),
-      length-low,
-    )
+    let v = ltb-true (fourCode bs) 1587600 (t .0) in
+    let o = length-low 21 (fourCode bs) in
+    let k : 21 ≤ length (lowBits 21 (fourCode bs) ++ rest) = rw length-append (omega arith) in
+    rw (le-ltb _ 21 k, take-at _ rest 21 o, low-back 21 (fourCode bs) (omega arith), lt-ltb _ _ v, same-is _ bs (t .1), length-low)
 
 -- what the check has shown of a segment
 abbrev pub Legal : Segment → Type 0
@@ -95,25 +81,15 @@ module _ (bs rest : List ℕ) where
 field-back : (ps : List ℕ) (w v : ℕ) (rest : List ℕ) → v < 2 ^ w → eciValue (length ps) w (ps ++ (lowBits w v ++ rest)) ≡ got (eci v) (length ps + w)
 unfolding eciValue
 field-back ps w v rest h =
-    let l : length ps + w ≤ length (ps ++ (lowBits w v ++ rest)) =
-    omega (arith, length-append ps (lowBits w v ++ rest), length-append (lowBits w v) rest, length-low w v) in
-    rw (
-      le-ltb (length (ps ++ (lowBits w v ++ rest))) (length ps + w) l,
-      drop-append-seam ps (lowBits w v ++ rest),
-      take-at (lowBits w v) rest w (length-low w v),
-      low-back w v h,
-    )
+    let l : length ps + w ≤ length (ps ++ (lowBits w v ++ rest)) = simp (length-append, length-low) (omega arith) in
+    rw (le-ltb _ _ l, drop-append-seam, take-at _ rest w (length-low w v), low-back w v h)
 
 eci-back : (v : ℕ) (rest : List ℕ) → v ≤ 2097151 → eciOf (eciBits v ++ rest) ≡ got (eci v) (length (eciBits v))
 unfolding eciBits eciOf
-eci-back v rest h = go (ltb v 128) refl (ltb v 16384) refl
-  where
-    go : (a : Bool) → ltb v 128 ≡ a → (b : Bool) → ltb v 16384 ≡ b
-        → eciOf (cond a (0 ∷ lowBits 7 v) (cond b (1 ∷ 0 ∷ lowBits 14 v) (1 ∷ 1 ∷ 0 ∷ lowBits 21 v)) ++ rest)
-        ≡ got (eci v) (length (cond a (0 ∷ lowBits 7 v) (cond b (1 ∷ 0 ∷ lowBits 14 v) (1 ∷ 1 ∷ 0 ∷ lowBits 21 v))))
-    go true p b q = field-back (0 ∷ []) 7 v rest (ltb-true v 128 p) ∙ rw length-low
-    go false p true q = field-back (1 ∷ 0 ∷ []) 14 v rest (ltb-true v 16384 q) ∙ rw length-low
-    go false p false q = field-back (1 ∷ 1 ∷ 0 ∷ []) 21 v rest (omega arith) ∙ rw length-low
+eci-back v rest h =
+    chosen-less (λ l. eciOf (l ++ rest) ≡ got (eci v) (length l)) v 128 (λ p. field-back (0 ∷ []) 7 v rest p ∙ rw length-low)
+    (λ p. chosen-less (λ l. eciOf (l ++ rest) ≡ got (eci v) (length l)) v 16384 (λ q. field-back (1 ∷ 0 ∷ []) 14 v rest q ∙ rw length-low)
+    (λ q. field-back (1 ∷ 1 ∷ 0 ∷ []) 21 v rest (omega arith) ∙ rw length-low))
 
 -- ---- one segment and all of them
 
@@ -141,15 +117,9 @@ encoding-parts (eci v) = refl
 opened : (k m : ℕ) (y : List ℕ) → 0 < m → m < 16 → parse (suc k) (lowBits 4 m ++ y) ≡ following (segmentOf m y) (λ u. parse k (drop u y))
 unfolding parse
 opened k m y p h =
-    let l : 4 ≤ length (lowBits 4 m ++ y) = omega (arith, length-append (lowBits 4 m) y, length-low 4 m) in
-    simp (
-      le-ltb (length (lowBits 4 m ++ y)) 4 l,
-      take-at (lowBits 4 m) y 4 (length-low 4 m),
-      drop-at (lowBits 4 m) y 4 (length-low 4 m),
-      low-back 4 m
-          h,
-      ne-eqb m 0 (λ e. omega arith),
-    )
+    let o = length-low 4 m in
+    let l : 4 ≤ length (lowBits 4 m ++ y) = rw length-append (omega arith) in
+    simp (le-ltb (length (lowBits 4 m ++ y)) 4 l, take-at (lowBits 4 m) y 4 o, drop-at (lowBits 4 m) y 4 o, low-back 4 m h, ne-eqb m 0 (λ e. omega arith))
 
 -- a whole parse: these segments, and an end that is not broken
 abbrev pub Whole : Parsed → List Segment → Type 0
@@ -163,8 +133,7 @@ zeros (suc zero) (suc k) h = (refl, refl)
 zeros (suc (suc zero)) (suc k) h = (refl, refl)
 zeros (suc (suc (suc zero))) (suc k) h = (refl, refl)
 zeros (suc (suc (suc (suc z)))) (suc k) h =
-    let l : List ℕ = replicate z 0 in
-    rw (le-ltb (suc (suc (suc (suc (length l))))) 4 (omega arith)) (refl, refl)
+    rw (le-ltb (suc (suc (suc (suc (length {A = ℕ} (replicate z 0)))))) 4 (omega arith)) (refl, refl)
 
 pub round : (k : ℕ) (gs : List Segment) (z : ℕ) → length gs < k → AllLegal gs → allHave gs ≡ true
     → Whole (parse k (encodings gs ++ replicate z 0)) gs
@@ -176,7 +145,6 @@ round (suc k) (g ∷ gs) z h l t =
     let a = both (has g) (allHave gs) t in
     let r = round k gs z (le-of-suc-le-suc h) (l .1) (a .1) in
     let m = mode-small g (l .0) in
-    let e : (encodingOf g ++ encodings gs) ++ replicate z 0 ≡ lowBits 4 (modeOf g) ++ (bodyOf g ++ x) =
-    append-assoc (encodingOf g) (encodings gs) (replicate z 0) ∙ rw (encoding-parts g) (append-assoc (lowBits 4 (modeOf g)) (bodyOf g) x) in
+    let e : (encodingOf g ++ encodings gs) ++ replicate z 0 ≡ lowBits 4 (modeOf g) ++ (bodyOf g ++ x) = rw (encoding-parts g) (simp append-assoc) in
     rw (e, opened k (modeOf g) (bodyOf g ++ x) (m .0) (m .1), segment-back g x (l .0) (a .0), drop-at (bodyOf g) x (length (bodyOf g)) refl)
-    (ap (λ (z : List Segment). g ∷ z) (r .0), r .1)
+    (rw (r .0), r .1)

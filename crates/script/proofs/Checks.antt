@@ -1,8 +1,8 @@
 -- The check's steps: a command at a place of a script, and what it leaves of the answer.
-use Rattle.general.proofs.Names.{_≡_, refl, ap, _∙_, subst, sym, Bool, true, false, cond, _&&_, Option, none, some, bind, List, [], _∷_, ℕ, zero, suc, _+_}
-use Rattle.general.proofs.Names.{_-_, _*_, _/_, _%_, _<_, _≤_, add-zero, zero-add, add-assoc, arith, eq-eqb, ne-eqb, lt-ltb, le-ltb, lt-leb, le-leb}
-use Rattle.general.proofs.Names.{ltb-false, leb-true, ltb, eqb, leb, length, getD, take, drop, length-drop, getD-drop, drop-drop, length-take-le}
-use Rattle.bits.proofs.Tests.{never}
+use Rattle.general.proofs.Names.{_≡_, refl, _∙_, sym, Bool, true, false, cond, _&&_, Option, none, some, bind, List, [], ℕ, zero, suc, _+_}
+use Rattle.general.proofs.Names.{_-_, _*_, _<_, _≤_, add-zero, zero-add, add-assoc, arith, eq-eqb, ne-eqb, lt-ltb, le-ltb, lt-leb, le-leb}
+use Rattle.general.proofs.Names.{leb-true, ltb, eqb, leb, length, getD, take, drop, length-drop, getD-drop, drop-drop, length-take-le}
+use Rattle.bits.proofs.Tests.{never, tested, chosen, chosen-less}
 use Rattle.segments.specs.Script.{Segment, run, eci, bytesOf, commandOf}
 use Rattle.script.specs.declared.Command.{Command}
 use Rattle.script.specs.declared.Command.the-variants.{Run, Eci, Wrong}
@@ -42,37 +42,36 @@ module _ (s : List ℕ) (i : ℕ) where
   eci-cut h = rw (length-drop, lt-ltb (length s - i) 4 h)
 
   module _ (a b c : ℕ) (h : 4 ≤ length s - i) (ea : a ≡ getD s (i + 1) 0) (eb : b ≡ getD s (i + 2) 0) (ec : c ≡ getD s (i + 3) 0) where
-    pub eci-large : 2097151 < a * 65536 + b * 256 + c → Wrong ≡ eciAt (drop i s)
+    eci-is : eciAt (drop i s) ≡ cond (ltb 2097151 (a * 65536 + b * 256 + c)) Wrong (Eci (a * 65536 + b * 256 + c))
     unfolding eciAt
-    eci-large l =
-        rw (length-drop, le-ltb (length s - i) 4 h, getD-drop, getD-drop, getD-drop, ← ea, ← eb, ← ec, lt-ltb 2097151 (a * 65536 + b * 256 + c) l)
+    eci-is = rw (length-drop, le-ltb (length s - i) 4 h, getD-drop, getD-drop, getD-drop, ← ea, ← eb, ← ec)
+
+    pub eci-large : 2097151 < a * 65536 + b * 256 + c → Wrong ≡ eciAt (drop i s)
+    eci-large l = rw (eci-is, lt-ltb 2097151 (a * 65536 + b * 256 + c) l)
 
     pub eci-read : a * 65536 + b * 256 + c ≤ 2097151 → Eci (a * 65536 + b * 256 + c) ≡ eciAt (drop i s)
-    unfolding eciAt
-    eci-read l =
-        rw (length-drop, le-ltb (length s - i) 4 h, getD-drop, getD-drop, getD-drop, ← ea, ← eb, ← ec, le-ltb 2097151 (a * 65536 + b * 256 + c) l)
+    eci-read l = rw (eci-is, le-ltb 2097151 (a * 65536 + b * 256 + c) l)
 
   module _ (m : ℕ) (e : m ≡ getD s i 0) where
-    pub command-four : m ≡ 7 → Run 7 4 ≡ commandAt (drop i s)
+    command-is : commandAt (drop i s) ≡ cond (eqb m 7) (Run 7 4) (cond (eqb m 8) (eciAt (drop i s)) (cond (leb 1 m && leb m 6) (runAt (drop i s)) Wrong))
     unfolding commandAt
-    command-four f = rw (first, ← e, eq-eqb m 7 f)
+    command-is = rw (first, ← e)
+
+    pub command-four : m ≡ 7 → Run 7 4 ≡ commandAt (drop i s)
+    command-four f = rw (command-is, eq-eqb m 7 f)
 
     pub command-eci : (m ≡ 7 → ⊥) → m ≡ 8 → commandAt (drop i s) ≡ eciAt (drop i s)
-    unfolding commandAt
-    command-eci n f = rw (first, ← e, ne-eqb m 7 n, eq-eqb m 8 f)
+    command-eci n f = rw (command-is, ne-eqb m 7 n, eq-eqb m 8 f)
 
     module _ (n : m ≡ 7 → ⊥) (k : m ≡ 8 → ⊥) where
       pub command-zero : m < 1 → Wrong ≡ commandAt (drop i s)
-      unfolding commandAt
-      command-zero h = rw (first, ← e, ne-eqb m 7 n, ne-eqb m 8 k, lt-leb 1 m h)
+      command-zero h = rw (command-is, ne-eqb m 7 n, ne-eqb m 8 k, lt-leb 1 m h)
 
       pub command-large : 1 ≤ m → 6 < m → Wrong ≡ commandAt (drop i s)
-      unfolding commandAt
-      command-large l h = rw (first, ← e, ne-eqb m 7 n, ne-eqb m 8 k, le-leb 1 m l, lt-leb m 6 h)
+      command-large l h = rw (command-is, ne-eqb m 7 n, ne-eqb m 8 k, le-leb 1 m l, lt-leb m 6 h)
 
       pub command-run : 1 ≤ m → m ≤ 6 → commandAt (drop i s) ≡ runAt (drop i s)
-      unfolding commandAt
-      command-run l h = rw (first, ← e, ne-eqb m 7 n, ne-eqb m 8 k, le-leb 1 m l, le-leb m 6 h)
+      command-run l h = rw (command-is, ne-eqb m 7 n, ne-eqb m 8 k, le-leb 1 m l, le-leb m 6 h)
 
 -- ---- what a command has
 
@@ -84,38 +83,20 @@ Bounded s (Run mode n) = (1 ≤ mode) × (mode ≤ 7) × (n < 65536) × (command
 module _ (s : List ℕ) (b : (i : ℕ) → getD s i 0 < 256) (l : 0 < length s) where
   run-bounded : (1 ≤ getD s 0 0) × (getD s 0 0 ≤ 6) → Bounded s (runAt s)
   unfolding runAt commandSize
-  run-bounded m = go (ltb (length s) 3) refl (allowed (getD s 0 0) (getD s 1 0 * 256 + getD s 2 0))
-    where
-      go : (x : Bool) → ltb (length s) 3 ≡ x → (y : Bool) → Bounded s (cond x Wrong (cond y (Run (getD s 0 0) (getD s 1 0 * 256 + getD s 2 0)) Wrong))
-      go true p y = tt
-      go false p false = tt
-      go false p true =
-          let k = ltb-false (length s) 3 p in
-          let b1 = b 1 in
-          let b2 = b 2 in
-          (m .0, omega arith, omega arith, rw (ne-eqb (getD s 0 0) 7 (λ e. omega arith)) k)
+  run-bounded m = chosen-less (Bounded s) (length s) 3 (λ p. tt) (λ k. chosen (Bounded s) (allowed (getD s 0 0) (lengthOperand s))
+      (λ q. (m .0, omega arith, omega (arith, b 1, b 2), rw (ne-eqb (getD s 0 0) 7 (λ e. omega arith)) k)) (λ q. tt))
 
   eci-bounded : Bounded s (eciAt s)
   unfolding eciAt
-  eci-bounded = go (ltb (length s) 4) refl (ltb 2097151 (getD s 1 0 * 65536 + getD s 2 0 * 256 + getD s 3 0))
-    where
-      go : (x : Bool) → ltb (length s) 4 ≡ x → (y : Bool)
-          → Bounded s (cond x Wrong (cond y Wrong (Eci (getD s 1 0 * 65536 + getD s 2 0 * 256 + getD s 3 0))))
-      go true p y = tt
-      go false p true = tt
-      go false p false = ltb-false (length s) 4 p
+  eci-bounded = chosen-less (Bounded s) (length s) 4 (λ p. tt) (λ k. chosen (Bounded s) (ltb 2097151 (valueOperand s)) (λ q. tt) (λ q. k))
 
   bounded : Bounded s (commandAt s)
   unfolding commandAt commandSize
-  bounded = go (eqb (getD s 0 0) 7) (eqb (getD s 0 0) 8) (leb 1 (getD s 0 0) && leb (getD s 0 0) 6) refl
-    where
-      go : (x y z : Bool) → (leb 1 (getD s 0 0) && leb (getD s 0 0) 6) ≡ z → Bounded s (cond x (Run 7 4) (cond y (eciAt s) (cond z (runAt s) Wrong)))
-      go true y z r = (omega arith, omega arith, omega arith, l)
-      go false true z r = eci-bounded
-      go false false false r = tt
-      go false false true r =
-          let k = both (leb 1 (getD s 0 0)) (leb (getD s 0 0) 6) r in
-          run-bounded (leb-true 1 (getD s 0 0) (k .0), leb-true (getD s 0 0) 6 (k .1))
+  bounded =
+      chosen (Bounded s) (eqb (getD s 0 0) 7) (λ p. (omega arith, omega arith, omega arith, l))
+      (λ p. chosen (Bounded s) (eqb (getD s 0 0) 8) (λ q. eci-bounded) (λ q. chosen (Bounded s) (leb 1 (getD s 0 0) && leb (getD s 0 0) 6)
+      (λ r. let k = both (leb 1 (getD s 0 0)) (leb (getD s 0 0) 6) r in
+      run-bounded (leb-true 1 (getD s 0 0) (k .0), leb-true (getD s 0 0) 6 (k .1))) (λ r. tt)))
 
 module _ (s : List ℕ) (i : ℕ) (b : (j : ℕ) → getD s j 0 < 256) (h : i < length s) (c : Command) (e : c ≡ commandAt (drop i s)) where
   here : Bounded (drop i s) c
@@ -123,26 +104,20 @@ module _ (s : List ℕ) (i : ℕ) (b : (j : ℕ) → getD s j 0 < 256) (h : i < 
 
   pub run-bounds : (mode n : ℕ) → c ≡ Run mode n → (1 ≤ mode) × (mode ≤ 7) × (n < 65536) × (i + commandSize mode ≤ length s)
   run-bounds mode n q =
-      let g : Bounded (drop i s) (Run mode n) = subst (λ (z : Command). Bounded (drop i s) z) q here in
+      let g = rw q at here in
       let k : commandSize mode ≤ length s - i = rw length-drop at (g .3) in
       (g .0, g .1, g .2, omega arith)
 
   pub eci-bounds : (v : ℕ) → c ≡ Eci v → i + 4 ≤ length s
   eci-bounds v q =
-      let g : Bounded (drop i s) (Eci v) = subst (λ (z : Command). Bounded (drop i s) z) q here in
-      let k : 4 ≤ length s - i = rw length-drop at g in
+      let k : 4 ≤ length s - i = rw length-drop at (rw q at here) in
       omega arith
 
 -- ---- what a command leaves of the answer
 
 capped-add : (x y : ℕ) → capped (capped x + y) ≡ capped (x + y)
-capped-add x y = go (ltb x most) refl
-  where
-    go : (b : Bool) → ltb x most ≡ b → capped (cond b x most + y) ≡ capped (x + y)
-    go true e = refl
-    go false e =
-        let h = ltb-false x most e in
-        rw (le-ltb (most + y) most (omega arith), le-ltb (x + y) most (omega arith))
+capped-add x y =
+    chosen-less (λ z. capped (z + y) ≡ capped (x + y)) x most (λ h. refl) (λ h. rw (le-ltb (most + y) most (omega arith), le-ltb (x + y) most (omega arith)))
 
 with-takes : (lacks : Bool) (t t′ b : ℕ) (g : Segment) (z : Option (List Segment)) (p : List ℕ) → has g ≡ true → bitsOfSegment g ≡ b
     → t′ ≡ capped (t + b)
@@ -162,32 +137,15 @@ with-lacks false t g (some gs) p h = rw h
 -- the segment at the front of a script is what the command there makes
 segment-made : (s p : List ℕ) → segmentAt s p ≡ made (commandAt s) p
 unfolding segmentAt commandAt eciAt runAt
-segment-made s p =
-    go (eqb (getD s 0 0) 7) (eqb (getD s 0 0) 8) (ltb (length s) 4) (ltb 2097151 (valueOperand s)) (leb 1 (getD s 0 0) && leb (getD s 0 0) 6)
-    (ltb (length s) 3) (allowed (getD s 0 0) (lengthOperand s))
+segment-made s p = sym (simp made-choice)
   where
-    go : (a b c d e f g : Bool)
-        → cond a (made (Run 7 4) p)
-        (cond b (cond c none (cond d none (some (eci (valueOperand s)))))
-        (cond e (cond f none (cond g (made (Run (getD s 0 0) (lengthOperand s)) p) none)) none))
-        ≡ made (cond a (Run 7 4) (cond b (cond c Wrong (cond d Wrong (Eci (valueOperand s))))
-        (cond e (cond f Wrong (cond g (Run (getD s 0 0) (lengthOperand s)) Wrong)) Wrong))) p
-    go true b c d e f g = refl
-    go false true true d e f g = refl
-    go false true false true e f g = refl
-    go false true false false e f g = refl
-    go false false c d false f g = refl
-    go false false c d true true g = refl
-    go false false c d true false true = refl
-    go false false c d true false false = refl
+    made-choice : (b : Bool) (c d : Command) → made (cond b c d) p ≡ cond b (made c p) (made d p)
+    made-choice true c d = refl
+    made-choice false c d = refl
 
 command-size : (mode n : ℕ) → length (runCommand mode n) ≡ commandSize mode
 unfolding commandSize
-command-size mode n = go (eqb mode 7)
-  where
-    go : (b : Bool) → length (cond b (7 ∷ []) (mode ∷ n / 256 ∷ n % 256 ∷ [])) ≡ cond b 1 3
-    go true = refl
-    go false = refl
+command-size mode n = tested (eqb mode 7) (λ e. rw e) (λ e. rw e)
 
 -- what the commands from a place on make, by the command c there
 module _ (s p : List ℕ) (i j : ℕ) (h : i < length s) (c : Command) (e : c ≡ commandAt (drop i s)) (k : ℕ) where
@@ -220,18 +178,10 @@ module _ (s p : List ℕ) (i j : ℕ) (h : i < length s) (c : Command) (e : c �
         ∙ rw (q, le-ltb (length (drop j p)) n m, length-take-le n (drop j p) m, command-size mode n, ← (drop-drop (commandSize mode) i s), ← (drop-drop n j p))
 
 cost-takes : (mode b : ℕ) (bs : List ℕ) (r : Cost) → r ≡ costOf mode bs → r ≡ Takes b → (modeHas mode bs ≡ true) × (modeLength mode bs ≡ b)
-cost-takes mode b bs r e q = go (modeHas mode bs) refl e
-  where
-    go : (x : Bool) → modeHas mode bs ≡ x → r ≡ cond x (Takes (modeLength mode bs)) NotInMode → (modeHas mode bs ≡ true) × (modeLength mode bs ≡ b)
-    go true h f = (h, cc)
-    go false h f = never cc
+cost-takes mode b bs r e q = tested (modeHas mode bs) (λ h. let f = rw h at e in (h, cc)) (λ h. let f = rw h at e in never cc)
 
 cost-none : (mode : ℕ) (bs : List ℕ) (r : Cost) → r ≡ costOf mode bs → r ≡ NotInMode → modeHas mode bs ≡ false
-cost-none mode bs r e q = go (modeHas mode bs) refl e
-  where
-    go : (x : Bool) → modeHas mode bs ≡ x → r ≡ cond x (Takes (modeLength mode bs)) NotInMode → modeHas mode bs ≡ false
-    go true h f = never cc
-    go false h f = h
+cost-none mode bs r e q = tested (modeHas mode bs) (λ h. let f = rw h at e in never cc) (λ h. h)
 
 -- ---- the check along a script
 
@@ -253,9 +203,9 @@ module _ {s p : List ℕ} {i j : ℕ} {lacks : Bool} {t : ℕ} {c : Command} (d 
     (e : c ≡ commandAt (drop i s)) where
   answered : (z : Option (List Segment)) → commands (suc (d .fuel - 1)) (drop i s) (drop j p) ≡ z → checkOf s p ≡ checkedAfter lacks t z p
   answered z q =
-      let m = d .enough in
       let k : suc (d .fuel - 1) ≡ d .fuel = omega arith in
-      d .same ∙ ap (λ (y : Option (List Segment)). checkedAfter lacks t y p) (rw k at q)
+      let q′ = rw k at q in
+      d .same ∙ rw q′
 
   pub check-from-wrong : c ≡ Wrong → Malformed ≡ checkOf s p
   check-from-wrong q = sym (answered none (at-wrong s p i j h c e (d .fuel - 1) q))
@@ -327,11 +277,9 @@ module _ {s p : List ℕ} {i j : ℕ} {lacks : Bool} {t : ℕ} (d : CheckFrom s 
 
     pub end-bits : lacks ≡ false → (length p ≡ 0 → ⊥) → t ≤ most → Bits t ≡ checkOf s p
     unfolding bitsOfSegments
-    end-bits e z m = sym (all-read ∙ rw (e, ne-eqb (length p) 0 z, add-zero) (ap Bits (go (ltb t most) refl)))
-      where
-        go : (b : Bool) → ltb t most ≡ b → cond b t most ≡ t
-        go true q = refl
-        go false q = let k = ltb-false t most q in omega arith
+    end-bits e z m =
+        let k : capped t ≡ t = chosen-less (λ x. x ≡ t) t most (λ q. refl) (λ q. omega arith) in
+        sym (all-read ∙ rw (e, ne-eqb (length p) 0 z, add-zero, k))
 
 pub limited : (r : Cost) (b : ℕ) → Limited r → r ≡ Takes b → b < 100000000
-limited r b h e = subst (λ (z : Cost). Limited z) e h
+limited r b h e = rw e at h

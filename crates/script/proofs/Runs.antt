@@ -1,17 +1,19 @@
 -- Runs of characters, word by word.
-use Rattle.general.proofs.Names.{_≡_, refl, ap, _∙_, subst, sym, Bool, true, false, cond, not, _&&_, List, [], _∷_, ℕ, zero, suc, _+_, _-_, _*_, _/_, _%_}
-use Rattle.general.proofs.Names.{_<_, _≤_, mul-le-mul, le-of-lt, add-one, arith, eq-eqb, ne-eqb, lt-ltb, le-ltb, lt-leb, le-leb, ltb-true, ltb-false, eqb}
-use Rattle.general.proofs.Names.{ltb, length, getD, drop, length-drop, drop-of-length-le, drop-cons, drop-drop}
+use Rattle.general.proofs.Names.{_≡_, refl, ap, _∙_, sym, Bool, true, false, cond, not, _&&_, List, [], _∷_, ℕ, zero, suc, _+_, _-_, _*_, _/_, _%_}
+use Rattle.general.proofs.Names.{_<_, _≤_, mul-le-mul, le-of-lt, add-one, arith, eq-eqb, ne-eqb, lt-ltb, le-ltb, lt-leb, le-leb, eqb}
+use Rattle.general.proofs.Names.{ltb, length, getD, drop, length-drop, drop-of-length-le, drop-cons, drop-drop, decLt}
 use Rattle.segments.specs.Segments.{fourBytes}
 use Rattle.script.specs.declared.Character.{Character}
 use Rattle.script.specs.declared.Character.the-variants.{Same, Other, Lacking}
 use Rattle.script.specs.declared.Cost.the-variants.{Takes, NotInMode}
-use Rattle.script.specs.Writer.{allPairs, isDigit, codeOf, inSubset, inText, pairCode, inRegion, inRegions, doubleCode, inDouble}
+use Rattle.script.specs.Writer.{allPairs, isDigit, inSubset, inText, inRegion, inRegions, inDouble}
 use Rattle.script.specs.Writer.{textWords, regionWords, doubleWords, fourCode, same, inFour, modeHas}
-use Rattle.script.specs.Lengths.{textSwitches, regionSwitches, modeLength}
+use Rattle.script.specs.Lengths.{modeLength}
 use Rattle.script.specs.Characters.{wordsOf, hasAll, stepOf, widthOf, switchOf, endOf, textCharacter, regionCharacter, doubleCharacter}
 use Rattle.script.specs.Characters.{CharacterIs, beginsIn, charCost, costOf}
-use Rattle.script.proofs.Tests.{both, same-is}
+use mathlib.Core.Bool.{and-true, and-assoc}
+use Rattle.bits.proofs.Tests.{tested, chosen}
+use Rattle.script.proofs.Tests.{both, same-is, either-is}
 use Rattle.script.proofs.Characters.{text-length, region-length, double-length}
 use Rattle.general.specs.Lists.{all}
 
@@ -19,55 +21,30 @@ use Rattle.general.specs.Lists.{all}
 
 text-front : (f : Bool) (b : ℕ) (bs : List ℕ) → CharacterIs 2 f (b ∷ bs) (textCharacter f b)
 unfolding wordsOf hasAll stepOf switchOf textCharacter textWords inText
-text-front f b bs = go f (inSubset f b) refl (inSubset (not f) b) refl
-  where
-    go : (f : Bool) (x : Bool) → inSubset f b ≡ x → (y : Bool) → inSubset (not f) b ≡ y
-        → CharacterIs 2 f (b ∷ bs) (cond x (Same (codeOf f b)) (cond y (Other (codeOf (not f) b)) Lacking))
-    go true true p y q = (rw p, rw p, omega arith)
-    go true false p true q = (rw p, rw (p, q), omega arith)
-    go true false p false q = rw (p, q)
-    go false true p true q = (rw p, rw q, omega arith)
-    go false true p false q = (rw p, rw (q, p), omega arith)
-    go false false p true q = (rw p, rw q, omega arith)
-    go false false p false q = rw (q, p)
+text-front f b bs =
+    let t = either-is (λ g. inSubset g b) f in
+    chosen (CharacterIs 2 f (b ∷ bs)) (inSubset f b) (λ p. (rw p, rw (t, p), omega arith))
+    (λ p. chosen (CharacterIs 2 f (b ∷ bs)) (inSubset (not f) b) (λ q. (rw p, rw (t, p, q), omega arith)) (λ q. rw (t, p, q)))
 
 region-front : (mode : ℕ) (f : Bool) (a b : ℕ) (bs : List ℕ) → (mode ≡ 2 → ⊥) → (mode ≡ 6 → ⊥)
     → CharacterIs mode f (a ∷ b ∷ bs) (regionCharacter f a b)
 unfolding wordsOf hasAll stepOf switchOf regionCharacter regionWords inRegions
-region-front mode f a b bs n2 n6 = go f (inRegion f a b) refl (inRegion (not f) a b) refl
-  where
-    e2 : eqb mode 2 ≡ false
-    e2 = ne-eqb mode 2 n2
-
-    e6 : eqb mode 6 ≡ false
-    e6 = ne-eqb mode 6 n6
-
-    go : (f : Bool) (x : Bool) → inRegion f a b ≡ x → (y : Bool) → inRegion (not f) a b ≡ y
-        → CharacterIs mode f (a ∷ b ∷ bs) (cond x (Same (pairCode f a b)) (cond y (Other (pairCode (not f) a b)) Lacking))
-    go true true p y q = (rw (e2, e6, p), rw (e2, e6, p), rw e2 (omega arith))
-    go true false p true q = (rw (e2, e6, p), rw (e2, e6, p, q), rw e2 (omega arith))
-    go true false p false q = rw (e2, e6, p, q)
-    go false true p true q = (rw (e2, e6, p), rw (e2, e6, q), rw e2 (omega arith))
-    go false true p false q = (rw (e2, e6, p), rw (e2, e6, q, p), rw e2 (omega arith))
-    go false false p true q = (rw (e2, e6, p), rw (e2, e6, q), rw e2 (omega arith))
-    go false false p false q = rw (e2, e6, q, p)
+region-front mode f a b bs n2 n6 =
+    let e2 = ne-eqb mode 2 n2 in
+    let e6 = ne-eqb mode 6 n6 in
+    let t = either-is (λ g. inRegion g a b) f in
+    chosen (CharacterIs mode f (a ∷ b ∷ bs)) (inRegion f a b) (λ p. (rw (e2, e6, p), rw (e2, e6, t, p), rw e2 (omega arith)))
+    (λ p. chosen (CharacterIs mode f (a ∷ b ∷ bs)) (inRegion (not f) a b) (λ q. (rw (e2, e6, p), rw (e2, e6, t, p, q), rw e2 (omega arith)))
+    (λ q. rw (e2, e6, t, p, q)))
 
 double-front : (f : Bool) (a b : ℕ) (bs : List ℕ) → CharacterIs 6 f (a ∷ b ∷ bs) (doubleCharacter a b)
 unfolding wordsOf hasAll stepOf switchOf doubleCharacter doubleWords
-double-front f a b bs = go (inDouble a b) refl
-  where
-    go : (x : Bool) → inDouble a b ≡ x → CharacterIs 6 f (a ∷ b ∷ bs) (cond x (Same (doubleCode a b)) Lacking)
-    go true p = (refl, rw p, omega arith)
-    go false p = rw p
+double-front f a b bs = chosen (CharacterIs 6 f (a ∷ b ∷ bs)) (inDouble a b) (λ p. (refl, rw p, omega arith)) (λ p. rw p)
 
 alone : (mode : ℕ) (f : Bool) (bs : List ℕ) → (mode ≡ 2 → ⊥) → 0 < length bs → length bs < 2 → CharacterIs mode f bs Lacking
 unfolding hasAll
 alone mode f [] n p h = absurd (omega arith)
-alone mode f (a ∷ []) n p h = rw (ne-eqb mode 2 n) (go (eqb mode 6))
-  where
-    go : (x : Bool) → cond x false false ≡ false
-    go true = refl
-    go false = refl
+alone mode f (a ∷ []) n p h = rw (ne-eqb mode 2 n) (chosen (λ x. x ≡ false) (eqb mode 6) (λ e. refl) (λ e. refl))
 alone mode f (a ∷ b ∷ bs) n p h = absurd (omega arith)
 
 -- the same at a place of a run
@@ -93,21 +70,11 @@ module _ (run : List ℕ) (mode : ℕ) (f : Bool) (j : ℕ) (h : j < length run)
 
 nothing : (mode : ℕ) → hasAll mode [] ≡ true
 unfolding hasAll
-nothing mode = go (eqb mode 2) (eqb mode 6)
-  where
-    go : (x y : Bool) → cond x true (cond y true true) ≡ true
-    go true y = refl
-    go false true = refl
-    go false false = refl
+nothing mode = chosen (λ x. x ≡ true) (eqb mode 2) (λ e. refl) (λ e. chosen (λ x. x ≡ true) (eqb mode 6) (λ g. refl) (λ g. refl))
 
 pub just-end : (mode : ℕ) (f : Bool) → wordsOf mode f [] ≡ endOf mode ∷ []
 unfolding wordsOf endOf textWords regionWords doubleWords
-just-end mode f = go (eqb mode 2) (eqb mode 6)
-  where
-    go : (x y : Bool) → cond {A = List ℕ} x (63 ∷ []) (cond y (32767 ∷ []) (4095 ∷ [])) ≡ cond x 63 (cond y 32767 4095) ∷ []
-    go true y = refl
-    go false true = refl
-    go false false = refl
+just-end mode f = tested (eqb mode 2) (λ e. rw e) (λ e. rw e (tested (eqb mode 6) (λ g. rw g) (λ g. rw g)))
 
 -- n words up to the place j of a run that began in f₀ and is now in f, and those before it are in the mode
 pub record WordsCounted (mode : ℕ) (run : List ℕ) (f₀ : Bool) (j : ℕ) (f : Bool) (n : ℕ) : Type 0 where
@@ -127,11 +94,8 @@ module _ {mode : ℕ} {run : List ℕ} {f₀ : Bool} {j : ℕ} {f : Bool} {n : �
 
   -- at a character r
   module _ (r : Character) (h : CharacterIs mode f (drop j run) r) where
-    is : (z : Character) → r ≡ z → CharacterIs mode f (drop j run) z
-    is z e = subst (λ (z : Character). CharacterIs mode f (drop j run) z) e h
-
     pub counted-lacks : r ≡ Lacking → NotInMode ≡ charCost mode run
-    counted-lacks e = rw (d .have ∙ is Lacking e)
+    counted-lacks e = rw (d .have ∙ (rw e at h))
 
     module _ {by : ℕ} (b : by ≡ stepOf mode) (p : 1 ≤ by) where
       next : (g : Bool) (k : ℕ) → k ≤ 2 → length (wordsOf mode f (drop j run)) ≡ k + length (wordsOf mode g (drop (stepOf mode) (drop j run)))
@@ -142,10 +106,10 @@ module _ {mode : ℕ} {run : List ℕ} {f₀ : Bool} {j : ℕ} {f : Bool} {n : �
           record { room = omega arith; few = omega arith; have = d .have ∙ rw b (rw drop-drop at a); words = omega arith }
 
       pub counted-same : {w : ℕ} → r ≡ Same w → WordsCounted mode run f₀ (j + by) f (n + 1)
-      counted-same {w} e = let g = is (Same w) e in next f 1 (omega arith) (ap length (g .0) ∙ omega arith) (g .1) (g .2)
+      counted-same {w} e = let g = rw e at h in next f 1 (omega arith) (ap length (g .0) ∙ omega arith) (g .1) (g .2)
 
       pub counted-other : {w : ℕ} → r ≡ Other w → WordsCounted mode run f₀ (j + by) (not f) (n + 2)
-      counted-other {w} e = let g = is (Other w) e in next (not f) 2 (omega arith) (ap length (g .0) ∙ omega arith) (g .1) (g .2)
+      counted-other {w} e = let g = rw e at h in next (not f) 2 (omega arith) (ap length (g .0) ∙ omega arith) (g .1) (g .2)
 
 -- ---- the bits of a run
 
@@ -174,36 +138,6 @@ module _ (run : List ℕ) (mode : ℕ) where
   unfolding modeHas
   four-lacks e t = rw (e, t)
 
-  pub text-cost : mode ≡ 2 → charCost mode run ≡ costOf mode run
-  unfolding modeHas modeLength hasAll wordsOf widthOf beginsIn
-  text-cost e = rw e (go (all inText run))
-    where
-      go : (x : Bool) → cond x (Takes (4 + 6 * length (textWords true run))) NotInMode ≡ cond x (Takes (10 + 6 * (length run + textSwitches true run))) NotInMode
-      go true = let h : 4 + 6 * length (textWords true run) ≡ 10 + 6 * (length run + textSwitches true run) = rw (text-length true run) (omega arith) in rw h
-      go false = refl
-
-  pub region-cost : (f : Bool) → mode ≡ cond f 4 5 → charCost mode run ≡ costOf mode run
-  unfolding modeHas modeLength hasAll wordsOf widthOf beginsIn
-  region-cost f e = rw e (which f)
-    where
-      go : (f x : Bool) → allPairs inRegions run ≡ x
-          → cond x (Takes (4 + 12 * length (regionWords f run))) NotInMode ≡ cond x (Takes (16 + 12 * (length run / 2 + regionSwitches f run))) NotInMode
-      go f true t = let h : 4 + 12 * length (regionWords f run) ≡ 16 + 12 * (length run / 2 + regionSwitches f run) = rw (region-length f run t) (omega arith) in rw h
-      go f false t = refl
-
-      which : (f : Bool) → charCost (cond f 4 5) run ≡ costOf (cond f 4 5) run
-      which true = go true (allPairs inRegions run) refl
-      which false = go false (allPairs inRegions run) refl
-
-  pub double-cost : mode ≡ 6 → charCost mode run ≡ costOf mode run
-  unfolding modeHas modeLength hasAll wordsOf widthOf beginsIn
-  double-cost e = rw e (go (allPairs inDouble run) refl)
-    where
-      go : (x : Bool) → allPairs inDouble run ≡ x
-          → cond x (Takes (4 + 15 * length (doubleWords run))) NotInMode ≡ cond x (Takes (19 + 15 * (length run / 2))) NotInMode
-      go true t = let h : 4 + 15 * length (doubleWords run) ≡ 19 + 15 * (length run / 2) = rw (double-length run t) (omega arith) in rw h
-      go false t = refl
-
 -- ---- four bytes, and digits
 
 four-same : (w : ℕ) (s : List ℕ) → length s ≡ 4
@@ -211,12 +145,11 @@ four-same : (w : ℕ) (s : List ℕ) → length s ≡ 4
     ≡ (eqb (0x81 + w / 12600) (getD s 0 0) && (eqb (0x30 + w % 12600 / 1260) (getD s 1 0)
     && (eqb (0x81 + w % 1260 / 10) (getD s 2 0) && (eqb (0x30 + w % 10) (getD s 3 0) && true))))
 unfolding same fourBytes
-four-same w [] e = absurd (omega arith)
-four-same w (a ∷ []) e = absurd (omega arith)
-four-same w (a ∷ b ∷ []) e = absurd (omega arith)
-four-same w (a ∷ b ∷ c ∷ []) e = absurd (omega arith)
-four-same w (a ∷ b ∷ c ∷ d ∷ []) e = refl
-four-same w (a ∷ b ∷ c ∷ d ∷ x ∷ s) e = absurd (omega arith)
+four-same w s e =
+    let l : length s ≤ 4 = omega arith in
+    let q : s ≡ getD s 0 0 ∷ getD s 1 0 ∷ getD s 2 0 ∷ getD s 3 0 ∷ [] = drop-cons s 0 0 (omega arith)
+    ∙ rw (drop-cons s 1 0 (omega arith), drop-cons s 2 0 (omega arith), drop-cons s 3 0 (omega arith), drop-of-length-le s l) in
+    rw q
 
 -- the bytes of a value that is in the mode
 four-bytes : (s : List ℕ) → inFour s ≡ true → s ≡ fourBytes (fourCode s)
@@ -228,11 +161,7 @@ unfolding fourBytes
 four-long s h = ap length (four-bytes s h)
 
 pub four-none : (s : List ℕ) → (s ≡ fourBytes (fourCode s) → ⊥) → false ≡ inFour s
-four-none s n = go (inFour s) refl
-  where
-    go : (x : Bool) → inFour s ≡ x → false ≡ x
-    go true e = absurd (n (four-bytes s e))
-    go false e = refl
+four-none s n = tested (inFour s) (λ e. absurd (n (four-bytes s e))) (λ e. sym e)
 
 -- the last byte tells, where the first three are right
 pub four-last : (s : List ℕ) (w a b c d : ℕ) → w ≡ fourCode s → w < 1587600 → length s ≡ 4 → a ≡ getD s 0 0 → b ≡ getD s 1 0 → c ≡ getD s 2 0 → d ≡ getD s 3 0
@@ -242,68 +171,51 @@ four-last s w a b c d e v l ea eb ec ed fa fb fc =
     let three = four-same w s l in
     let q : same (fourBytes w) s ≡ (eqb (0x30 + w % 10) d && true) =
     rw (three, ← ea, ← eb, ← ec, ← ed, eq-eqb (0x81 + w / 12600) a fa, eq-eqb (0x30 + w % 12600 / 1260) b fb, eq-eqb (0x81 + w % 1260 / 10) c fc) in
-    rw (← e, lt-ltb w 1587600 v, q) (last-and (eqb (0x30 + w % 10) d))
-  where
-    last-and : (b : Bool) → b ≡ (b && true)
-    last-and true = refl
-    last-and false = refl
+    rw (← e, lt-ltb w 1587600 v, q, and-true)
 
 -- a digit more, and the first byte that is none
 pub digits-next : (run : List ℕ) (j x y z : ℕ) → j < length run → ltb y 10 ≡ isDigit (getD run j 0) → ltb z 10 ≡ (ltb x 10 && ltb y 10)
     → (ltb x 10 && all isDigit (drop j run)) ≡ (ltb z 10 && all isDigit (drop (j + 1) run))
-digits-next run j x y z h e f = rw (f, e, drop-cons run j 0 h, add-one) (and-assoc (ltb x 10) (isDigit (getD run j 0)) (all isDigit (drop (suc j) run)))
-  where
-    and-assoc : (a b c : Bool) → (a && (b && c)) ≡ ((a && b) && c)
-    and-assoc true b c = refl
-    and-assoc false b c = refl
+digits-next run j x y z h e f = rw (f, e, drop-cons run j 0 h, add-one) (sym (and-assoc (ltb x 10) (isDigit (getD run j 0)) (all isDigit (drop (suc j) run))))
 
 pub digits-end : (run : List ℕ) (j x : ℕ) → length run ≤ j → ltb x 10 ≡ (ltb x 10 && all isDigit (drop j run))
-digits-end run j x h = rw (drop-of-length-le run h) (and-true (ltb x 10))
-  where
-    and-true : (a : Bool) → a ≡ (a && true)
-    and-true true = refl
-    and-true false = refl
+digits-end run j x h = rw (drop-of-length-le run h, and-true)
 
 -- the value of a digit, and the greater of two values
 pub digit-value : (b : ℕ) → 48 ≤ b → ltb (b - 48) 10 ≡ isDigit b
 unfolding isDigit
-digit-value b h = rw (le-leb 48 b h) (go (ltb b 58) refl)
-  where
-    go : (x : Bool) → ltb b 58 ≡ x → ltb (b - 48) 10 ≡ ltb b 58
-    go true e = let l = ltb-true b 58 e in rw e (lt-ltb (b - 48) 10 (omega arith))
-    go false e = let l = ltb-false b 58 e in rw e (le-ltb (b - 48) 10 (omega arith))
+digit-value b h = rw (le-leb 48 b h) (elim (decLt b 58) [
+  | yes l ↦ rw (lt-ltb b 58 l, lt-ltb (b - 48) 10 (omega arith))
+  | no l ↦ rw (le-ltb b 58 (omega arith), le-ltb (b - 48) 10 (omega arith))
+])
 
 pub not-a-digit : (b : ℕ) → b < 48 → ltb 255 10 ≡ isDigit b
 unfolding isDigit
 not-a-digit b h = rw (lt-leb 48 b h)
 
 pub right-greater : (a b : ℕ) → a ≤ b → ltb b 10 ≡ (ltb a 10 && ltb b 10)
-right-greater a b h = go (ltb a 10) refl
-  where
-    go : (x : Bool) → ltb a 10 ≡ x → ltb b 10 ≡ (ltb a 10 && ltb b 10)
-    go true e = rw e
-    go false e = let l = ltb-false a 10 e in rw e (le-ltb b 10 (omega arith))
+right-greater a b h = elim (decLt a 10) [ yes l ↦ rw (lt-ltb a 10 l) | no l ↦ rw (le-ltb a 10 (omega arith), le-ltb b 10 (omega arith)) ]
 
 pub left-greater : (a b : ℕ) → b ≤ a → ltb a 10 ≡ (ltb a 10 && ltb b 10)
-left-greater a b h = go (ltb a 10) refl
-  where
-    go : (x : Bool) → ltb a 10 ≡ x → ltb a 10 ≡ (ltb a 10 && ltb b 10)
-    go true e = let l = ltb-true a 10 e in rw (lt-ltb b 10 (omega arith), e)
-    go false e = rw e
+left-greater a b h = elim (decLt a 10) [ yes l ↦ rw (lt-ltb a 10 l, lt-ltb b 10 (omega arith)) | no l ↦ rw (le-ltb a 10 (omega arith)) ]
 
 -- no product of a word's width and the number of words is large
 pub small : (w n : ℕ) → w ≤ 15 → n < 1000000 → w * n ≤ 15000000
 small w n h l = mul-le-mul h (le-of-lt l)
 
 -- the four modes of characters
+same-cost : (x : Bool) (m n : ℕ) → (x ≡ true → m ≡ n) → cond x (Takes m) NotInMode ≡ cond x (Takes n) NotInMode
+same-cost x m n h = tested x (λ t. rw (h t)) (λ t. rw t)
+
 pub char-cost : (run : List ℕ) (mode : ℕ) → 1 ≤ mode → mode ≤ 7 → (mode ≡ 1 → ⊥) → (mode ≡ 3 → ⊥) → (mode ≡ 7 → ⊥)
     → charCost mode run ≡ costOf mode run
+unfolding modeHas modeLength hasAll wordsOf widthOf beginsIn
 char-cost run zero a b n1 n3 n7 = absurd (omega arith)
 char-cost run (suc zero) a b n1 n3 n7 = absurd (n1 refl)
-char-cost run (suc (suc zero)) a b n1 n3 n7 = text-cost run 2 refl
+char-cost run (suc (suc zero)) a b n1 n3 n7 = same-cost (all inText run) _ _ (λ t. rw (text-length true run) (omega arith))
 char-cost run (suc (suc (suc zero))) a b n1 n3 n7 = absurd (n3 refl)
-char-cost run (suc (suc (suc (suc zero)))) a b n1 n3 n7 = region-cost run 4 true refl
-char-cost run (suc (suc (suc (suc (suc zero))))) a b n1 n3 n7 = region-cost run 5 false refl
-char-cost run (suc (suc (suc (suc (suc (suc zero)))))) a b n1 n3 n7 = double-cost run 6 refl
+char-cost run (suc (suc (suc (suc zero)))) a b n1 n3 n7 = same-cost (allPairs inRegions run) _ _ (λ t. rw (region-length true run t) (omega arith))
+char-cost run (suc (suc (suc (suc (suc zero))))) a b n1 n3 n7 = same-cost (allPairs inRegions run) _ _ (λ t. rw (region-length false run t) (omega arith))
+char-cost run (suc (suc (suc (suc (suc (suc zero)))))) a b n1 n3 n7 = same-cost (allPairs inDouble run) _ _ (λ t. rw (double-length run t) (omega arith))
 char-cost run (suc (suc (suc (suc (suc (suc (suc zero))))))) a b n1 n3 n7 = absurd (n7 refl)
 char-cost run (suc (suc (suc (suc (suc (suc (suc (suc m)))))))) a b n1 n3 n7 = absurd (omega arith)

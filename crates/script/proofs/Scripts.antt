@@ -1,9 +1,9 @@
 -- The segments that a script and its payload come to: their script and payload are these again, and each is as the check asks.
-use Rattle.general.proofs.Names.{_≡_, refl, Bool, true, false, cond, _&&_, Option, none, some, bind, List, [], _∷_, _++_, flatMap, ℕ, zero, suc, _+_, _*_}
-use Rattle.general.proofs.Names.{_/_, _%_, _<_, _≤_, arith, eqb-true, eqb-false, ltb-false, ltb-true, leb-true, eq-eqb, ne-eqb, ltb, eqb, leb, length, getD}
-use Rattle.general.proofs.Names.{take, drop, take-append-drop, getD-drop, length-take-le}
-use Rattle.bits.proofs.Tests.{never}
-use Rattle.segments.specs.Script.{Segment, run, eci, bytesOf, commandOf, payloadOf, scriptOf}
+use Rattle.general.proofs.Names.{_≡_, refl, true, cond, _&&_, Option, none, some, bind, List, [], _∷_, _++_, flatMap, ℕ, zero, suc, _+_, _*_}
+use Rattle.general.proofs.Names.{_/_, _%_, _<_, _≤_, arith, eqb-true, eqb-false, ltb-true, leb-true, eq-eqb, ne-eqb, eqb, leb, length, getD}
+use Rattle.general.proofs.Names.{drop, sym, _∙_, drop-cons, drop-of-length-le, take-append-drop, getD-drop, length-take-le}
+use Rattle.bits.proofs.Tests.{never, chosen, chosen-less}
+use Rattle.segments.specs.Script.{Segment, bytesOf, commandOf, payloadOf, scriptOf}
 use Rattle.script.specs.Check.{allowed, taking, segmentAt, commands}
 use Rattle.script.specs.Inner.{lengthOperand, valueOperand, with}
 use Rattle.script.proofs.Tests.{both}
@@ -19,42 +19,25 @@ Front s p (some g) = (commandOf g ++ drop (length (commandOf g)) s ≡ s) × (by
 
 front-3 : (s : List ℕ) (m : ℕ) → 3 ≤ length s → ((i : ℕ) → getD s i 0 < 256) → getD s 0 0 ≡ m
     → m ∷ lengthOperand s / 256 ∷ lengthOperand s % 256 ∷ drop 3 s ≡ s
-front-3 [] m h b e = absurd (omega arith)
-front-3 (x ∷ []) m h b e = absurd (omega arith)
-front-3 (x ∷ y ∷ []) m h b e = absurd (omega arith)
-front-3 (x ∷ y ∷ z ∷ s) m h b e =
-    let l = b 2 in
-    let p : (y * 256 + z) / 256 ≡ y = omega arith in
-    let q : (y * 256 + z) % 256 ≡ z = omega arith in
-    rw (p, q, ← e)
+front-3 s m h b e =
+    let p : lengthOperand s / 256 ≡ getD s 1 0 = omega (arith, b 2) in
+    let q : lengthOperand s % 256 ≡ getD s 2 0 = omega (arith, b 2) in
+    rw (p, q, ← e) (sym (drop-cons s 0 0 (omega arith) ∙ rw (drop-cons s 1 0 (omega arith), drop-cons s 2 0 (omega arith))))
 
 front-4 : (s : List ℕ) → 4 ≤ length s → ((i : ℕ) → getD s i 0 < 256) → getD s 0 0 ≡ 8
     → 8 ∷ valueOperand s / 65536 ∷ valueOperand s / 256 % 256 ∷ valueOperand s % 256 ∷ drop 4 s ≡ s
-front-4 [] h b e = absurd (omega arith)
-front-4 (x ∷ []) h b e = absurd (omega arith)
-front-4 (x ∷ y ∷ []) h b e = absurd (omega arith)
-front-4 (x ∷ y ∷ z ∷ []) h b e = absurd (omega arith)
-front-4 (x ∷ y ∷ z ∷ w ∷ s) h b e =
+front-4 s h b e =
     let l = b 2 in
     let k = b 3 in
-    let p : (y * 65536 + z * 256 + w) / 65536 ≡ y = omega arith in
-    let q : (y * 65536 + z * 256 + w) / 256 ≡ y * 256 + z = omega arith in
-    let r : (y * 65536 + z * 256 + w) / 256 % 256 ≡ z = rw q (omega arith) in
-    let t : (y * 65536 + z * 256 + w) % 256 ≡ w = omega arith in
-    rw (p, r, t, ← e)
+    let p : valueOperand s / 65536 ≡ getD s 1 0 = omega arith in
+    let q : valueOperand s / 256 ≡ getD s 1 0 * 256 + getD s 2 0 = omega arith in
+    let r : valueOperand s / 256 % 256 ≡ getD s 2 0 = rw q (omega arith) in
+    let t : valueOperand s % 256 ≡ getD s 3 0 = omega arith in
+    rw (p, r, t, ← e) (sym (drop-cons s 0 0 (omega arith)
+    ∙ rw (drop-cons s 1 0 (omega arith), drop-cons s 2 0 (omega arith), drop-cons s 3 0 (omega arith))))
 
 front-1 : (s : List ℕ) → 0 < length s → getD s 0 0 ≡ 7 → 7 ∷ drop 1 s ≡ s
-front-1 [] h e = absurd (omega arith)
-front-1 (x ∷ s) h e = rw (← e)
-
--- what an allowed length is
-numeric-allowed : (mode n : ℕ) → allowed mode n ≡ true → mode ≡ 1 → 0 < n
-unfolding allowed
-numeric-allowed mode n h e = ltb-true 0 n (rw (eq-eqb mode 1 e) at h)
-
-bytes-allowed : (mode n : ℕ) → allowed mode n ≡ true → mode ≡ 3 → n ≤ 8191
-unfolding allowed
-bytes-allowed mode n h e = leb-true n 8191 (rw (ne-eqb mode 1 (λ g. omega arith), eq-eqb mode 3 e) at h)
+front-1 s h e = rw (← e) (sym (drop-cons s 0 0 h))
 
 module _ (s p : List ℕ) (b : (i : ℕ) → getD s i 0 < 256) (l : 0 < length s) where
   abbrev mode : ℕ
@@ -64,43 +47,31 @@ module _ (s p : List ℕ) (b : (i : ℕ) → getD s i 0 < 256) (l : 0 < length s
   front-taking : (m n : ℕ) → runCommand m n ++ drop (length (runCommand m n)) s ≡ s → 1 ≤ m → m ≤ 7 → (m ≡ 1 → 0 < n)
       → (m ≡ 3 → n ≤ 8191)
       → Front s p (taking m n p)
-  front-taking m n c m1 m7 d1 d3 = go (ltb (length p) n) refl
-    where
-      go : (x : Bool) → ltb (length p) n ≡ x → Front s p (cond x none (some (run m (take n p))))
-      go true e = tt
-      go false e =
-          let k : length (take n p) ≡ n = length-take-le n p (ltb-false (length p) n e) in
-          (rw k c, rw k (take-append-drop n p), (m1, m7, λ q. rw k (d1 q), λ q. rw k (d3 q)))
+  front-taking m n c m1 m7 d1 d3 =
+      chosen-less (Front s p) (length p) n (λ e. tt)
+      (λ e. let k = length-take-le n p e in (rw k c, rw k (take-append-drop n p), (m1, m7, λ q. rw k (d1 q), λ q. rw k (d3 q))))
 
-  front-run : (1 ≤ mode) × (mode ≤ 6) → (x : Bool) → ltb (length s) 3 ≡ x → (y : Bool) → allowed mode (lengthOperand s) ≡ y
-      → Front s p (cond x none (cond y (taking mode (lengthOperand s) p) none))
-  front-run m true e y f = tt
-  front-run m false e false f = tt
-  front-run m false e true f =
-      front-taking mode (lengthOperand s) (rw (ne-eqb mode 7 (λ q. omega arith)) (front-3 s mode (ltb-false (length s) 3 e) b refl)) (m .0) (omega arith)
-      (numeric-allowed mode (lengthOperand s) f) (bytes-allowed mode (lengthOperand s) f)
-
-  front-eci : mode ≡ 8 → (x : Bool) → ltb (length s) 4 ≡ x → (y : Bool) → ltb 2097151 (valueOperand s) ≡ y
-      → Front s p (cond x none (cond y none (some (eci (valueOperand s)))))
-  front-eci e true f y g = tt
-  front-eci e false f true g = tt
-  front-eci e false f false g = (front-4 s (ltb-false (length s) 4 f) b e, refl, ltb-false 2097151 (valueOperand s) g)
+  -- an allowed length
+  front-run : (1 ≤ mode) × (mode ≤ 6) → 3 ≤ length s → allowed mode (lengthOperand s) ≡ true → Front s p (taking mode (lengthOperand s) p)
+  unfolding allowed
+  front-run m e f =
+      front-taking mode (lengthOperand s) (rw (ne-eqb mode 7 (λ q. omega arith)) (front-3 s mode e b refl)) (m .0) (omega arith)
+      (λ q. ltb-true 0 (lengthOperand s) (rw (eq-eqb mode 1 q) at f))
+      (λ q. leb-true (lengthOperand s) 8191 (rw (ne-eqb mode 1 (λ g. omega arith), eq-eqb mode 3 q) at f))
 
   front : Front s p (segmentAt s p)
   unfolding segmentAt
-  front = go (eqb mode 7) refl (eqb mode 8) refl (leb 1 mode && leb mode 6) refl
-    where
-      go : (x : Bool) → eqb mode 7 ≡ x → (y : Bool) → eqb mode 8 ≡ y → (z : Bool) → (leb 1 mode && leb mode 6) ≡ z
-          → Front s p
-          (cond x (taking 7 4 p)
-          (cond y (cond (ltb (length s) 4) none (cond (ltb 2097151 (valueOperand s)) none (some (eci (valueOperand s)))))
-          (cond z (cond (ltb (length s) 3) none (cond (allowed mode (lengthOperand s)) (taking mode (lengthOperand s) p) none)) none)))
-      go true e y f z g = front-taking 7 4 (front-1 s l (eqb-true mode 7 e)) (omega arith) (omega arith) (λ q. omega arith) (λ q. omega arith)
-      go false e true f z g = front-eci (eqb-true mode 8 f) (ltb (length s) 4) refl (ltb 2097151 (valueOperand s)) refl
-      go false e false f false g = tt
-      go false e false f true g =
-          let k = both (leb 1 mode) (leb mode 6) g in
-          front-run (leb-true 1 mode (k .0), leb-true mode 6 (k .1)) (ltb (length s) 3) refl (allowed mode (lengthOperand s)) refl
+  front =
+      chosen (Front s p) (eqb mode 7)
+      (λ e. front-taking 7 4 (front-1 s l (eqb-true mode 7 e)) (omega arith) (omega arith) (λ q. omega arith) (λ q. omega arith))
+      (λ e. chosen (Front s p) (eqb mode 8)
+      (λ f. chosen-less (Front s p) (length s) 4 (λ g. tt)
+      (λ g. chosen-less (Front s p) 2097151 (valueOperand s) (λ k. tt) (λ k. (front-4 s g b (eqb-true mode 8 f), refl, k))))
+      (λ f. chosen (Front s p) (leb 1 mode && leb mode 6)
+      (λ g. let k = both (leb 1 mode) (leb mode 6) g in
+      chosen-less (Front s p) (length s) 3 (λ q. tt)
+      (λ q. chosen (Front s p) (allowed mode (lengthOperand s)) (front-run (leb-true 1 mode (k .0), leb-true mode 6 (k .1)) q) (λ r. tt)))
+      (λ g. tt)))
 
 -- ---- all of them
 
@@ -108,8 +79,7 @@ abbrev pub Again : List ℕ → List ℕ → List Segment → Type 0
 Again s p gs = (scriptOf gs ≡ s) × (payloadOf gs ≡ p) × AllLegal gs
 
 empty : (s : List ℕ) → length s ≡ 0 → s ≡ []
-empty [] e = refl
-empty (x ∷ s) e = absurd (omega arith)
+empty s e = drop-of-length-le s {i = 0} (omega arith)
 
 pub positive : (m : ℕ) → (m ≡ 0 → ⊥) → 0 < m
 positive zero f = absurd (f refl)
@@ -135,16 +105,15 @@ module _ (k : ℕ) (s p : List ℕ) (gs : List Segment) (b : (i : ℕ) → getD 
   taken none f h = never cc
   taken (some g) f h = rest g f (behind g) refl h
 
-  more : (x : Bool) → eqb (length s) 0 ≡ x → (y : Bool) → eqb (length p) 0 ≡ y
-      → cond x (cond y (some []) none) (bind (segmentAt s p) (λ g. with g (behind g))) ≡ some gs → Again s p gs
+  more : cond (eqb (length s) 0) (cond (eqb (length p) 0) (some []) none) (bind (segmentAt s p) (λ g. with g (behind g))) ≡ some gs → Again s p gs
   unfolding scriptOf payloadOf flatMap
-  more true q false r h = never cc
-  more true q true r h =
-      let g : gs ≡ [] = cc in
-      rw (g, empty s (eqb-true (length s) 0 q), empty p (eqb-true (length p) 0 r)) (refl, refl, tt)
-  more false q y r h = taken (segmentAt s p) (front s p b (positive (length s) (eqb-false (length s) 0 q))) h
+  more =
+      chosen (λ z. z ≡ some gs → Again s p gs) (eqb (length s) 0)
+      (λ q. chosen (λ z. z ≡ some gs → Again s p gs) (eqb (length p) 0)
+      (λ r h. let g : gs ≡ [] = cc in rw (g, empty s (eqb-true (length s) 0 q), empty p (eqb-true (length p) 0 r)) (refl, refl, tt)) (λ r h. never cc))
+      (λ q h. taken (segmentAt s p) (front s p b (positive (length s) (eqb-false (length s) 0 q))) h)
 
 pub commands-again : (k : ℕ) (s p : List ℕ) (gs : List Segment) → ((i : ℕ) → getD s i 0 < 256) → commands k s p ≡ some gs → Again s p gs
 unfolding commands
 commands-again zero s p gs b e = never cc
-commands-again (suc k) s p gs b e = more k s p gs b (commands-again k) (eqb (length s) 0) refl (eqb (length p) 0) refl e
+commands-again (suc k) s p gs b e = more k s p gs b (commands-again k) e

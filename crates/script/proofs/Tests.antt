@@ -1,6 +1,7 @@
 -- What the writer's tests say.
-use Rattle.general.proofs.Names.{_≡_, refl, sym, _∙_, subst, Bool, true, false, not, _&&_, _||_, List, [], _∷_, ℕ, zero, suc, _<_, ltb-true, eqb-true, T}
+use Rattle.general.proofs.Names.{_≡_, refl, subst, Bool, true, false, not, _&&_, _||_, List, [], _∷_, ℕ, zero, suc, _<_, ltb-true, eqb-true, T}
 use Rattle.general.proofs.Names.{ltb, eqb, getD}
+use mathlib.Core.Bool.{or-comm}
 use Rattle.segments.specs.Segments.{charOf, highOf, lowOf, regionSize, firstByte, secondByte}
 use Rattle.script.specs.Writer.{codeOf, inSubset, inText, pairCode, inRegion, inRegions, doubleCode, inDouble, same}
 
@@ -11,14 +12,10 @@ pub both : (a b : Bool) → (a && b) ≡ true → (a ≡ true) × (b ≡ true)
 both true b e = (refl, e)
 both false b e = absurd (false-true e)
 
--- what fails one of two passes the other
-pub other-one : (a b : Bool) → (a || b) ≡ true → a ≡ false → b ≡ true
-other-one true b e f = absurd (false-true (sym f))
-other-one false b e f = e
-
-pub other-two : (a b : Bool) → (a || b) ≡ true → b ≡ false → a ≡ true
-other-two true b e f = refl
-other-two false b e f = sym f ∙ e
+-- one of two is this or the other one
+pub either-is : (p : Bool → Bool) (f : Bool) → (p true || p false) ≡ (p f || p (not f))
+either-is p true = refl
+either-is p false = or-comm (p true) (p false)
 
 -- a subset that has a byte
 pub subset-has : (f : Bool) (b : ℕ) → inSubset f b ≡ true → (codeOf f b < 62) × (charOf f (codeOf f b) ≡ b)
@@ -29,30 +26,29 @@ subset-has f b e =
 
 pub other-subset : (f : Bool) (b : ℕ) → inText b ≡ true → inSubset f b ≡ false → inSubset (not f) b ≡ true
 unfolding inText
-other-subset true b t e = other-one (inSubset true b) (inSubset false b) t e
-other-subset false b t e = other-two (inSubset true b) (inSubset false b) t e
+other-subset f b t e = rw (either-is (λ g. inSubset g b) f, e) at t
+
+-- a code below n whose two bytes are a and b
+pair-has : (c n x a y b : ℕ) → (ltb c n && (eqb x a && eqb y b)) ≡ true → (c < n) × (x ≡ a) × (y ≡ b)
+pair-has c n x a y b e =
+    let h = both (ltb c n) (eqb x a && eqb y b) e in
+    let g = both (eqb x a) (eqb y b) (h .1) in
+    (ltb-true c n (h .0), eqb-true x a (g .0), eqb-true y b (g .1))
 
 -- a region that has a pair
 pub region-has : (f : Bool) (a b : ℕ) → inRegion f a b ≡ true
     → (pairCode f a b < regionSize f) × (highOf f (pairCode f a b) ≡ a) × (lowOf f (pairCode f a b) ≡ b)
 unfolding inRegion
-region-has f a b e =
-    let h = both (ltb (pairCode f a b) (regionSize f)) (eqb (highOf f (pairCode f a b)) a && eqb (lowOf f (pairCode f a b)) b) e in
-    let g = both (eqb (highOf f (pairCode f a b)) a) (eqb (lowOf f (pairCode f a b)) b) (h .1) in
-    (ltb-true (pairCode f a b) (regionSize f) (h .0), eqb-true (highOf f (pairCode f a b)) a (g .0), eqb-true (lowOf f (pairCode f a b)) b (g .1))
+region-has f a b e = pair-has (pairCode f a b) (regionSize f) (highOf f (pairCode f a b)) a (lowOf f (pairCode f a b)) b e
 
 pub other-region : (f : Bool) (a b : ℕ) → inRegions a b ≡ true → inRegion f a b ≡ false → inRegion (not f) a b ≡ true
 unfolding inRegions
-other-region true a b t e = other-one (inRegion true a b) (inRegion false a b) t e
-other-region false a b t e = other-two (inRegion true a b) (inRegion false a b) t e
+other-region f a b t e = rw (either-is (λ g. inRegion g a b) f, e) at t
 
 -- the two-byte mode has a pair
 pub double-has : (a b : ℕ) → inDouble a b ≡ true → (doubleCode a b < 23940) × (firstByte (doubleCode a b) ≡ a) × (secondByte (doubleCode a b) ≡ b)
 unfolding inDouble
-double-has a b e =
-    let h = both (ltb (doubleCode a b) 23940) (eqb (firstByte (doubleCode a b)) a && eqb (secondByte (doubleCode a b)) b) e in
-    let g = both (eqb (firstByte (doubleCode a b)) a) (eqb (secondByte (doubleCode a b)) b) (h .1) in
-    (ltb-true (doubleCode a b) 23940 (h .0), eqb-true (firstByte (doubleCode a b)) a (g .0), eqb-true (secondByte (doubleCode a b)) b (g .1))
+double-has a b e = pair-has (doubleCode a b) 23940 (firstByte (doubleCode a b)) a (secondByte (doubleCode a b)) b e
 
 pub same-is : (xs ys : List ℕ) → same xs ys ≡ true → xs ≡ ys
 unfolding same

@@ -1,11 +1,12 @@
 -- How long payload and script can be: a segment gives at most 3 payload bytes for 10 bits, and a script byte for 3 bits.
-use Rattle.general.proofs.Names.{_≡_, refl, Bool, true, false, cond, not, List, [], _∷_, flatMap, ℕ, zero, suc, _+_, _-_, _*_, _/_, _^_, _<_, _≤_, getD, drop}
-use Rattle.general.proofs.Names.{mul-suc, zero-add, arith, ltb-false, ltb, eqb, length, getD, take, drop, length-append, length-drop, getD-drop}
+use Rattle.general.proofs.Names.{_≡_, Bool, true, false, not, List, [], _∷_, flatMap, ℕ, zero, suc, _+_, _-_, _*_, _/_, _^_, _<_, _≤_, getD, drop}
+use Rattle.general.proofs.Names.{mul-suc, zero-add, arith, ltb, eqb, length, getD, take, drop, length-append, length-drop, getD-drop}
 use lib.Pow.{pow-pos}
 use Rattle.bits.specs.Bits.{value, firstWords, words, groups}
 use Rattle.bits.proofs.Reading.{value-bound}
-use Rattle.segments.specs.Script.{Segment, run, eci, bytesOf, commandOf, payloadOf, scriptOf}
-use Rattle.segments.specs.Segments.{cut, lacking, Result, failed, got, andThen, before, inBits, digits, groupsOf, numericOf, charOf, textOf}
+use Rattle.bits.proofs.Tests.{chosen, chosen-less}
+use Rattle.segments.specs.Script.{Segment, run, bytesOf, commandOf, payloadOf, scriptOf}
+use Rattle.segments.specs.Segments.{cut, Result, failed, got, andThen, before, inBits, digits, groupsOf, numericOf, charOf, textOf}
 use Rattle.segments.specs.Segments.{bytesMode, highOf, lowOf, regionSize, regionOf, firstByte, secondByte, doubleByteOf, fourBytes}
 use Rattle.segments.specs.Segments.{fourByteOf, eciValue, eciOf, bytesOfMode, segmentOf, Ending, endMark, fewBits, broken, Parsed, ended}
 use Rattle.segments.specs.Segments.{following, parse}
@@ -33,62 +34,49 @@ abbrev Sized : ℕ → List ℕ → Result (List ℕ) → Type 0
 Sized c ws (failed bad) = Unit {0}
 Sized c ws (got bs u) = (length bs ≤ c * u) × (u ≤ length ws) × (0 < u)
 
-cond-sized : (c : ℕ) (ws : List ℕ) (b : Bool) (r q : Result (List ℕ)) → Sized c ws r → Sized c ws q → Sized c ws (cond b r q)
-cond-sized c ws true r q h g = h
-cond-sized c ws false r q h g = g
-
 before-sized : (c w : ℕ) (cs ws : List ℕ) (r : Result (List ℕ)) → length cs ≤ c → Sized c ws r → Sized c (w ∷ ws) (before cs r)
 before-sized c w cs ws (failed bad) h g = tt
 before-sized c w cs ws (got bs u) h g = (rw (length-append cs bs, mul-suc c u) (omega arith), omega arith, omega arith)
-
-end-sized : (c w : ℕ) (ws : List ℕ) → Sized c (w ∷ ws) (got [] 1)
-end-sized c w ws = (omega arith, omega arith, omega arith)
 
 groups-sized : (p : ℕ) (ws : List ℕ) → ((i : ℕ) → getD ws i 0 < 1024) → Sized 3 ws (groupsOf p ws)
 unfolding groupsOf
 groups-sized p [] h = tt
 groups-sized p (w ∷ ws) h =
-    cond-sized 3 (w ∷ ws) (ltb w 1000) (before (digits 3 p) (groupsOf w ws)) _
-    (before-sized 3 w (digits 3 p) ws (groupsOf w ws) (rw length-digits (omega arith)) (groups-sized w ws (λ i. h (suc i))))
-    (last (ltb 1020 w) (ltb p (10 ^ (w - 1020))))
-  where
-    last : (a b : Bool) → Sized 3 (w ∷ ws) (cond a (cond b (got (digits (w - 1020) p) 1) (failed lacking)) (failed lacking))
-    last false b = tt
-    last true false = tt
-    last true true = let k = h 0 in (rw length-digits (omega arith), omega arith, omega arith)
+    chosen (Sized 3 (w ∷ ws)) (ltb w 1000)
+    (λ e. before-sized 3 w (digits 3 p) ws (groupsOf w ws) (rw length-digits (omega arith)) (groups-sized w ws (λ i. h (suc i))))
+    (λ e. chosen (Sized 3 (w ∷ ws)) (ltb 1020 w)
+    (λ g. chosen (Sized 3 (w ∷ ws)) (ltb p (10 ^ (w - 1020))) (λ k. (rw length-digits (omega (arith, h 0)), omega arith, omega arith)) (λ k. tt)) (λ g. tt))
 
 numeric-sized : (ws : List ℕ) → ((i : ℕ) → getD ws i 0 < 1024) → Sized 3 ws (numericOf ws)
 unfolding numericOf
 numeric-sized [] h = tt
 numeric-sized (w ∷ ws) h =
-    cond-sized 3 (w ∷ ws) (ltb w 1000) (before [] (groupsOf w ws)) (failed lacking)
-    (before-sized 3 w [] ws (groupsOf w ws) (omega arith) (groups-sized w ws (λ i. h (suc i)))) tt
+    chosen (Sized 3 (w ∷ ws)) (ltb w 1000) (λ e. before-sized 3 w [] ws (groupsOf w ws) (omega arith) (groups-sized w ws (λ i. h (suc i)))) (λ e. tt)
 
 text-sized : (f : Bool) (ws : List ℕ) → Sized 1 ws (textOf f ws)
 unfolding textOf
 text-sized f [] = tt
 text-sized f (w ∷ ws) =
-    cond-sized 1 (w ∷ ws) (eqb w 63) (got [] 1) _ (end-sized 1 w ws)
-    (cond-sized 1 (w ∷ ws) (eqb w 62) (before [] (textOf (not f) ws)) (before (charOf f w ∷ []) (textOf f ws))
-    (before-sized 1 w [] ws (textOf (not f) ws) (omega arith) (text-sized (not f) ws))
-    (before-sized 1 w (charOf f w ∷ []) ws (textOf f ws) (omega arith) (text-sized f ws)))
+    chosen (Sized 1 (w ∷ ws)) (eqb w 63) (λ e. (omega arith, omega arith, omega arith))
+    (λ e. chosen (Sized 1 (w ∷ ws)) (eqb w 62) (λ g. before-sized 1 w [] ws (textOf (not f) ws) (omega arith) (text-sized (not f) ws))
+    (λ g. before-sized 1 w (charOf f w ∷ []) ws (textOf f ws) (omega arith) (text-sized f ws)))
 
 region-sized : (f : Bool) (ws : List ℕ) → Sized 2 ws (regionOf f ws)
 unfolding regionOf
 region-sized f [] = tt
 region-sized f (w ∷ ws) =
-    cond-sized 2 (w ∷ ws) (eqb w 4095) (got [] 1) _ (end-sized 2 w ws)
-    (cond-sized 2 (w ∷ ws) (eqb w 4094) (before [] (regionOf (not f) ws)) _ (before-sized 2 w [] ws (regionOf (not f) ws) (omega arith) (region-sized (not f) ws))
-    (cond-sized 2 (w ∷ ws) (ltb w (regionSize f)) (before (highOf f w ∷ lowOf f w ∷ []) (regionOf f ws)) (failed lacking)
-    (before-sized 2 w (highOf f w ∷ lowOf f w ∷ []) ws (regionOf f ws) (omega arith) (region-sized f ws)) tt))
+    chosen (Sized 2 (w ∷ ws)) (eqb w 4095) (λ e. (omega arith, omega arith, omega arith))
+    (λ e. chosen (Sized 2 (w ∷ ws)) (eqb w 4094) (λ g. before-sized 2 w [] ws (regionOf (not f) ws) (omega arith) (region-sized (not f) ws))
+    (λ g. chosen (Sized 2 (w ∷ ws)) (ltb w (regionSize f))
+    (λ k. before-sized 2 w (highOf f w ∷ lowOf f w ∷ []) ws (regionOf f ws) (omega arith) (region-sized f ws)) (λ k. tt)))
 
 double-sized : (ws : List ℕ) → Sized 2 ws (doubleByteOf ws)
 unfolding doubleByteOf
 double-sized [] = tt
 double-sized (w ∷ ws) =
-    cond-sized 2 (w ∷ ws) (eqb w 32767) (got [] 1) _ (end-sized 2 w ws)
-    (cond-sized 2 (w ∷ ws) (ltb w 23940) (before (firstByte w ∷ secondByte w ∷ []) (doubleByteOf ws)) (failed lacking)
-    (before-sized 2 w (firstByte w ∷ secondByte w ∷ []) ws (doubleByteOf ws) (omega arith) (double-sized ws)) tt)
+    chosen (Sized 2 (w ∷ ws)) (eqb w 32767) (λ e. (omega arith, omega arith, omega arith))
+    (λ e. chosen (Sized 2 (w ∷ ws)) (ltb w 23940)
+    (λ k. before-sized 2 w (firstByte w ∷ secondByte w ∷ []) ws (doubleByteOf ws) (omega arith) (double-sized ws)) (λ k. tt))
 
 -- ---- bits
 
@@ -108,46 +96,31 @@ in-bits w c bs (got cs u) f g k s =
 
 mode-3 : (bs : List ℕ) → BitSized bs (bytesMode bs)
 unfolding bytesMode
-mode-3 bs = go (ltb (length bs) (13 + 8 * value 0 (take 13 bs))) refl
-  where
-    go : (b : Bool) → ltb (length bs) (13 + 8 * value 0 (take 13 bs)) ≡ b
-        → BitSized bs (cond b (failed cut) (got (firstWords 8 (value 0 (take 13 bs)) (drop 13 bs)) (13 + 8 * value 0 (take 13 bs))))
-    go true e = tt
-    go false e =
-        let k = ltb-false (length bs) (13 + 8 * value 0 (take 13 bs)) e in
-        let l = first-length 8 (value 0 (take 13 bs)) (drop 13 bs) in
-        (omega arith, k, omega arith)
+mode-3 bs =
+    let l = first-length 8 (value 0 (take 13 bs)) (drop 13 bs) in
+    chosen-less (BitSized bs) (length bs) (13 + 8 * value 0 (take 13 bs)) (λ e. tt) (λ k. (omega arith, k, omega arith))
 
 mode-7 : (bs : List ℕ) → BitSized bs (fourByteOf bs)
 unfolding fourByteOf fourBytes
-mode-7 bs = go (ltb (length bs) 21) refl (ltb (value 0 (take 21 bs)) 1587600)
-  where
-    go : (a : Bool) → ltb (length bs) 21 ≡ a → (b : Bool)
-        → BitSized bs (cond a (failed cut) (cond b (got (fourBytes (value 0 (take 21 bs))) 21) (failed lacking)))
-    go true e b = tt
-    go false e false = tt
-    go false e true = let k = ltb-false (length bs) 21 e in (omega arith, k, omega arith)
-
-pick : (bs : List ℕ) (b : Bool) (r q : Result (List ℕ)) → BitSized bs r → BitSized bs q → BitSized bs (cond b r q)
-pick bs true r q h g = h
-pick bs false r q h g = g
+mode-7 bs =
+    chosen-less (BitSized bs) (length bs) 21 (λ e. tt)
+    (λ k. chosen (BitSized bs) (ltb (value 0 (take 21 bs)) 1587600) (λ e. (omega arith, k, omega arith)) (λ e. tt))
 
 mode-sized : (mode : ℕ) (bs : List ℕ) → Small bs → BitSized bs (bytesOfMode mode bs)
 unfolding bytesOfMode words
 mode-sized mode bs h =
-    pick bs (eqb mode 1) (inBits 10 (numericOf (words 10 bs))) _
-    (in-bits 10 3 bs (numericOf (words 10 bs)) (λ u. omega arith) (λ u p. omega arith) (λ u p. omega arith)
+    chosen (BitSized bs) (eqb mode 1)
+    (λ e. in-bits 10 3 bs (numericOf (words 10 bs)) (λ u. omega arith) (λ u p. omega arith) (λ u p. omega arith)
     (numeric-sized (words 10 bs) (first-small 10 (length bs / 10) bs h)))
-    (pick bs (eqb mode 2) (inBits 6 (textOf true (words 6 bs))) _
-    (in-bits 6 1 bs (textOf true (words 6 bs)) (λ u. omega arith) (λ u p. omega arith) (λ u p. omega arith) (text-sized true (words 6 bs)))
-    (pick bs (eqb mode 3) (bytesMode bs) _ (mode-3 bs)
-    (pick bs (eqb mode 4) (inBits 12 (regionOf true (words 12 bs))) _
-    (in-bits 12 2 bs (regionOf true (words 12 bs)) (λ u. omega arith) (λ u p. omega arith) (λ u p. omega arith) (region-sized true (words 12 bs)))
-    (pick bs (eqb mode 5) (inBits 12 (regionOf false (words 12 bs))) _
-    (in-bits 12 2 bs (regionOf false (words 12 bs)) (λ u. omega arith) (λ u p. omega arith) (λ u p. omega arith) (region-sized false (words 12 bs)))
-    (pick bs (eqb mode 6) (inBits 15 (doubleByteOf (words 15 bs))) _
-    (in-bits 15 2 bs (doubleByteOf (words 15 bs)) (λ u. omega arith) (λ u p. omega arith) (λ u p. omega arith) (double-sized (words 15 bs)))
-    (pick bs (eqb mode 7) (fourByteOf bs) (failed lacking) (mode-7 bs) tt))))))
+    (λ e. chosen (BitSized bs) (eqb mode 2)
+    (λ e. in-bits 6 1 bs (textOf true (words 6 bs)) (λ u. omega arith) (λ u p. omega arith) (λ u p. omega arith) (text-sized true (words 6 bs)))
+    (λ e. chosen (BitSized bs) (eqb mode 3) (λ e. mode-3 bs) (λ e. chosen (BitSized bs) (eqb mode 4) (λ e. region true)
+    (λ e. chosen (BitSized bs) (eqb mode 5) (λ e. region false) (λ e. chosen (BitSized bs) (eqb mode 6)
+    (λ e. in-bits 15 2 bs (doubleByteOf (words 15 bs)) (λ u. omega arith) (λ u p. omega arith) (λ u p. omega arith) (double-sized (words 15 bs)))
+    (λ e. chosen (BitSized bs) (eqb mode 7) (λ e. mode-7 bs) (λ e. tt)))))))
+  where
+    region : (f : Bool) → BitSized bs (inBits 12 (regionOf f (words 12 bs)))
+    region f = in-bits 12 2 bs (regionOf f (words 12 bs)) (λ u. omega arith) (λ u p. omega arith) (λ u p. omega arith) (region-sized f (words 12 bs))
 
 -- ---- segments
 
@@ -157,33 +130,22 @@ SegmentSized bs (got g u) = (10 * length (bytesOf g) ≤ 3 * u) × (3 * length (
 
 field-sized : (k w : ℕ) (bs : List ℕ) → 8 ≤ k + w → SegmentSized bs (eciValue k w bs)
 unfolding eciValue
-field-sized k w bs h = go (ltb (length bs) (k + w)) refl
-  where
-    go : (b : Bool) → ltb (length bs) (k + w) ≡ b → SegmentSized bs (cond b (failed cut) (got (eci (value 0 (take w (drop k bs)))) (k + w)))
-    go true e = tt
-    go false e = let m = ltb-false (length bs) (k + w) e in (omega arith, omega arith, omega arith)
+field-sized k w bs h = chosen-less (SegmentSized bs) (length bs) (k + w) (λ e. tt) (λ m. (omega arith, omega arith, omega arith))
 
 eci-sized : (bs : List ℕ) → SegmentSized bs (eciOf bs)
 unfolding eciOf
 eci-sized bs =
-    either (eqb (getD bs 0 0) 0) _ _ (field-sized 1 7 bs (omega arith))
-    (either (eqb (getD bs 1 0) 0) _ _ (field-sized 2 14 bs (omega arith)) (either (eqb (getD bs 2 0) 0) _ _ (field-sized 3 21 bs (omega arith)) tt))
-  where
-    either : (b : Bool) (x y : Result Segment) → SegmentSized bs x → SegmentSized bs y → SegmentSized bs (cond b x y)
-    either true x y p q = p
-    either false x y p q = q
+    chosen (SegmentSized bs) (eqb (getD bs 0 0) 0) (λ e. field-sized 1 7 bs (omega arith))
+    (λ e. chosen (SegmentSized bs) (eqb (getD bs 1 0) 0) (λ e. field-sized 2 14 bs (omega arith))
+    (λ e. chosen (SegmentSized bs) (eqb (getD bs 2 0) 0) (λ e. field-sized 3 21 bs (omega arith)) (λ e. tt)))
 
 pub segment-sized : (mode : ℕ) (bs : List ℕ) → Small bs → SegmentSized bs (segmentOf mode bs)
 unfolding segmentOf
-segment-sized mode bs h = go (eqb mode 8)
+segment-sized mode bs h = chosen (SegmentSized bs) (eqb mode 8) (λ e. eci-sized bs) (λ e. as-run (bytesOfMode mode bs) (mode-sized mode bs h))
   where
     as-run : (r : Result (List ℕ)) → BitSized bs r → SegmentSized bs (andThen r (λ cs u. got (run mode cs) u))
     as-run (failed bad) s = tt
     as-run (got cs u) s = let k = command-length mode (length cs) in (s .0, omega arith, s .1)
-
-    go : (b : Bool) → SegmentSized bs (cond b (eciOf bs) (andThen (bytesOfMode mode bs) (λ cs u. got (run mode cs) u)))
-    go true = eci-sized bs
-    go false = as-run (bytesOfMode mode bs) (mode-sized mode bs h)
 
 abbrev pub AllSized : List ℕ → Parsed → Type 0
 AllSized bs z = (10 * length (payloadOf (z .segments)) ≤ 3 * length bs) × (3 * length (scriptOf (z .segments)) ≤ length bs)
@@ -211,14 +173,8 @@ pub parse-sized : (k : ℕ) (bs : List ℕ) → Small bs → AllSized bs (parse 
 unfolding parse
 parse-sized zero bs h = none-sized bs (broken cut)
 parse-sized (suc k) bs h =
-    go (ltb (length bs) 4) refl (eqb (value 0 (take 4 bs)) 0)
-    (λ l. more-sized bs (segmentOf (value 0 (take 4 bs)) (drop 4 bs)) (λ u. parse k (drop u (drop 4 bs))) l
+    chosen-less (AllSized bs) (length bs) 4 (λ e. none-sized bs fewBits)
+    (λ l. chosen (AllSized bs) (eqb (value 0 (take 4 bs)) 0) (λ e. none-sized bs endMark)
+    (λ e. more-sized bs (segmentOf (value 0 (take 4 bs)) (drop 4 bs)) (λ u. parse k (drop u (drop 4 bs))) l
     (segment-sized (value 0 (take 4 bs)) (drop 4 bs) (drop-small 4 bs h))
-    (λ u. parse-sized k (drop u (drop 4 bs)) (drop-small u (drop 4 bs) (drop-small 4 bs h))))
-  where
-    go : (a : Bool) → ltb (length bs) 4 ≡ a → (b : Bool)
-        → (4 ≤ length bs → AllSized bs (following (segmentOf (value 0 (take 4 bs)) (drop 4 bs)) (λ u. parse k (drop u (drop 4 bs)))))
-        → AllSized bs (cond a (ended fewBits) (cond b (ended endMark) (following (segmentOf (value 0 (take 4 bs)) (drop 4 bs)) (λ u. parse k (drop u (drop 4 bs))))))
-    go true e b f = none-sized bs fewBits
-    go false e true f = none-sized bs endMark
-    go false e false f = f (ltb-false (length bs) 4 e)
+    (λ u. parse-sized k (drop u (drop 4 bs)) (drop-small u (drop 4 bs) (drop-small 4 bs h)))))

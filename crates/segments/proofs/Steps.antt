@@ -1,8 +1,8 @@
 -- One segment and all of them: what a step of the pass leaves of the definitions.
-use Rattle.general.proofs.Names.{_≡_, refl, ap, _∙_, sym, subst, Bool, true, false, cond, List, [], _∷_, _++_, flatMap, ℕ, suc, _+_, _-_, _*_, _/_, _%_}
+use Rattle.general.proofs.Names.{_≡_, refl, ap, _∙_, sym, true, false, List, _∷_, _++_, flatMap, ℕ, suc, _+_, _-_, _*_}
 use Rattle.general.proofs.Names.{_<_, _≤_, one-mul, add-zero, arith, eq-eqb, ne-eqb, lt-ltb, le-ltb, eqb, length, drop, length-append, sets, drop-drop}
 use Rattle.bits.specs.Bits.{bitsOf}
-use Rattle.bits.proofs.Tests.{never}
+use Rattle.bits.proofs.Tests.{never, tested}
 use Rattle.bits.proofs.Reading.{length-left}
 use Rattle.bits.proofs.Words.{WordAt, sets-append}
 use Rattle.segments.specs.declared.Count.{Count}
@@ -77,34 +77,25 @@ module _ (s : List ℕ) (i n : ℕ) (o : List ℕ) (mode : ℕ) where
 -- ---- one segment
 
 pub command-length : (mode n : ℕ) → length (runCommand mode n) ≤ 3
-command-length mode n = go (eqb mode 7)
-  where
-    go : (b : Bool) → length (cond {A = List ℕ} b (7 ∷ []) (mode ∷ n / 256 ∷ n % 256 ∷ [])) ≤ 3
-    go true = omega arith
-    go false = omega arith
+command-length mode n = tested (eqb mode 7) (λ e. rw e (omega arith)) (λ e. rw e (omega arith))
+
+eci-done : (s : List ℕ) (i : ℕ) (z : Result Segment) (r : Count) (a v : ℕ) → EciLeft s i z r → r ≡ Done a v
+    → (u : ℕ) × (z ≡ got (eci v) u) × (a ≡ i + u) × (i + u ≤ 8 * length s) × (v < 2097152)
+eci-done s i (failed bad) r a v k q = not-done bad (sym k ∙ q)
+eci-done s i (got (run x bs) u) r a v k q = absurd k
+eci-done s i (got (eci v′) u) r a v k q = let ev : v ≡ v′ = cc in (u, rw ev, cc, k .1, rw ev (k .2))
 
 module _ (s : List ℕ) (i n m : ℕ) (o c : List ℕ) (mode : ℕ) (h : m + 4 ≤ i) (l : n ≤ i) where
   pub eci-on : mode ≡ 8 → (a v : ℕ) (r : Count) (y : List ℕ) → EciLeft s i (eciOf (drop i (bitsOf s))) r → r ≡ Done a v
       → y ≡ sets c m (commandOf (eci v))
       → Stepped s i n m o c (segmentOf mode (drop i (bitsOf s))) (On a n (m + 4)) o y
   unfolding segmentOf
-  eci-on e a v r y p q w = rw (eq-eqb mode 8 e) (go (eciOf (drop i (bitsOf s))) p)
-    where
-      go : (z : Result Segment) → EciLeft s i z r → Stepped s i n m o c z (On a n (m + 4)) o y
-      go (failed bad) k = not-done bad (sym k ∙ q)
-      go (got (run x bs) u) k = absurd k
-      go (got (eci v′) u) k =
-          let ea : a ≡ i + u = cc in
-          let ev : v ≡ v′ = cc in
-          (rw (ea, add-zero), refl, rw ev at w, k .1, omega arith, omega arith)
+  eci-on e a v r y p q w =
+      let k = eci-done s i (eciOf (drop i (bitsOf s))) r a v p q in
+      rw (eq-eqb mode 8 e, k .1) (rw (← (k .2), add-zero), refl, w, k .3, omega arith, omega arith)
 
   pub eci-bound : (r : Count) (a v : ℕ) → EciLeft s i (eciOf (drop i (bitsOf s))) r → r ≡ Done a v → v < 2097152
-  eci-bound r a v p q = go (eciOf (drop i (bitsOf s))) p
-    where
-      go : (z : Result Segment) → EciLeft s i z r → v < 2097152
-      go (failed bad) k = not-done bad (sym k ∙ q)
-      go (got (run x bs) u) k = absurd k
-      go (got (eci v′) u) k = let k0 = k .0 in let ev : v ≡ v′ = cc in rw ev (k .2)
+  eci-bound r a v p q = eci-done s i (eciOf (drop i (bitsOf s))) r a v p q .4
 
   pub eci-stop : mode ≡ 8 → (bad : Fault) (r : Count) (x y : List ℕ) → EciLeft s i (eciOf (drop i (bitsOf s))) r → r ≡ counted bad
       → Stepped s i n m o c (segmentOf mode (drop i (bitsOf s))) (stepped bad) x y
@@ -126,26 +117,23 @@ module _ (s : List ℕ) (i n m : ℕ) (o c : List ℕ) (mode : ℕ) (h : m + 4 �
         go : (z : Result (List ℕ)) → Left (behind 1 i n o z) r x → Stepped s i n m o c (andThen z (λ cs u. got (run mode cs) u)) (On a k (m + used)) x y
         go (failed bad) g = not-done bad (sym g ∙ q)
         go (got bs u) g =
-            let ea : a ≡ i + 1 * u = cc in
-            let ea′ : a ≡ i + u = ea ∙ ap (λ (z : ℕ). i + z) (one-mul u) in
+            let ea : a ≡ i + u = cc (one-mul u) in
             let ek : k ≡ n + length bs = cc in
             let d : k - n ≡ length bs = omega arith in
             let eu′ : used ≡ length (runCommand mode (length bs)) = rw d at eu in
             let three = command-length mode (length bs) in
-            (rw (ea′, ek, eu′), g .1, rw d at ey, omega arith, omega arith, omega arith)
+            (rw (ea, ek, eu′), g .1, rw d at ey, omega arith, omega arith, omega arith)
 
     pub run-stop : (bad : Fault) (x′ y : List ℕ) → r ≡ counted bad → Stepped s i n m o c (segmentOf mode (drop i (bitsOf s))) (stepped bad) x′ y
     unfolding segmentOf
-    run-stop bad x′ y q = rw (ne-eqb mode 8 f) (go (bytesOfMode mode (drop i (bitsOf s))) p)
-      where
-        go : (z : Result (List ℕ)) → Left (behind 1 i n o z) r x → Stepped s i n m o c (andThen z (λ cs u. got (run mode cs) u)) (stepped bad) x′ y
-        go (failed b) g = ap stepped (same-count bad b (sym q ∙ g))
-        go (got bs u) g = not-done bad (sym q ∙ g .0)
+    run-stop bad x′ y q = rw (ne-eqb mode 8 f) (elim (bytesOfMode mode (drop i (bitsOf s)))
+        as (λ z. Left (behind 1 i n o z) r x → Stepped s i n m o c (andThen z (λ cs u. got (run mode cs) u)) (stepped bad) x′ y)
+        [ failed b ↦ λ g. ap stepped (same-count bad b (sym q ∙ g)) | got bs u ↦ λ g. not-done bad (sym q ∙ g .0) ] p)
 
 -- an answer of a mode that is at a place lies inside
 pub inside : (s : List ℕ) (from to : ℕ) (r : Count) (a k : ℕ) → Inside s from to r → r ≡ Done a k
     → (from ≤ a) × (a ≤ 8 * length s) × (to ≤ k) × (k ≤ a)
-inside s from to r a k h e = subst (λ (z : Count). Inside s from to z) e h
+inside s from to r a k h e = rw e at h
 
 -- ---- all of them
 
@@ -189,9 +177,7 @@ module _ {s o₀ c₀ : List ℕ} {i n m : ℕ} {o c : List ℕ} (d : Parsing s 
 
   -- what is left, with one turn to come
   turn : (r : Count) (x y : List ℕ) → Parses n m o c (parse (suc (d .fuel - 1)) bits) r x y → Parses 0 0 o₀ c₀ (segmentsOf s) r x y
-  turn r x y h =
-      let e : suc (d .fuel - 1) ≡ d .fuel = omega arith in
-      d .rest r x y (rw e at h)
+  turn r x y h = let e : suc (d .fuel - 1) ≡ d .fuel = omega arith in d .rest r x y (rw e at h)
 
   pub parse-few : length bits < 4 → Parses 0 0 o₀ c₀ (segmentsOf s) (Done n m) o c
   unfolding parse payloadOf scriptOf flatMap
@@ -214,11 +200,9 @@ module _ {s o₀ c₀ : List ℕ} {i n m : ℕ} {o c : List ℕ} (d : Parsing s 
       opened = simp (le-ltb (length bits) 4 enough-bits, sym (w .is), ne-eqb mode 0 h, drop-drop 4 i (bitsOf s))
 
       pub parse-stop : (bad : Fault) → t ≡ stepped bad → Parses 0 0 o₀ c₀ (segmentsOf s) (counted bad) x y
-      parse-stop bad e = turn (counted bad) x y (rw opened (here (segmentOf mode (drop (i + 4) (bitsOf s))) g))
-        where
-          here : (z : Result Segment) → Stepped s (i + 4) n m o c z t x y → Parses n m o c (following z behind-it) (counted bad) x y
-          here (failed b) q = ap counted (same-step bad b (sym e ∙ q))
-          here (got b u) q = not-on bad (sym e ∙ q .0)
+      parse-stop bad e = turn (counted bad) x y (rw opened (elim (segmentOf mode (drop (i + 4) (bitsOf s)))
+          as (λ z. Stepped s (i + 4) n m o c z t x y → Parses n m o c (following z behind-it) (counted bad) x y)
+          [ failed b ↦ λ q. ap counted (same-step bad b (sym e ∙ q)) | got b u ↦ λ q. not-on bad (sym e ∙ q .0) ] g))
 
       module _ {a k j : ℕ} (e : t ≡ On a k j) where
         pub parse-room : (i + 4 ≤ a) × (a ≤ 8 * length s) × (k ≤ a) × (j ≤ a)

@@ -1,5 +1,5 @@
 -- What a word that was read does to the state of a mode: one law for each way that a turn of a mode's function goes.
-use Rattle.general.proofs.Names.{_≡_, refl, ap, _∙_, Bool, not, List, [], _∷_, _++_, ℕ, zero, suc, _+_, _-_, _*_, _/_, _%_, _^_, _<_, _≤_, add-zero, decLt, ltb, ltb-true, ltb-false, length-drop, take, true, false, cond, sym}
+use Rattle.general.proofs.Names.{_≡_, refl, ap, _∙_, Bool, not, List, [], _∷_, _++_, ℕ, zero, suc, _+_, _-_, _*_, _/_, _%_, _^_, _<_, _≤_, add-zero, decLt, ltb, length-drop, take, cond}
 use Rattle.general.proofs.Names.{mul-suc, one-mul, mul-one, arith, eq-eqb, ne-eqb, lt-ltb, le-ltb, length, drop, set, length-append, sets, drop-drop}
 use Rattle.bits.specs.declared.Word.{Word}
 use Rattle.bits.specs.declared.Word.the-variants.{Value, Cut as WordCut}
@@ -202,35 +202,25 @@ unfolding bytesRun firstWords groups
 run-words zero ds = rw (le-ltb (length ds) 0 (omega arith))
 run-words (suc n) ds = elim (decLt (length ds) 8) [
   | yes h ↦ rw (words-none 8 ds h, lt-ltb (length ds) (8 * suc n) (omega arith))
-  | no h ↦ rw (words-more 8 ds (omega arith) (omega arith), run-words n (drop 8 ds)) (go (omega arith) (ltb (length (drop 8 ds)) (8 * n)) refl)
+  | no h ↦
+      let l = length-drop 8 ds in
+      rw (words-more 8 ds (omega arith) (omega arith), run-words n (drop 8 ds)) (elim (decLt (length (drop 8 ds)) (8 * n)) [
+        | yes g ↦ rw (lt-ltb (length (drop 8 ds)) (8 * n) g, lt-ltb (length ds) (8 * suc n) (omega arith))
+        | no g ↦ rw (le-ltb (length (drop 8 ds)) (8 * n) (omega arith), le-ltb (length ds) (8 * suc n) (omega arith))
+      ])
 ]
-  where
-    go : 8 ≤ length ds → (b : Bool) → ltb (length (drop 8 ds)) (8 * n) ≡ b
-        → before (value 0 (take 8 ds) ∷ []) (cond b (failed cut) (got (firstWords 8 n (drop 8 ds)) n))
-        ≡ cond (ltb (length ds) (8 * suc n)) (failed cut) (got (value 0 (take 8 ds) ∷ firstWords 8 n (drop 8 ds)) (suc n))
-    go m true e =
-        let l = ltb-true (length (drop 8 ds)) (8 * n) e in
-        rw (lt-ltb (length ds) (8 * suc n) (omega (arith, length-drop 8 ds)))
-    go m false e =
-        let l = ltb-false (length (drop 8 ds)) (8 * n) e in
-        rw (le-ltb (length ds) (8 * suc n) (omega (arith, length-drop 8 ds)))
 
 pub bytes-length : (s : List ℕ) (i n : ℕ) (o : List ℕ) (k : ℕ) → WordAt 13 i k s → bytesAt s i n o ≡ bytesRunAt s (i + 13) n o k
 unfolding bytesMode
 bytes-length s i n o k r =
     let ds : List ℕ = drop (i + 13) (bitsOf s) in
-    let e : ltb (length ds) (8 * k) ≡ ltb (length (drop i (bitsOf s))) (13 + 8 * k) =
-    elim (decLt (length ds) (8 * k)) [
-      | yes h ↦ lt-ltb (length ds) (8 * k) h ∙ sym (lt-ltb (length (drop i (bitsOf s))) (13 + 8 * k) (omega (arith, length-left s i, length-left s (i + 13))))
-      | no h ↦ le-ltb (length ds) (8 * k) (omega arith)
-          ∙ sym (le-ltb (length (drop i (bitsOf s))) (13 + 8 * k) (omega (arith, length-left s i, length-left s (i + 13))))
-    ] in
-    rw (← (r .is), drop-drop 13 i (bitsOf s), ← e, run-words k ds) (go (ltb (length ds) (8 * k)))
-  where
-    go : (b : Bool) → behind 1 i n o (cond b (failed cut) (got (firstWords 8 k (drop (i + 13) (bitsOf s))) (13 + 8 * k)))
-        ≡ behind 8 (i + 13) n o (cond b (failed cut) (got (firstWords 8 k (drop (i + 13) (bitsOf s))) k))
-    go true = refl
-    go false = let e : i + 1 * (13 + 8 * k) ≡ i + 13 + 8 * k = omega arith in rw e
+    let l = length-left s i in
+    let l′ = length-left s (i + 13) in
+    let z : i + 1 * (13 + 8 * k) ≡ i + 13 + 8 * k = omega arith in
+    rw (← (r .is), drop-drop 13 i (bitsOf s), run-words k ds) (elim (decLt (length ds) (8 * k)) [
+      | yes h ↦ rw (lt-ltb (length ds) (8 * k) h, lt-ltb (length (drop i (bitsOf s))) (13 + 8 * k) (omega arith))
+      | no h ↦ rw (le-ltb (length ds) (8 * k) (omega arith), le-ltb (length (drop i (bitsOf s))) (13 + 8 * k) (omega arith), z)
+    ])
 
 -- ---- four-byte
 
