@@ -5,5 +5,4 @@ pub mod Words
 pub mod Bytes
 pub mod Window
 pub mod Appending
-pub mod Tests
 pub mod Inside

@@ -3,7 +3,7 @@ use Rattle.general.proofs.Names.{_≡_, refl, ap, _∙_, sym, true, Option, non
 use Rattle.general.proofs.Names.{flatMap, ℕ, zero, suc, _+_, _-_, _*_, _<_, _≤_, zero-add, add-zero, arith, eq-eqb, eqb, length}
 use Rattle.general.proofs.Names.{getD, take, drop, replicate, length-append, length-drop, decLt}
 use Rattle.bits.specs.Bits.{bitsOf, words}
-use Rattle.bits.proofs.Tests.{never, chosen}
+use Rattle.general.proofs.Choices.{never, chosen}
 use Rattle.bits.proofs.Bytes.{words-bits}
 use Rattle.segments.specs.Script.{Segment, run, eci}
 use Rattle.script.specs.declared.Command.{Command}

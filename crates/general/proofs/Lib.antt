@@ -2,5 +2,6 @@
 pub mod Names
 pub mod Finite
 pub mod Xor
+pub mod Choices
 pub mod Lists
 pub mod Each

@@ -28,7 +28,7 @@ use Rattle.marks.proofs.Marks.{Ranges, ranges}
 use Rattle.marks.proofs.Starts.{in-body, no-receipt, in-refusal, side-range}
 use Rattle.blocks.specs.Inner.{correctedData}
 use Rattle.marks.specs.Inner.{levelIn, maskIn, distanceIn}
-use Rattle.bits.proofs.Tests.{never}
+use Rattle.general.proofs.Choices.{never}
 
 -- ---- Segments from data never answers 6
 

@@ -1,6 +1,6 @@
 -- The first refusal of a list of tests: 0 exactly where every test holds. Assumes nothing.
 use Rattle.general.proofs.Names.{_≡_, refl, sym, _∙_, Bool, true, false, _&&_, _≢_, List, [], _∷_, _++_, ℕ, suc, arith, ℕ-discrete, eq-eqb, ne-eqb}
-use Rattle.bits.proofs.Tests.{never}
+use Rattle.general.proofs.Choices.{never}
 use Rattle.marks.specs.Read.{firstRefusal, unless}
 
 -- a test that holds gives no refusal, and only such a test

@@ -1,7 +1,7 @@
 -- What each answer of `from_data` comes to.
 use Rattle.general.proofs.Names.{_≡_, refl, sym, _∙_, true, false, List, _++_, ℕ, _+_, _≤_, _<_, zero-add, arith, eq-eqb, ne-eqb, lt-ltb, le-ltb, ltb, eqb}
 use Rattle.general.proofs.Names.{length, take, drop, sets, sets-eq, take-append-seam}
-use Rattle.bits.proofs.Tests.{never}
+use Rattle.general.proofs.Choices.{never}
 use Rattle.segments.specs.declared.Answer.the-variants.{Read, TooLong, Broken, Empty, PayloadFull, ScriptFull}
 use Rattle.segments.specs.declared.Count.{Count}
 use Rattle.segments.specs.declared.Count.the-variants.{Done}

@@ -10,7 +10,7 @@ use Rattle.segments.specs.Segments.{Result, got, inBits, numericOf, textOf, byt
 use Rattle.segments.specs.Segments.{eciOf, bytesOfMode, segmentOf, Parsed, following, parse}
 use Rattle.script.specs.Writer.{numericWords, textWords, regionWords, doubleWords, fourCode, same, inFour, eciBits, modeHas, modeBits}
 use Rattle.script.specs.Writer.{has, encodingOf, encodings}
-use Rattle.bits.proofs.Tests.{chosen-less}
+use Rattle.general.proofs.Choices.{chosen-less}
 use Rattle.script.proofs.Tests.{both, same-is}
 use Rattle.script.proofs.Digits.{numeric-back, numeric-small}
 use Rattle.script.proofs.Characters.{text-back, text-small, region-back, region-small, double-back, double-small}

@@ -5,7 +5,7 @@ use Rattle.segments.specs.Segments.{got, before, charOf, textOf, highOf, lowOf,
 use Rattle.script.specs.Writer.{allPairs, codeOf, inSubset, inText, textWords, pairCode, inRegion, inRegions, regionWords, doubleCode}
 use Rattle.script.specs.Writer.{inDouble, doubleWords}
 use Rattle.script.specs.Lengths.{textSwitches, regionSwitches}
-use Rattle.bits.proofs.Tests.{tested, chosen}
+use Rattle.general.proofs.Choices.{tested, chosen}
 use Rattle.script.proofs.Tests.{both, false-true, subset-has, other-subset, region-has, other-region, double-has, small-cons}
 use Rattle.general.specs.Lists.{all}
 

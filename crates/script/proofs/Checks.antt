@@ -2,7 +2,7 @@
 use Rattle.general.proofs.Names.{_≡_, refl, _∙_, sym, Bool, true, false, cond, _&&_, Option, none, some, bind, List, [], ℕ, zero, suc, _+_}
 use Rattle.general.proofs.Names.{_-_, _*_, _<_, _≤_, add-zero, zero-add, add-assoc, arith, eq-eqb, ne-eqb, lt-ltb, le-ltb, lt-leb, le-leb}
 use Rattle.general.proofs.Names.{leb-true, ltb, eqb, leb, length, getD, take, drop, length-drop, getD-drop, drop-drop, length-take-le}
-use Rattle.bits.proofs.Tests.{never, tested, chosen, chosen-less}
+use Rattle.general.proofs.Choices.{never, tested, chosen, chosen-less}
 use Rattle.segments.specs.Script.{Segment, run, eci, bytesOf, commandOf}
 use Rattle.script.specs.declared.Command.{Command}
 use Rattle.script.specs.declared.Command.the-variants.{Run, Eci, Wrong}

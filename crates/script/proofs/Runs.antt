@@ -12,7 +12,7 @@ use Rattle.script.specs.Lengths.{modeLength}
 use Rattle.script.specs.Characters.{wordsOf, hasAll, stepOf, widthOf, switchOf, endOf, textCharacter, regionCharacter, doubleCharacter}
 use Rattle.script.specs.Characters.{CharacterIs, beginsIn, charCost, costOf}
 use mathlib.Core.Bool.{and-true, and-assoc}
-use Rattle.bits.proofs.Tests.{tested, chosen}
+use Rattle.general.proofs.Choices.{tested, chosen}
 use Rattle.script.proofs.Tests.{both, same-is, either-is}
 use Rattle.script.proofs.Characters.{text-length, region-length, double-length}
 use Rattle.general.specs.Lists.{all}

@@ -2,7 +2,7 @@
 use Rattle.general.proofs.Names.{_≡_, refl, true, cond, _&&_, Option, none, some, bind, List, [], _∷_, _++_, flatMap, ℕ, zero, suc, _+_, _*_}
 use Rattle.general.proofs.Names.{_/_, _%_, _<_, _≤_, arith, eqb-true, eqb-false, ltb-true, leb-true, eq-eqb, ne-eqb, eqb, leb, length, getD}
 use Rattle.general.proofs.Names.{drop, sym, _∙_, drop-cons, drop-of-length-le, take-append-drop, getD-drop, length-take-le}
-use Rattle.bits.proofs.Tests.{never, chosen, chosen-less}
+use Rattle.general.proofs.Choices.{never, chosen, chosen-less}
 use Rattle.segments.specs.Script.{Segment, bytesOf, commandOf, payloadOf, scriptOf}
 use Rattle.script.specs.Check.{allowed, taking, segmentAt, commands}
 use Rattle.script.specs.Inner.{lengthOperand, valueOperand, with}

@@ -4,7 +4,7 @@ use Rattle.general.proofs.Names.{mul-suc, zero-add, arith, ltb, eqb, length, ge
 use lib.Pow.{pow-pos}
 use Rattle.bits.specs.Bits.{value, firstWords, words, groups}
 use Rattle.bits.proofs.Reading.{value-bound}
-use Rattle.bits.proofs.Tests.{chosen, chosen-less}
+use Rattle.general.proofs.Choices.{chosen, chosen-less}
 use Rattle.segments.specs.Script.{Segment, run, bytesOf, commandOf, payloadOf, scriptOf}
 use Rattle.segments.specs.Segments.{cut, Result, failed, got, andThen, before, inBits, digits, groupsOf, numericOf, charOf, textOf}
 use Rattle.segments.specs.Segments.{bytesMode, highOf, lowOf, regionSize, regionOf, firstByte, secondByte, doubleByteOf, fourBytes}

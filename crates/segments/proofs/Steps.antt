@@ -2,7 +2,7 @@
 use Rattle.general.proofs.Names.{_≡_, refl, ap, _∙_, sym, true, false, List, _∷_, _++_, flatMap, ℕ, suc, _+_, _-_, _*_}
 use Rattle.general.proofs.Names.{_<_, _≤_, one-mul, add-zero, arith, eq-eqb, ne-eqb, lt-ltb, le-ltb, eqb, length, drop, length-append, sets, drop-drop}
 use Rattle.bits.specs.Bits.{bitsOf}
-use Rattle.bits.proofs.Tests.{never, tested}
+use Rattle.general.proofs.Choices.{never, tested}
 use Rattle.bits.proofs.Reading.{length-left}
 use Rattle.bits.proofs.Words.{WordAt, sets-append}
 use Rattle.segments.specs.declared.Count.{Count}

@@ -1,5 +1,5 @@
--- A test that is true and false at once, as numbers, and choices by tests.
+-- What holds whatever a test says, and of choices by a test; and a number that is 0 and 1 at once. Assumes nothing.
 use Rattle.general.proofs.Names.{_≡_, refl, Bool, true, false, cond, ℕ, _<_, _≤_, ltb, ltb-true, ltb-false, arith}
 
 pub never : {A : Type 0} → _≡_ {A = ℕ} 0 1 → A
 never z = absurd (omega arith)
