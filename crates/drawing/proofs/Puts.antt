@@ -1,6 +1,6 @@
 -- Bits into data modules.
 use Rattle.general.proofs.Names.{_≡_, refl, ap, ap₂, _∙_, sym, subst, _≢_, List, [], _∷_, _++_, append-assoc, append-nil, ℕ, zero, suc, _+_, _-_, _*_, _/_}
-use Rattle.general.proofs.Names.{_%_, _^_, _<_, _≤_, add-one, arith, decLt, ℕ-discrete, T, eqb, eqb→eq, length, getD, take, drop, set, length-set}
+use Rattle.general.proofs.Names.{_%_, _^_, _<_, _≤_, add-one, add-zero, zero-add, add-suc, suc-add, arith, decLt, ℕ-discrete, T, eqb, eqb→eq, length, getD, take, drop, set, length-set}
 use Rattle.general.proofs.Names.{length-append, drop-of-length-le, sets, sets-eq, length-sets, take-at, drop-at, drop-cons, drop-nil, take-suc, take-all}
 use Rattle.general.proofs.Names.{getD-take, getD-drop, length-take-le, drop-append-add, bitXor, bitAnd, xor-lt, and-le-r}
 use Rattle.general.proofs.Finite.{upTo, every}
@@ -55,14 +55,7 @@ pub put-room : (s : List ℕ) (at a b c d e f g : ℕ) → at + 8 ≤ length s
     × (at + 6 < length (set (set (set (set (set (set s at a) (at + 1) b) (at + 2) c) (at + 3) d) (at + 4) e) (at + 5) f))
     × (at + 7 < length (set (set (set (set (set (set (set s at a) (at + 1) b) (at + 2) c) (at + 3) d) (at + 4) e) (at + 5) f) (at + 6) g))
 put-room s at a b c d e f g h =
-    let l1 = length-set s at a in
-    let l2 = length-set (set s at a) (at + 1) b in
-    let l3 = length-set (set (set s at a) (at + 1) b) (at + 2) c in
-    let l4 = length-set (set (set (set s at a) (at + 1) b) (at + 2) c) (at + 3) d in
-    let l5 = length-set (set (set (set (set s at a) (at + 1) b) (at + 2) c) (at + 3) d) (at + 4) e in
-    let l6 = length-set (set (set (set (set (set s at a) (at + 1) b) (at + 2) c) (at + 3) d) (at + 4) e) (at + 5) f in
-    let l7 = length-set (set (set (set (set (set (set s at a) (at + 1) b) (at + 2) c) (at + 3) d) (at + 4) e) (at + 5) f) (at + 6) g in
-    (omega arith, omega arith, omega arith, omega arith, omega arith, omega arith, omega arith)
+    simp length-set (omega arith, omega arith, omega arith, omega arith, omega arith, omega arith, omega arith)
 
 pub put-is : (s : List ℕ) (at a b c d e f g h : ℕ)
     → set (set (set (set (set (set (set (set s at a) (at + 1) b) (at + 2) c) (at + 3) d) (at + 4) e) (at + 5) f) (at + 6) g) (at + 7) h
@@ -83,19 +76,14 @@ pub masked-bytes : {v u x : ℕ} (cw row : List ℕ) (bit c : ℕ) → bit + 8 �
     → bytesOf (bitXor u x) ≡ run 8 (λ k. bitXor (getD (bitsOf cw) (bit + k) 0) (getD row (c + k) 0))
 masked-bytes {v} {u} {x} cw row bit c h small e f g =
     let eight = take 8 (drop bit (bitsOf cw)) in
+    let s : (k : ℕ) → getD (take 8 (drop bit (bitsOf cw))) k 0 < 2 = take-small 8 (drop bit (bitsOf cw)) (λ k. rw getD-drop (bit-lt cw (bit + k))) in
+    let low = low-value eight s in
     let n : length (take 8 (drop bit (bitsOf cw))) ≡ 8 = length-take-le 8 (drop bit (bitsOf cw)) (omega (arith, length-left cw bit)) in
-    let s : (k : ℕ) → getD (take 8 (drop bit (bitsOf cw))) k 0 < 2 =
-    take-small 8 (drop bit (bitsOf cw)) (λ k. subst (λ (y : ℕ). y < 2) (sym (getD-drop bit (bitsOf cw) k 0)) (bit-lt cw (bit + k))) in
-    let low : lowBits 8 v ≡ take 8 (drop bit (bitsOf cw)) =
-    ap (lowBits 8) e ∙ sym (ap (λ (i : ℕ). lowBits i (value 0 (take 8 (drop bit (bitsOf cw))))) n) ∙ low-value eight s in
-    let p = f ∙ ap (λ (bs : List ℕ). eightOf (behind bs 0)) low in
     let q : (k : ℕ) → getD (take 8 (drop bit (bitsOf cw))) (0 + k) 0 < 256 = λ k. omega (arith, s (0 + k)) in
     let r : (k : ℕ) → getD row (c + k) 0 < 256 = λ k. omega (arith, small (c + k)) in
-    let both = ap₂ bitXor p g ∙ xor-eight (behind eight 0) (behind row c) q r in
-    ap bytesOf both ∙ bytes-eight (λ k. bitXor (behind eight 0 k) (behind row c k)) (λ k. xor-lt 8 (behind eight 0 k) (behind row c k) (q k) (r k))
-    ∙ run-front 8 (λ k. bitXor (behind eight 0 k) (behind row c k)) (λ k. bitXor (getD (bitsOf cw) (bit + k) 0) (getD row (c + k) 0))
-    (λ k l. let z : 0 + k ≡ k = omega arith in ap (λ (y : ℕ). bitXor y (getD row (c + k) 0))
-    (ap (λ (i : ℕ). getD eight i 0) z ∙ getD-take 8 (drop bit (bitsOf cw)) k 0 l ∙ getD-drop bit (bitsOf cw) k 0))
+    rw (f, g, e, rw n at low, xor-eight (behind eight 0) (behind row c) q r)
+    (bytes-eight (λ k. bitXor (behind eight 0 k) (behind row c k)) (λ k. xor-lt 8 (behind eight 0 k) (behind row c k) (q k) (r k))
+    ∙ run-front 8 _ _ (λ k l. simp (zero-add, getD-take, getD-drop)))
 
 -- Placed in front.
 
@@ -116,50 +104,30 @@ module _ (m : ℕ → ℕ) where
   place-hits : (n c : ℕ) (ks rest : List ℕ) (d : ℕ → ℕ) → c + n ≤ length ks → ((k : ℕ) → k < n → getD ks (c + k) 0 ≡ 0)
       → placed m c (drop c ks) (run n d ++ rest) ≡ run n (λ k. bitXor (d k) (m (c + k))) ++ placed m (c + n) (drop (c + n) ks) rest
   unfolding run
-  place-hits zero c ks rest d h z = let e : c ≡ c + 0 = omega arith in ap (λ (i : ℕ). placed m i (drop i ks) rest) e
+  place-hits zero c ks rest d h z = simp add-zero
   place-hits (suc n) c ks rest d h z =
-      let e : c ≡ c + 0 = omega arith in
-      let f : suc c + n ≡ c + suc n = omega arith in
-      let g : (k : ℕ) → suc c + k ≡ c + suc k = λ k. omega arith in
-      ap (λ (us : List ℕ). placed m c us (d 0 ∷ (run n (λ k. d (suc k)) ++ rest))) (drop-cons ks c 0 (omega arith))
-      ∙ hit c (getD ks c 0) (drop (suc c) ks) (d 0) (run n (λ k. d (suc k)) ++ rest) (ap (λ (i : ℕ). getD ks i 0) e ∙ z 0 (omega arith))
-      ∙ ap₂ _∷_ (ap (λ (i : ℕ). bitXor (d 0) (m i)) e)
-      (place-hits n (suc c) ks rest (λ k. d (suc k)) (omega arith) (λ k l. ap (λ (i : ℕ). getD ks i 0) (g k) ∙ z (suc k) (omega arith))
-      ∙ ap₂ _++_
-      (run-ext n (λ k. bitXor (d (suc k)) (m (suc c + k))) (λ k. bitXor (d (suc k)) (m (c + suc k))) (λ k. ap (λ (i : ℕ). bitXor (d (suc k)) (m i)) (g k)))
-      (ap (λ (i : ℕ). placed m i (drop i ks) rest) f))
+      let ih = place-hits n (suc c) ks rest (λ k. d (suc k)) (omega arith) (λ k l. simp suc-add (simp add-suc at (z (suc k) (omega arith)))) in
+      rw (drop-cons ks c 0 (omega arith), hit c _ _ _ _ (simp add-zero at (z 0 (omega arith)))) (simp (add-zero, add-suc, simp suc-add at ih))
 
   -- a pattern, or a data module where no bit is left
   place-miss : (c : ℕ) (ks ds : List ℕ) → c < length ks → (getD ks c 0 ≡ 0 → ds ≡ [])
       → placed m c (drop c ks) ds ≡ patternOf (getD ks c 0) ∷ placed m (suc c) (drop (suc c) ks) ds
-  place-miss c ks ds h z = ap (λ (us : List ℕ). placed m c us ds) (drop-cons ks c 0 h) ∙ miss c (getD ks c 0) (drop (suc c) ks) ds z
+  place-miss c ks ds h z = rw (drop-cons ks c 0) (miss c _ _ ds z)
 
 -- data modules counted from a column on
 modules-hits : (n c : ℕ) (ks : List ℕ) → c + n ≤ length ks → ((k : ℕ) → k < n → getD ks (c + k) 0 ≡ 0)
     → dataModules (drop c ks) ≡ n + dataModules (drop (c + n) ks)
-modules-hits zero c ks h z = let e : c ≡ c + 0 = omega arith in ap (λ (i : ℕ). dataModules (drop i ks)) e ∙ omega arith
+modules-hits zero c ks h z = rw add-zero (omega arith)
 modules-hits (suc n) c ks h z =
-    let e : c ≡ c + 0 = omega arith in
-    let f : suc c + n ≡ c + suc n = omega arith in
-    let ih = modules-hits n (suc c) ks (omega arith)
-    (λ k l. (let g : suc c + k ≡ c + suc k = omega arith in ap (λ (i : ℕ). getD ks i 0) g ∙ z (suc k) (omega arith))) in
-    let one = ap dataModules (drop-cons ks c 0 (omega arith)) ∙ module-hit (getD ks c 0) (drop (suc c) ks)
-    (ap (λ (i : ℕ). getD ks i 0) e ∙ z 0 (omega arith)) in
-    omega (arith, ap (λ (i : ℕ). dataModules (drop i ks)) f)
+    let ih = modules-hits n (suc c) ks (omega arith) (λ k l. simp suc-add (simp add-suc at (z (suc k) (omega arith)))) in
+    rw (drop-cons ks c 0 (omega arith), module-hit _ _ (simp add-zero at (z 0 (omega arith))), add-suc) (omega (arith, simp suc-add at ih))
 
 -- n bits in front
 bits-run : (cw : List ℕ) (n bit : ℕ) → bit + n ≤ 8 * length cw → drop bit (bitsOf cw) ≡ run n (λ k. getD (bitsOf cw) (bit + k) 0) ++ drop (bit + n) (bitsOf cw)
 unfolding run
-bits-run cw zero bit h = let e : bit ≡ bit + 0 = omega arith in ap (λ (i : ℕ). drop i (bitsOf cw)) e
+bits-run cw zero bit h = rw add-zero
 bits-run cw (suc n) bit h =
-    let e : bit ≡ bit + 0 = omega arith in
-    let f : suc bit + n ≡ bit + suc n = omega arith in
-    let g : (k : ℕ) → suc bit + k ≡ bit + suc k = λ k. omega arith in
-    drop-cons (bitsOf cw) bit 0 (omega (arith, length-bits cw))
-    ∙ ap₂ _∷_ (ap (λ (i : ℕ). getD (bitsOf cw) i 0) e)
-    (bits-run cw n (suc bit) (omega arith) ∙ ap₂ _++_
-    (run-ext n (λ k. getD (bitsOf cw) (suc bit + k) 0) (λ k. getD (bitsOf cw) (bit + suc k) 0) (λ k. ap (λ (i : ℕ). getD (bitsOf cw) i 0) (g k)))
-    (ap (λ (i : ℕ). drop i (bitsOf cw)) f))
+    drop-cons (bitsOf cw) bit 0 (omega (arith, length-bits cw)) ∙ simp (add-zero, add-suc, simp suc-add at (bits-run cw n (suc bit) (omega arith)))
 
 -- From column to column.
 
