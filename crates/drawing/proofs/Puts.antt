@@ -137,60 +137,46 @@ module _ {m : ℕ → ℕ} {ks whole after sq ds : List ℕ} {c : ℕ} (p : Plac
       → sq′ ≡ sets sq c (run n (λ k. bitXor (d k) (m (c + k)))) → Placing m ks whole after sq′ rest (c + n)
   placing-hits {sq′} n d rest h z e f =
       let new = run n (λ k. bitXor (d k) (m (c + k))) in
-      let l : length (run n (λ k. bitXor (d k) (m (c + k)))) ≡ n = length-run n (λ k. bitXor (d k) (m (c + k))) in
+      let w : length (take c sq ++ run n (λ k. bitXor (d k) (m (c + k)))) ≡ c + n =
+      simp (length-append, length-run, length-take-le c sq (omega arith)) in
       let q : sq′ ≡ take c sq ++ run n (λ k. bitXor (d k) (m (c + k))) ++ drop (c + n) sq =
-      f ∙ sets-eq new sq c (omega arith) ∙ ap (λ (i : ℕ). take c sq ++ new ++ drop (c + i) sq) l in
-      let o : length (take c sq) ≡ c = length-take-le c sq (omega arith) in
-      let w : length (take c sq ++ run n (λ k. bitXor (d k) (m (c + k)))) ≡ c + n = length-append (take c sq) new ∙ ap₂ _+_ o l in
-      let front : take (c + n) sq′ ≡ take c sq ++ run n (λ k. bitXor (d k) (m (c + k))) =
-      ap (take (c + n)) q ∙ take-at (take c sq ++ new) (drop (c + n) sq) (c + n) w in
-      let back : drop (c + n) sq′ ≡ drop (c + n) sq = ap (drop (c + n)) q ∙ drop-at (take c sq ++ new) (drop (c + n) sq) (c + n) w in
+      f ∙ (simp length-run at (sets-eq new sq c (omega (arith, length-run n (λ k. bitXor (d k) (m (c + k))))))) in
       record {
         size = ap length f ∙ length-sets sq c new ∙ p .size;
         few = h;
-        is = ap (λ (u : List ℕ). u ++ placed m (c + n) (drop (c + n) ks) rest) front ∙ append-assoc (take c sq) new (placed m (c + n) (drop (c + n) ks) rest)
-            ∙ sym (ap (λ (u : List ℕ). take c sq ++ u) (ap (placed m c (drop c ks)) e ∙ place-hits m n c ks rest d h z)) ∙ p .is;
-        left = sym (ap₂ drop (modules-hits n c ks h z) e ∙ sym (ap (λ (i : ℕ). drop (i + dataModules (drop (c + n) ks)) (run n d ++ rest)) (length-run n d))
-            ∙ drop-append-add (run n d) rest (dataModules (drop (c + n) ks))) ∙ p .left;
+        is = rw (q, take-at (take c sq ++ new) _ (c + n) w, append-assoc, ← place-hits m n c ks rest d h z, ← e) (p .is);
+        left = sym (drop-append-add (run n d) rest (dataModules (drop (c + n) ks))) ∙ rw (length-run, ← modules-hits n c ks h z, ← e) (p .left);
         patterns = record {
           is = λ k lo hi.
               let g : c + n + (k - (c + n)) ≡ k = omega arith in
-              ap (λ (i : ℕ). getD sq′ i 0) (sym g) ∙ sym (getD-drop (c + n) sq′ (k - (c + n)) 0) ∙ ap (λ (u : List ℕ). getD u (k - (c + n)) 0) back
-              ∙ getD-drop (c + n) sq (k - (c + n)) 0 ∙ ap (λ (i : ℕ). getD sq i 0) g
-              ∙ p .patterns .is k (omega arith) hi;
+              let back = getD-drop (c + n) sq′ (k - (c + n)) 0 in
+              rw q (sym (rw (g, q, drop-at (take c sq ++ new) _ (c + n) w, getD-drop, g) at back) ∙ p .patterns .is k (omega arith) hi);
         };
       }
 
   -- a module that stays as it is
   placing-miss : c < length ks → (getD ks c 0 ≡ 0 → ds ≡ []) → Placing m ks whole after sq ds (suc c)
   placing-miss h z =
-      let front : take (suc c) sq ≡ take c sq ++ (patternOf (getD ks c 0) ∷ []) =
-      take-suc sq c 0 (omega arith) ∙ ap (λ (x : ℕ). take c sq ++ (x ∷ [])) (p .patterns .is c (omega arith) h) in
       record {
         size = p .size;
         few = h;
-        is = ap (λ (u : List ℕ). u ++ placed m (suc c) (drop (suc c) ks) ds) front
-            ∙ append-assoc (take c sq) (patternOf (getD ks c 0) ∷ []) (placed m (suc c) (drop (suc c) ks) ds)
-            ∙ sym (ap (λ (u : List ℕ). take c sq ++ u) (place-miss m c ks ds h z)) ∙ p .is;
+        is = rw (take-suc sq c 0 (omega arith), p .patterns .is c (omega arith) h, append-assoc, ← place-miss m c ks ds h z) (p .is);
         left = counted ∙ p .left;
         patterns = record { is = λ k lo hi. p .patterns .is k (omega arith) hi };
       }
     where
       counted : drop (dataModules (drop (suc c) ks)) ds ≡ drop (dataModules (drop c ks)) ds
       counted = elim (ℕ-discrete (getD ks c 0) 0) [
-        | yes y ↦ ap (drop (dataModules (drop (suc c) ks))) (z y) ∙ drop-nil (dataModules (drop (suc c) ks))
-            ∙ sym (ap (drop (dataModules (drop c ks))) (z y) ∙ drop-nil (dataModules (drop c ks)))
-        | no y ↦ sym (ap (λ (n : ℕ). drop n ds) (ap dataModules (drop-cons ks c 0 h) ∙ module-miss (getD ks c 0) (drop (suc c) ks) y))
+        | yes y ↦ simp (z y, drop-nil)
+        | no y ↦ rw (drop-cons ks c 0, module-miss (getD ks c 0) (drop (suc c) ks) y)
       ]
 
 -- n modules that stay
 placing-skip : {m : ℕ → ℕ} {ks whole after sq ds : List ℕ} (n c : ℕ) → c + n ≤ length ks → ((k : ℕ) → c ≤ k → k < c + n → getD ks k 0 ≢ 0)
     → Placing m ks whole after sq ds c → Placing m ks whole after sq ds (c + n)
-placing-skip {m} {ks} {whole} {after} {sq} {ds} zero c h z p = let e : c ≡ c + 0 = omega arith in subst (Placing m ks whole after sq ds) e p
-placing-skip {m} {ks} {whole} {after} {sq} {ds} (suc n) c h z p =
-    let e : suc c + n ≡ c + suc n = omega arith in
-    subst (Placing m ks whole after sq ds) e
-    (placing-skip n (suc c) (omega arith) (λ k lo hi. z k (omega arith) (omega arith))
+placing-skip zero c h z p = rw add-zero p
+placing-skip (suc n) c h z p =
+    rw (add-suc, ← suc-add) (placing-skip n (suc c) (omega arith) (λ k lo hi. z k (omega arith) (omega arith))
     (placing-miss p (omega arith) (λ y. absurd (z c (omega arith) (omega arith) y))))
 
 module _ {ks row cw sq sq′ : List ℕ} {p q : Cursor} where
@@ -200,40 +186,27 @@ module _ {ks row cw sq sq′ : List ℕ} {p q : Cursor} where
   puts-one h z e b = record {
     go = λ whole after g. elim (decLt (p .bit) (8 * length cw)) [
       | yes l ↦ (let k = b .room l in
-          let o : p .column + 0 ≡ p .column = omega arith in
-          let t : p .bit + 0 ≡ p .bit = omega arith in
-          let s : sq′ ≡ sets sq (p .column) (run 1 (λ i. bitXor (getD (bitsOf cw) (p .bit + i) 0) (getD row (p .column + i) 0))) =
-          k .1 ∙ ap₂ (λ (i j : ℕ). set sq (p .column) (bitXor (getD (bitsOf cw) i 0) (getD row j 0))) (sym t) (sym o) in
-          let d : drop (p .bit) (bitsOf cw) ≡ run 1 (λ i. getD (bitsOf cw) (p .bit + i) 0) ++ drop (q .bit) (bitsOf cw) =
-          bits-run cw 1 (p .bit) (omega arith) ∙ ap (λ (i : ℕ). run 1 (λ j. getD (bitsOf cw) (p .bit + j) 0) ++ drop i (bitsOf cw)) (sym (k .0)) in
-          subst (Placing (getD₀ row) ks whole after sq′ (drop (q .bit) (bitsOf cw))) (sym e)
-          (placing-hits g 1 (λ i. getD (bitsOf cw) (p .bit + i) 0) (drop (q .bit) (bitsOf cw)) (omega arith)
-          (λ i l. let y : p .column + i ≡ p .column = omega arith in ap (λ (j : ℕ). getD ks j 0) y ∙ z) d s))
+          rw (k .0, e) (placing-hits g 1 (λ i. getD (bitsOf cw) (p .bit + i) 0) (drop (p .bit + 1) (bitsOf cw)) (omega arith)
+          (λ i l. let y : p .column + i ≡ p .column = omega arith in rw y z) (bits-run cw 1 (p .bit) (omega arith)) (simp add-zero (k .1))))
       | no l ↦ (let k = b .full (omega arith) in
-          let none : drop (p .bit) (bitsOf cw) ≡ [] = drop-of-length-le (bitsOf cw) {i = p .bit} (omega (arith, length-bits cw)) in
-          subst (λ (s : List ℕ). Placing (getD₀ row) ks whole after s (drop (q .bit) (bitsOf cw)) (q .column)) (sym (k .1))
-          (subst (λ (i : ℕ). Placing (getD₀ row) ks whole after sq (drop i (bitsOf cw)) (q .column)) (sym (k .0))
-          (subst (Placing (getD₀ row) ks whole after sq (drop (p .bit) (bitsOf cw))) (sym (e ∙ add-one (p .column))) (placing-miss g h (λ y. none)))))
+          rw (k .0, k .1, e, add-one)
+          (placing-miss g h (λ y. drop-of-length-le (bitsOf cw) {i = p .bit} (omega (arith, length-bits cw)))))
     ];
   }
 
   pub puts-eight : {kinds : ℕ} → p .column + 8 ≤ length ks → kinds ≡ eightOf (behind ks (p .column)) → kinds ≡ 0 → p .bit + 8 ≤ 8 * length cw
       → PutEight row cw sq sq′ p q → Puts ks row cw sq sq′ p q
   puts-eight {kinds} h e z b u = record {
-    go = λ whole after g. subst (Placing (getD₀ row) ks whole after sq′ (drop (q .bit) (bitsOf cw))) (sym (u .column-is))
-        (placing-hits g 8 (λ i. getD (bitsOf cw) (p .bit + i) 0) (drop (q .bit) (bitsOf cw)) h (eight-zero (behind ks (p .column)) (sym e ∙ z))
-        (bits-run cw 8 (p .bit) b ∙ ap (λ (i : ℕ). run 8 (λ k. getD (bitsOf cw) (p .bit + k) 0) ++ drop i (bitsOf cw)) (sym (u .bit-is))) (u .is));
+    go = λ whole after g. rw (u .column-is, u .bit-is)
+        (placing-hits g 8 (λ i. getD (bitsOf cw) (p .bit + i) 0) _ h (eight-zero (behind ks (p .column)) (sym e ∙ z)) (bits-run cw 8 (p .bit) b) (u .is));
   }
 
 pub puts-skip : {ks row cw sq : List ℕ} {p q : Cursor} → Skipped ks (p .column) (q .column) → q .bit ≡ p .bit → Puts ks row cw sq sq p q
 puts-skip {ks} {row} {cw} {sq} {p} {q} s e = record {
-  go = λ whole after g. subst (λ (i : ℕ). Placing (getD₀ row) ks whole after sq (drop i (bitsOf cw)) (q .column)) (sym e)
-      (subst (Placing (getD₀ row) ks whole after sq (drop (p .bit) (bitsOf cw))) f
-      (placing-skip (q .column - p .column) (p .column) (omega arith) (λ k lo hi. s .none k lo (omega arith)) g));
+  go = λ whole after g.
+      let f : p .column + (q .column - p .column) ≡ q .column = omega arith in
+      rw e (rw f at (placing-skip (q .column - p .column) (p .column) (omega arith) (λ k lo hi. s .none k lo (omega arith)) g));
 }
-  where
-    f : p .column + (q .column - p .column) ≡ q .column
-    f = omega arith
 
 pub puts-none : {ks row cw sq : List ℕ} {p : Cursor} → Puts ks row cw sq sq p p
 puts-none = record { go = λ whole after g. g }
@@ -248,11 +221,7 @@ puts-all {ks} {row} {cw} {a} {b} {p} {q} f h = record {
   go = λ whole after k.
       let g = f .go whole after k in
       let none : drop (q .column) ks ≡ [] = drop-of-length-le ks {i = q .column} h in
-      let all : take (q .column) b ≡ b = take-all (q .column) b (omega arith) in (
-        sym (append-nil b) ∙ sym (ap₂ (λ (u v : List ℕ). u ++ placed (getD₀ row) (q .column) v (drop (q .bit) (bitsOf cw))) all none)
-            ∙ g .is,
-        sym (ap (λ (v : List ℕ). drop (dataModules v) (drop (q .bit) (bitsOf cw))) none) ∙ g .left,
-      );
+      (sym (append-nil b) ∙ (rw (take-all (q .column) b (omega arith), none) at (g .is)), rw none at (g .left));
 }
 
 pub puts-end : {ks row cw a b c : List ℕ} {p q : Cursor} {bit : ℕ} → Puts ks row cw a b p q → PutsAll ks row cw b c q bit → PutsAll ks row cw a c p bit
