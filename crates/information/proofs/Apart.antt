@@ -50,8 +50,18 @@ remainder-xor r n k h g l =
     -- (x + (a + y)) + (x + (b + y)) = a + b
     cancel : (x a b y : ℕ) → bitXor (bitXor x (bitXor a y)) (bitXor x (bitXor b y)) ≡ bitXor a b
     cancel x a b y =
-        rw (xor-comm x (bitXor a y), xor-assoc (bitXor a y) x, ← xor-assoc x x, xor-self x, xor-zero-l (bitXor b y), xor-comm b y, xor-assoc a y,
-        ← xor-assoc y y, xor-self y, xor-zero-l b)
+        rw (
+          xor-comm x (bitXor a y),
+          xor-assoc (bitXor a y) x,
+          ← xor-assoc x x,
+          xor-self x,
+          xor-zero-l (bitXor b y),
+          xor-comm b y,
+          xor-assoc a y,
+          ← xor-assoc y y,
+          xor-self y,
+          xor-zero-l b,
+        )
 
 -- a word of a version by its last nibble
 module _ (v : ℕ) (hi : v ≤ 84) where
@@ -136,8 +146,14 @@ few-flips v k a b hi h le = elim (ℕ-discrete (nearestWord v a b) k) [
   | no e ↦ (let w = wordAt v (nearestWord v a b) in
       let n-le : nearestWord v a b ≤ 15 = nearest-le (wordDistance v a b) 15 in
       let least : wordDistance v a b (nearestWord v a b) ≤ wordDistance v a b k = nearest-least (wordDistance v a b) 15 k (omega arith) in
-      absurd (omega (arith, apart v (nearestWord v a b) k hi (omega arith) h e, triangle w a (wordAt v k), triangle w b (wordAt v k),
-      ap ones (xor-comm a (wordAt v k)), ap ones (xor-comm b (wordAt v k)))))
+      absurd (omega (
+        arith,
+        apart v (nearestWord v a b) k hi (omega arith) h e,
+        triangle w a (wordAt v k),
+        triangle w b (wordAt v k),
+        ap ones (xor-comm a (wordAt v k)),
+        ap ones (xor-comm b (wordAt v k)),
+      )))
 ]
 
 -- a word has 34 bits

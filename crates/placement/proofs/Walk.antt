@@ -213,8 +213,12 @@ module _ {ks sq row : List ℕ} (a : Masked sq row) (size : length sq ≡ length
       → x ≡ value 0 (run n (unmaskedAt sq row (r .column))) → s .column ≡ r .column + n → Pushed n x out out′ r s → ReadsColumns ks sq row out out′ r s
   reads-push {out} {out′} {r} {s} n x h z e f q = record {
     go = λ total all rest k. q .go total all (rowBits ks sq row (s .column) ++ rest)
-        (rw (from-hits (λ k. getD row k 0) ks sq (omega arith) n (r .column) (omega arith) z,
-        run-low n x (unmaskedAt sq row (r .column)) (bits-small a (r .column)) (sym e), ← f, append-assoc) at k);
+        (rw (
+          from-hits (λ k. getD row k 0) ks sq (omega arith) n (r .column) (omega arith) z,
+          run-low n x (unmaskedAt sq row (r .column)) (bits-small a (r .column)) (sym e),
+          ← f,
+          append-assoc,
+        ) at k);
   }
 
   -- modules that are no data passed
