@@ -1,7 +1,7 @@
 -- Blocks corrected one after the other: what one block more, or one batch more, does, and what all come to. Assumes nothing.
-use Rattle.general.proofs.Names.{_≡_, refl, sym, ap, ap₂, _∙_, _⊎_, inl, inr, _≢_, Bool, true, false, cond, Option, none, some, List, [], _∷_, _++_}
-use Rattle.general.proofs.Names.{append-assoc, flatMap, zipWith, ℕ, zero, suc, _+_, _-_, _≤_, zero-le, add-zero, add-assoc, arith, eqb, eqb·suc-zero}
-use Rattle.general.proofs.Names.{length, take, drop, length-take, length-drop, take-append-drop, drop-drop, length-take-le}
+use Rattle.general.proofs.Names.{_≡_, refl, sym, ap, _∙_, _⊎_, inl, inr, _≢_, Bool, true, false, cond, Option, none, some, List, [], _∷_, _++_, append-assoc}
+use Rattle.general.proofs.Names.{flatMap, zipWith, ℕ, zero, suc, _+_, _-_, _≤_, zero-le, add-zero, add-assoc, arith, eqb, eqb·suc-zero, length, take, drop}
+use Rattle.general.proofs.Names.{length-take, length-drop, take-append-drop, drop-drop, length-take-le}
 use Rattle.reed_solomon.specs.Block.{nearest, unfit}
 use Rattle.reed_solomon.proofs.Nearest.{some-near}
 use Rattle.corrector.specs.Correct.{BlockOutcome, refusedBlock, settled, correctOf, outcome}

@@ -1,7 +1,7 @@
 -- What a customer may quote of blocks that are corrected and made one after the other. Each holds for any blocks that hold the rule of a
 -- row: data, parity, and at most 255 codewords. Assumes nothing.
-use Rattle.general.proofs.Names.{_≡_, sym, ap, ap₂, subst, _∙_, _⊎_, inl, inr, _≢_, none, some, Bool, cond, List, [], _∷_, _++_, append-nil, ℕ, _/_, _≤_}
-use Rattle.general.proofs.Names.{_<_, arith, T, length, take, drop, take-append-drop, ne-eqb}
+use Rattle.general.proofs.Names.{_≡_, sym, ap, subst, _∙_, _⊎_, inl, inr, _≢_, none, some, List, [], _∷_, _++_, append-nil, ℕ, _/_, _≤_, _<_, arith, T, length}
+use Rattle.general.proofs.Names.{take, drop, take-append-drop, ne-eqb}
 use Rattle.reed_solomon.specs.Block.{distance, nearest}
 use Rattle.reed_solomon.proofs.Search.{Bytes}
 use Rattle.corrector.specs.Correct.{correctOf}

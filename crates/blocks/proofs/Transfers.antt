@@ -1,8 +1,6 @@
 -- Something of each block of one list put in its place in another: data gathered, and blocks written. Assumes nothing.
-use Rattle.general.proofs.Names.{_≡_, refl, sym, ap, ap₂, subst, _∙_, List, [], _∷_, _++_, flatMap, zipWith, ℕ, _+_, _-_, _*_, _≤_, _<_, add-zero}
-use Rattle.general.proofs.Names.{add-assoc, arith, length, take, drop, length-drop, take-append-drop, drop-drop, take-at, drop-at, take-take}
-use Rattle.general.proofs.Names.{length-take-le}
-use Rattle.reed_solomon.specs.Block.{parityOf}
+use Rattle.general.proofs.Names.{_≡_, refl, sym, ap, ap₂, _∙_, List, [], _∷_, _++_, flatMap, zipWith, ℕ, _+_, _-_, _*_, _≤_, _<_, add-zero, add-assoc, arith}
+use Rattle.general.proofs.Names.{length, take, drop, length-drop, take-append-drop, drop-drop, take-at, drop-at, take-take, length-take-le}
 use Rattle.parity.specs.Encode.{writtenOf}
 use Rattle.remainder.specs.Words.{Prepared}
 use Rattle.reed_solomon.proofs.Search.{Bytes}
@@ -15,7 +13,6 @@ use Rattle.blocks.proofs.Splice.{part-back, spliced-behind, spliced-mor
 use Rattle.blocks.proofs.Rule.{behind-next, batch-next, sum-append, sum-batch, sum-size, sum-info}
 use Rattle.blocks.proofs.RefusedStreams.{Coded}
 use Rattle.blocks.proofs.Written.{encoded-coded}
-use Rattle.parity.specs.Inner.{withParity}
 
 -- ---- some blocks behind others
 
@@ -210,13 +207,5 @@ module _ (d p a e f : ℕ) (t s s₁ ys : List ℕ) (end : e ≡ a + (d + p)) (i
   pub one-written : take a s₁ ++ (ys ++ drop (e - a) (drop a s₁)) ≡ transferred writing (batch 1 d p) a f t s
   unfolding transferred batch spliced
   one-written =
-      rw (
-        part-back a (d + p) e s₁ ys end,
-        is,
-        put,
-        take-at (take a s) (ds ++ drop (a + d) s) a (length-take-le a s (omega arith)),
-        ← add-assoc a d p,
-        ← drop-drop p (a + d) (spliced a d ds s),
-        spliced-behind a d ds s data-size here,
-        drop-drop,
-      )
+      rw (part-back a (d + p) e s₁ ys end, is, put, take-at (take a s) (ds ++ drop (a + d) s) a (length-take-le a s (omega arith)), ← add-assoc a d p)
+      (rw (← drop-drop p (a + d) (spliced a d ds s), spliced-behind a d ds s data-size here, drop-drop))

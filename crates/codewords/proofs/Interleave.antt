@@ -1,8 +1,8 @@
 -- Interleave: every stream place is reached, so that a stream that was interleaved is given back.
-use Rattle.general.proofs.Names.{_≡_, refl, ap, ap₂, _∙_, sym, subst, Bool, true, false, _≢_, _⊎_, inl, inr, List, [], _∷_, _++_, map, append-assoc}
-use Rattle.general.proofs.Names.{append-nil, ℕ, zero, suc, _+_, _-_, _*_, _/_, _%_, _<_, _≤_, arith, ℕ-discrete, add-one, add-zero, zero-add, add-suc, suc-add, length, getD, set, take, drop}
-use Rattle.general.proofs.Names.{replicate, length-set, length-replicate, length-map, length-append, take-append-drop, getD-set-same, getD-set-other}
-use Rattle.general.proofs.Names.{ext-getD, drop-cons, take-set-lt, drop-set-lt, take-suc-set, length-take-le, getD-take, take-all}
+use Rattle.general.proofs.Names.{_≡_, refl, ap, ap₂, _∙_, sym, subst, Bool, true, false, _≢_, _⊎_, inl, inr, List, [], _∷_, _++_, map, append-assoc, append-nil}
+use Rattle.general.proofs.Names.{ℕ, zero, suc, _+_, _-_, _*_, _/_, _%_, _<_, _≤_, arith, ℕ-discrete, add-one, add-zero, zero-add, add-suc, suc-add, length}
+use Rattle.general.proofs.Names.{getD, set, take, drop, replicate, length-set, length-replicate, length-map, length-append, take-append-drop, getD-set-same}
+use Rattle.general.proofs.Names.{getD-set-other, ext-getD, drop-cons, take-set-lt, drop-set-lt, take-suc-set, length-take-le, getD-take, take-all}
 use Rattle.bits.specs.Bits.{storeAt}
 use Rattle.codewords.specs.Codewords.{order, toStream, fromStream}
 use Rattle.codewords.specs.Inner.{into, outOf, moved, goneOn, Moving, Moves, steps, starts}

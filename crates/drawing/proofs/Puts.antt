@@ -1,8 +1,8 @@
 -- Bits into data modules.
-use Rattle.general.proofs.Names.{_≡_, refl, ap, ap₂, _∙_, sym, subst, _≢_, List, [], _∷_, _++_, append-assoc, append-nil, ℕ, zero, suc, _+_, _-_, _*_, _/_}
-use Rattle.general.proofs.Names.{_%_, _^_, _<_, _≤_, add-one, add-zero, zero-add, add-suc, suc-add, arith, decLt, ℕ-discrete, T, eqb, eqb→eq, length, getD, take, drop, set, length-set}
-use Rattle.general.proofs.Names.{length-append, drop-of-length-le, sets, sets-eq, length-sets, take-at, drop-at, drop-cons, drop-nil, take-suc, take-all}
-use Rattle.general.proofs.Names.{getD-take, getD-drop, length-take-le, drop-append-add, bitXor, bitAnd, xor-lt, and-le-r}
+use Rattle.general.proofs.Names.{_≡_, refl, ap, _∙_, sym, _≢_, List, [], _∷_, _++_, append-assoc, append-nil, ℕ, zero, suc, _+_, _-_, _*_, _/_, _%_, _^_, _<_}
+use Rattle.general.proofs.Names.{_≤_, add-one, add-zero, zero-add, add-suc, suc-add, arith, decLt, ℕ-discrete, T, eqb, eqb→eq, length, getD, take, drop, set}
+use Rattle.general.proofs.Names.{length-set, length-append, drop-of-length-le, sets, sets-eq, length-sets, take-at, drop-at, drop-cons, drop-nil, take-suc}
+use Rattle.general.proofs.Names.{take-all, getD-take, getD-drop, length-take-le, drop-append-add, bitXor, bitAnd, xor-lt, and-le-r}
 use Rattle.general.proofs.Finite.{upTo, every}
 use Rattle.bits.specs.Bits.{lowBits, bitsOf, value}
 use Rattle.bits.proofs.Reading.{length-bits, bit-lt, length-left}
@@ -12,9 +12,9 @@ use Rattle.symbol.specs.Layout.{dataModules}
 use Rattle.symbol.proofs.DataModules.{module-hit, module-miss}
 use Rattle.codewords.specs.Codewords.{placed}
 use Rattle.placement.specs.Walk.{eightOf, run, behind, bytesOf, Skipped}
-use Rattle.drawing.specs.Puts.{patternOf, getD₀, PatternsFrom, Placing, PutBit, PutEight, RowBuffers, Puts, PutsAll}
+use Rattle.drawing.specs.Puts.{patternOf, PatternsFrom, Placing, PutBit, PutEight, RowBuffers, Puts, PutsAll}
 use Rattle.drawing.specs.declared.Cursor.{Cursor}
-use Rattle.placement.proofs.Walk.{length-run, run-ext, run-front}
+use Rattle.placement.proofs.Walk.{length-run, run-front}
 use Rattle.placement.proofs.Eights.{bytes-eight, eight-zero, xor-eight}
 
 -- Eight bits set apart: a test that antt computes.

@@ -1,7 +1,7 @@
 -- Two words of one version differ in at least 9 bits, so up to 8 flips in both copies leave the nearest word as it was.
-use Rattle.general.proofs.Names.{_≡_, refl, sym, ap, ap₂, subst, _∙_, Bool, true, false, cond, _||_, ℕ, zero, suc, _+_, _-_, _*_, _/_, _%_, _^_, _<_, _≤_}
-use Rattle.general.proofs.Names.{arith, add-zero, decLt, ℕ-discrete, ne-eqb, lt-ltb, le-ltb, T, eqb, ltb, leb, eqb→eq, leb→le, ltb→lt, lit<, bitXor, xor-lt, xor-block, xor-self, xor-comm, xor-zero-l}
-use Rattle.general.proofs.Names.{xor-zero-r, getD, ltb-true, ltb-false, eqb-true, eqb-false}
+use Rattle.general.proofs.Names.{_≡_, refl, sym, ap, ap₂, subst, _∙_, _||_, ℕ, zero, suc, _+_, _*_, _/_, _%_, _^_, _<_, _≤_, arith, add-zero, decLt, ℕ-discrete}
+use Rattle.general.proofs.Names.{ne-eqb, lt-ltb, le-ltb, T, eqb, ltb, leb, eqb→eq, leb→le, ltb→lt, lit<, bitXor, xor-lt, xor-block, xor-self, xor-comm}
+use Rattle.general.proofs.Names.{xor-zero-l, xor-zero-r, getD}
 use lib.Pow.{shr-lt}
 use lib.Count.{ones, onesIn, ones-step}
 use Rattle.information.specs.Information.{timesX, productFrom, gf16Mul, generatorTimes, remainder, wordOf, infoBits, wordAt}
@@ -50,18 +50,8 @@ remainder-xor r n k h g l =
     -- (x + (a + y)) + (x + (b + y)) = a + b
     cancel : (x a b y : ℕ) → bitXor (bitXor x (bitXor a y)) (bitXor x (bitXor b y)) ≡ bitXor a b
     cancel x a b y =
-        rw (
-          xor-comm x (bitXor a y),
-          xor-assoc (bitXor a y) x,
-          ← xor-assoc x x,
-          xor-self x,
-          xor-zero-l (bitXor b y),
-          xor-comm b y,
-          xor-assoc a y,
-          ← xor-assoc y y,
-          xor-self y,
-          xor-zero-l b,
-        )
+        rw (xor-comm x (bitXor a y), xor-assoc (bitXor a y) x, ← xor-assoc x x, xor-self x, xor-zero-l (bitXor b y))
+        (rw (xor-comm b y, xor-assoc a y, ← xor-assoc y y, xor-self y, xor-zero-l b))
 
 -- a word of a version by its last nibble
 module _ (v : ℕ) (hi : v ≤ 84) where
@@ -135,7 +125,8 @@ module _ (d : ℕ → ℕ) where
   nearest-least zero k h = let e : k ≡ 0 = omega arith in rw e (omega arith)
   nearest-least (suc n) k h = elim (decLt (d (suc n)) (d (leastOf d n))) [
     | yes l ↦ rw (lt-ltb _ _ l) (elim (ℕ-discrete k (suc n)) [ yes e ↦ rw e (omega arith) | no e ↦ omega (arith, nearest-least n k (omega arith)) ])
-    | no l ↦ rw (le-ltb (d (suc n)) (d (leastOf d n)) (omega arith)) (elim (ℕ-discrete k (suc n)) [ yes e ↦ rw e (omega arith) | no e ↦ nearest-least n k (omega arith) ])
+    | no l ↦ rw (le-ltb (d (suc n)) (d (leastOf d n)) (omega arith))
+        (elim (ℕ-discrete k (suc n)) [ yes e ↦ rw e (omega arith) | no e ↦ nearest-least n k (omega arith) ])
   ]
 
 -- at most 8 flips of both copies: the nearest word is still that one
@@ -144,16 +135,11 @@ unfolding nearestWord wordDistance
 few-flips v k a b hi h le = elim (ℕ-discrete (nearestWord v a b) k) [
   | yes e ↦ e
   | no e ↦ (let w = wordAt v (nearestWord v a b) in
+      let u = wordAt v k in
       let n-le : nearestWord v a b ≤ 15 = nearest-le (wordDistance v a b) 15 in
       let least : wordDistance v a b (nearestWord v a b) ≤ wordDistance v a b k = nearest-least (wordDistance v a b) 15 k (omega arith) in
-      absurd (omega (
-        arith,
-        apart v (nearestWord v a b) k hi (omega arith) h e,
-        triangle w a (wordAt v k),
-        triangle w b (wordAt v k),
-        ap ones (xor-comm a (wordAt v k)),
-        ap ones (xor-comm b (wordAt v k)),
-      )))
+      let far = apart v (nearestWord v a b) k hi (omega arith) h e in
+      absurd (omega (arith, far, rw (xor-comm a u) at (triangle w a u), rw (xor-comm b u) at (triangle w b u))))
 ]
 
 -- a word has 34 bits

@@ -1,6 +1,6 @@
 -- At most 8 of the 68 information modules flipped: the nearest word is the one that was written.
-use Rattle.general.proofs.Names.{_≡_, sym, ap, ap₂, _∙_, Bool, true, false, cond, not, _&&_, List, [], _∷_, ℕ, zero, suc, _+_, _-_, _*_, _^_, _<_, _≤_}
-use Rattle.general.proofs.Names.{arith, eqb, length, getD, set, bitXor}
+use Rattle.general.proofs.Names.{_≡_, sym, ap, _∙_, Bool, true, false, cond, not, List, [], _∷_, ℕ, zero, suc, _+_, _*_, _^_, _<_, _≤_, arith, eqb, length}
+use Rattle.general.proofs.Names.{getD, set, bitXor}
 use lib.Count.{ones}
 use Rattle.symbol.specs.Version.{sideOf}
 use Rattle.symbol.specs.Layout.{layoutOf}

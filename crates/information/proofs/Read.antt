@@ -1,7 +1,7 @@
 -- A copy that was written is read; and the distance of two readings is the number of places that differ.
-use Rattle.general.proofs.Names.{_≡_, refl, sym, ap, ap₂, _∙_, Bool, true, false, cond, List, ℕ, zero, suc, _+_, _-_, _*_, _/_, _%_, _^_, _<_, _≤_}
-use Rattle.general.proofs.Names.{not-suc-le-zero, le-of-suc-le-suc, arith, ℕ-discrete, eqb, bitXor, differ, xor-step, length, getD, set, length-set}
-use Rattle.general.proofs.Names.{getD-set-same, getD-set-other}
+use Rattle.general.proofs.Names.{_≡_, refl, sym, ap, ap₂, _∙_, Bool, true, false, cond, List, ℕ, zero, suc, _+_, _*_, _/_, _%_, _^_, _<_, _≤_, not-suc-le-zero}
+use Rattle.general.proofs.Names.{le-of-suc-le-suc, arith, ℕ-discrete, eqb, bitXor, differ, xor-step, length, getD, set, length-set, getD-set-same}
+use Rattle.general.proofs.Names.{getD-set-other}
 use lib.Count.{ones, ones-step}
 use Rattle.bits.specs.Bits.{lowBits, value, storeAt}
 use Rattle.bits.proofs.Words.{low-back}

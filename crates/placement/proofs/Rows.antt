@@ -1,7 +1,7 @@
 -- A square as its rows.
-use Rattle.general.proofs.Names.{_≡_, refl, ap, ap₂, _∙_, sym, subst, List, [], _∷_, _++_, append-nil, ℕ, zero, suc, _+_, _-_, _*_, _<_, _≤_, add-mul}
-use Rattle.general.proofs.Names.{one-mul, mul-le-mul-left, zero-add, add-zero, add-suc, suc-add, arith, length, getD, take, drop, length-append, length-drop, take-append-drop, drop-of-length-le}
-use Rattle.general.proofs.Names.{length-take-le, take-all, drop-drop, getD-drop, getD-take, bitXor}
+use Rattle.general.proofs.Names.{_≡_, refl, ap, ap₂, _∙_, sym, subst, List, [], _∷_, _++_, append-nil, ℕ, zero, suc, _+_, _-_, _*_, _<_, _≤_, add-mul, one-mul}
+use Rattle.general.proofs.Names.{mul-le-mul-left, zero-add, add-zero, add-suc, suc-add, arith, length, getD, take, drop, length-append, length-drop}
+use Rattle.general.proofs.Names.{take-append-drop, drop-of-length-le, length-take-le, take-all, drop-drop, getD-drop, getD-take, bitXor}
 use lib.Arith.{digits-div, digits-mod}
 use lib.Pow.{pow-pos}
 use Rattle.bits.specs.Bits.{lowBits, firstWords, groups}
@@ -9,7 +9,7 @@ use Rattle.bits.proofs.Words.{length-low}
 use Rattle.bits.proofs.Bytes.{take-small}
 use Rattle.codewords.specs.Codewords.{maskAt, maskBit, dataBits}
 use Rattle.masks.specs.Columns.{Row}
-use Rattle.placement.specs.Walk.{bitsFrom, BitsAndKinds, FewPending, Words, Walk, Masked, Aligned, rowBits, ReadsColumns}
+use Rattle.placement.specs.Walk.{bitsFrom, BitsAndKinds, FewPending, Walk, Masked, Aligned, rowBits, ReadsColumns}
 use Rattle.placement.specs.declared.Run.{Run}
 
 -- Parts of a list.

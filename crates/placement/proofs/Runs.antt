@@ -1,7 +1,7 @@
 -- Runs of modules of one sort.
 use Rattle.general.proofs.Names.{_≡_, refl, ap, ap₂, _∙_, sym, subst, _≢_, List, ℕ, zero, suc, _+_, _-_, _*_, _/_, _%_, _^_, _<_, _≤_, zero-le, suc-le-suc}
-use Rattle.general.proofs.Names.{mod-one, zero-div, zero-mod, add-one, arith, decLt, bitXor, bitAnd, bitOr, or-shr, and-shr, xor-shr, or-mod, and-mod}
-use Rattle.general.proofs.Names.{xor-mod, and-zero-r, xor-zero-r, T, eqb, eqb→eq, length, getD, List·getD-eq-default}
+use Rattle.general.proofs.Names.{mod-one, zero-div, zero-mod, add-one, arith, decLt, bitXor, bitAnd, bitOr, or-shr, and-shr, xor-shr, or-mod, and-mod, xor-mod}
+use Rattle.general.proofs.Names.{and-zero-r, xor-zero-r, T, eqb, eqb→eq, length, getD, List·getD-eq-default}
 use lib.Count.{trailingZeros, under, trailing-le}
 use lib.Pow.{shr-shr, mod-pow-add, mod-mod-pow, field}
 use Rattle.general.proofs.Finite.{upTo, every}

@@ -1,14 +1,14 @@
 -- Bits behind bits, and the walk over a row.
-use Rattle.general.proofs.Names.{_≡_, refl, ap, ap₂, _∙_, sym, subst, _≢_, List, [], _∷_, _++_, append-assoc, ℕ, zero, suc, _+_, _-_, _*_, _/_, _%_, _^_}
-use Rattle.general.proofs.Names.{_<_, _≤_, mod-lt, mod-eq-of-lt, pow-le-pow-right, arith, add-one, zero-add, suc-add, add-suc, add-zero, add-assoc, add-comm, decLt, lit<, length, getD, take, drop, set, length-set}
-use Rattle.general.proofs.Names.{length-append, take-at, drop-at, drop-cons, take-suc-set, bitXor, xor-lt}
+use Rattle.general.proofs.Names.{_≡_, refl, ap, ap₂, _∙_, sym, _≢_, List, [], _∷_, _++_, append-assoc, ℕ, zero, suc, _+_, _-_, _*_, _/_, _%_, _^_, _<_, _≤_}
+use Rattle.general.proofs.Names.{mod-lt, mod-eq-of-lt, pow-le-pow-right, arith, add-one, zero-add, suc-add, add-suc, add-zero, add-assoc, add-comm, decLt, lit<}
+use Rattle.general.proofs.Names.{length, getD, drop, set, length-set, length-append, take-at, drop-at, drop-cons, take-suc-set, bitXor, xor-lt}
 use lib.Arith.{digits-lt}
 use lib.Pow.{pow-pos, pow-add, shl-lt, shr-shr, split, high, low, field, mod-mod-pow}
 use Rattle.bits.specs.Bits.{lowBits, value, firstWords, groups}
 use Rattle.bits.proofs.Words.{length-low, low-back}
 use Rattle.bits.proofs.Bytes.{value-add, value-small, low-value}
 use Rattle.codewords.specs.Codewords.{dataBits}
-use Rattle.placement.specs.Walk.{bitsFrom, byteOf, eightOf, run, behind, Gathered, FewPending, Words, Walk, Stored, Pushed, Masked, unmaskedAt, Skipped}
+use Rattle.placement.specs.Walk.{bitsFrom, byteOf, eightOf, run, behind, Gathered, FewPending, Words, Stored, Pushed, Masked, unmaskedAt, Skipped}
 use Rattle.placement.specs.Walk.{rowBits, ReadsColumns}
 use Rattle.placement.specs.declared.Run.{Run}
 use Rattle.placement.proofs.Eights.{xor-eight}
@@ -213,12 +213,8 @@ module _ {ks sq row : List ℕ} (a : Masked sq row) (size : length sq ≡ length
       → x ≡ value 0 (run n (unmaskedAt sq row (r .column))) → s .column ≡ r .column + n → Pushed n x out out′ r s → ReadsColumns ks sq row out out′ r s
   reads-push {out} {out′} {r} {s} n x h z e f q = record {
     go = λ total all rest k. q .go total all (rowBits ks sq row (s .column) ++ rest)
-        (rw (
-          from-hits (λ k. getD row k 0) ks sq (omega arith) n (r .column) (omega arith) z,
-          run-low n x (unmaskedAt sq row (r .column)) (bits-small a (r .column)) (sym e),
-          ← f,
-          append-assoc,
-        ) at k);
+        (rw (run-low n x (unmaskedAt sq row (r .column)) (bits-small a (r .column)) (sym e), ← f, append-assoc)
+        at (rw (from-hits (λ k. getD row k 0) ks sq (omega arith) n (r .column) (omega arith) z) at k));
   }
 
   -- modules that are no data passed
@@ -227,7 +223,8 @@ module _ {ks sq row : List ℕ} (a : Masked sq row) (size : length sq ≡ length
   reads-skip {out} {r} {s} q n v b = record {
     go = λ total all rest k.
         let e : r .column + (s .column - r .column) ≡ s .column = omega arith in
-        let passed = from-misses (λ k. getD row k 0) ks sq (omega arith) (s .column - r .column) (r .column) (omega arith) (λ k l h. q .none k l (omega arith)) in
+        let passed = from-misses (λ k. getD row k 0) ks sq (omega arith) (s .column - r .column) (r .column) (omega arith)
+        (λ k l h. q .none k l (omega arith)) in
         record { words = rw (n, b, v) (rw (passed, e) at (k .words)) };
   }
 

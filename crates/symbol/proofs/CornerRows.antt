@@ -1,7 +1,7 @@
 -- The rows of the corners, stretch by stretch.
 use Rattle.general.proofs.Names.{_≡_, refl, sym, ap, subst, _∙_, Bool, true, false, cond, List, [], ℕ, suc, _+_, _-_, _*_, _/_, _%_, _^_, _<_, _≤_, arith}
-use Rattle.general.proofs.Names.{mul-le-mul-right, mul-div-mul-left, pow-succ', suc-mul, zero-div, le-div-iff-mul-le, div-lt-iff-lt-mul, decLt, add-one, T}
-use Rattle.general.proofs.Names.{ltb, ltb→lt, lit<, length, getD, set, length-set, lt-ltb, le-ltb, ltb-true, ltb-false, ne-eqb}
+use Rattle.general.proofs.Names.{mul-le-mul-right, mul-div-mul-left, pow-succ', suc-mul, zero-div, le-div-iff-mul-le, div-lt-iff-lt-mul, decLt, add-one, T, ltb}
+use Rattle.general.proofs.Names.{ltb→lt, lit<, length, getD, set, length-set, lt-ltb, le-ltb, ltb-true, ltb-false, ne-eqb}
 use lib.Arith.{digits-div, digits-mod}
 use Rattle.symbol.specs.Layout.{finders, edge, ring, half, within, finderRow, finderAt, cornerAt}
 use Rattle.symbol.specs.Inner.{Stored, RowRoom, Ends, UpTo, Beyond, cornerKind}
