@@ -116,11 +116,9 @@ answerFrom (suc k) n = Refused
 onward-answer : (n c k m : ℕ) (pre w u t : List ℕ)
     → onward n c ((pre ++ w) ++ t) (record { answer = answerFrom k m; stream = (pre ++ w) ++ u })
     ≡ record { answer = answerFrom (first n k) (c + m); stream = pre ++ (w ++ cond (eqb n 0) u t) }
-onward-answer zero c zero m pre w u t = λ i. record { answer = Corrected (c + m); stream = append-assoc pre w u i }
-onward-answer zero c (suc k) m pre w u t = λ i. record { answer = Refused; stream = append-assoc pre w u i }
-onward-answer (suc n) c k m pre w u t =
-    (λ i. record { answer = Refused; stream = append-assoc pre w t i })
-    ∙ ap (λ (x : Bool). record { answer = answerFrom (cond x k (suc n)) (c + m); stream = pre ++ (w ++ cond x u t) }) (sym (eqb·suc-zero n))
+onward-answer zero c zero m pre w u t = rw append-assoc
+onward-answer zero c (suc k) m pre w u t = rw append-assoc
+onward-answer (suc n) c k m pre w u t = rw (eqb·suc-zero n, append-assoc)
 
 pub outcome-is : (bs : List Shape) (a : ℕ) (s : List ℕ) → a + totalSize bs ≤ length s
     → outcomeFrom bs a s ≡ record {
@@ -148,13 +146,9 @@ answer-from-le (suc k) n = zero-le
 
 -- no more corrections than codewords
 pub corrects-le : {bs : List Shape} {a : ℕ} {s s′ : List ℕ} {r : Blocks} → Corrects bs a s s′ r → a + totalSize bs ≤ length s → correctionsOf r ≤ totalSize bs
-corrects-le {bs} {a} {s} {s′} {r} C h =
-    omega (
-      arith,
-      ap (λ (q : StreamOutcome). correctionsOf (q .answer)) (C .is ∙ outcome-is bs a s h),
-      answer-from-le (firstRefused (corrected bs (drop a s))) (countOf (corrected bs (drop a s))),
-      count-le bs (drop a s),
-    )
+corrects-le {bs} {a} {s} C h =
+    let e = ap (λ (q : StreamOutcome). correctionsOf (q .answer)) (C .is ∙ outcome-is bs a s h) in
+    omega (arith, e, answer-from-le (firstRefused (corrected bs (drop a s))) (countOf (corrected bs (drop a s))), count-le bs (drop a s))
 
 -- ---- a loop over blocks
 
@@ -180,9 +174,7 @@ module _ {bs : List Shape} {a : ℕ} {s : List ℕ} {rest : List Shape} {a′ n 
       → a″ ≡ a′ + totalSize cs → BlocksLeft bs a s ds a″ (n + m) s″
   unfolding correctionsOf
   blocks-left-next {s″} {r} m a″ C f k l = record {
-    same =
-        (rw (f, ← l) at (whole C))
-        ∙ (λ i. record { answer = more-more n m (outcomeFrom ds a″ s″ .answer) i; stream = outcomeFrom ds a″ s″ .stream });
+    same = (rw (f, ← l) at (whole C)) ∙ rw more-more;
     size = k ∙ P .size;
     room = omega (arith, blocks-left-room);
     few = omega (arith, ap correctionsOf f, corrects-le C (omega (arith, blocks-left-room, P .size)));

@@ -117,5 +117,4 @@ one-more a b x y p q =
 pub distance-is : (f h : ℕ → ℕ) → ((k : ℕ) → f k < 2) → ((k : ℕ) → h k < 2) → (n : ℕ) → ones (bitXor (numberFrom f n) (numberFrom h n)) ≡ differing f h n
 unfolding numberFrom differing ones
 distance-is f h p q zero = refl
-distance-is f h p q (suc n) =
-    one-more (numberFrom f n) (numberFrom h n) (f n) (h n) (p n) (q n) ∙ ap (λ (m : ℕ). m + cond (eqb (f n) (h n)) 0 1) (distance-is f h p q n)
+distance-is f h p q (suc n) = rw (one-more (numberFrom f n) (numberFrom h n) (f n) (h n) (p n) (q n), distance-is f h p q n)
