@@ -38,14 +38,11 @@ spread-lt x = omega (arith, and-le-r x 16843009)
 pub window-two : (s : List ℕ) (bit a b : ℕ) → bit / 8 + 1 < length s → (a < 256) × (b < 256) → a ≡ getD s (bit / 8) 0 → b ≡ getD s (bit / 8 + 1) 0
     → (a * 256 + b) / 2 ^ (8 - bit % 8) % 256 ≡ value 0 (take 8 (drop bit (bitsOf s)))
 window-two s bit a b h l e f =
-    let z : bit / 8 ≡ bit / 8 + 0 = omega arith in
+    let one = window-more s (bit / 8) 0 a (omega arith) (l .0) (rw add-zero e) in
     let n : 0 * 256 + a ≡ a = omega arith in
-    let one = sym n ∙ ap (λ (x : ℕ). x * 256 + a) (window-none s (bit / 8))
-    ∙ window-more s (bit / 8) 0 a (omega arith) (l .0) (e ∙ ap (λ (i : ℕ). getD s i 0) z) in
-    let two = ap (λ (x : ℕ). x * 256 + b) one ∙ window-more s (bit / 8) 1 b (omega arith) (l .1) f in
     let o : 8 * (bit / 8) + bit % 8 ≡ bit = omega arith in
-    ap (λ (x : ℕ). x / 2 ^ (8 - bit % 8) % 256) two ∙ window-read s (bit / 8) 2 (bit % 8) 8 (8 - bit % 8) (omega arith) (omega arith)
-    ∙ ap (λ (i : ℕ). value 0 (take 8 (drop i (bitsOf s)))) o
+    rw (rw (← window-none s (bit / 8), n) at one, window-more s (bit / 8) 1 b (omega arith) (l .1) f)
+    (rw o at (window-read s (bit / 8) 2 (bit % 8) 8 (8 - bit % 8) (omega arith) (omega arith)))
 
 -- eight bytes stored one by one
 pub put-room : (s : List ℕ) (at a b c d e f g : ℕ) → at + 8 ≤ length s
