@@ -57,15 +57,7 @@ put-room s at a b c d e f g h =
 pub put-is : (s : List ℕ) (at a b c d e f g h : ℕ)
     → set (set (set (set (set (set (set (set s at a) (at + 1) b) (at + 2) c) (at + 3) d) (at + 4) e) (at + 5) f) (at + 6) g) (at + 7) h
     ≡ sets s at (a ∷ b ∷ c ∷ d ∷ e ∷ f ∷ g ∷ h ∷ [])
-put-is s at a b c d e f g h =
-    let p1 : at + 1 ≡ suc at = omega arith in
-    let p2 : at + 2 ≡ suc (suc at) = omega arith in
-    let p3 : at + 3 ≡ suc (suc (suc at)) = omega arith in
-    let p4 : at + 4 ≡ suc (suc (suc (suc at))) = omega arith in
-    let p5 : at + 5 ≡ suc (suc (suc (suc (suc at)))) = omega arith in
-    let p6 : at + 6 ≡ suc (suc (suc (suc (suc (suc at))))) = omega arith in
-    let p7 : at + 7 ≡ suc (suc (suc (suc (suc (suc (suc at)))))) = omega arith in
-    rw (p1, p2, p3, p4, p5, p6, p7) refl
+put-is s at a b c d e f g h = rw (add-suc at 6, add-suc at 5, add-suc at 4, add-suc at 3, add-suc at 2, add-suc at 1, add-one)
 
 -- eight bits of the codewords under their mask, as bytes
 pub masked-bytes : {v u x : ℕ} (cw row : List ℕ) (bit c : ℕ) → bit + 8 ≤ 8 * length cw → ((k : ℕ) → getD row k 0 < 2)
