@@ -22,11 +22,8 @@ without [] g h p e a b = absurd (omega arith)
 without (k ∷ ks) [] h p e a b = absurd (omega arith)
 without (k ∷ ks) (x ∷ g) [] p e a b = absurd (omega arith)
 without (zero ∷ ks) (x ∷ g) (y ∷ h) zero e a b = absurd (omega arith)
-without (suc zero ∷ ks) (x ∷ g) (y ∷ h) zero e a b = by (eqb x y)
-  where
-    by : (t : Bool) → cond (not t) 1 0 + infoFlips ks g h ≡ cond t 0 1 + (0 + infoFlips ks g h)
-    by true = omega arith
-    by false = omega arith
+without (suc zero ∷ ks) (x ∷ g) (y ∷ h) zero e a b =
+    elim (eqb x y) as (λ t. cond (not t) 1 0 + infoFlips ks g h ≡ cond t 0 1 + (0 + infoFlips ks g h)) [ true ↦ omega arith | false ↦ omega arith ]
 without (suc (suc k) ∷ ks) (x ∷ g) (y ∷ h) zero e a b = absurd (omega arith)
 without (k ∷ ks) (x ∷ g) (y ∷ h) (suc p) e a b =
     omega (arith, without ks g h p e (omega arith) (omega arith))
