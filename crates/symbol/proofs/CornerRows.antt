@@ -157,7 +157,8 @@ module _ (s r : ℕ) (big : 23 ≤ s) (in-row : r < s) where
           finder : edge s r < 7 → c < 7 → 2 + 2 * bits / 2 ^ (7 - c) % 2 ≡ cornerAt s r c
           finder l k =
               let e : 7 - c ≡ suc (6 - c) = omega arith in
-              rw (e, pow-succ' 2 (6 - c), mul-div-mul-left bits (2 ^ (6 - c)) (lit< tt), row l, z) (sym (in-finder s r c l (omega (arith, d)) ∙ simp (lt-ltb c 7 k)))
+              rw (e, pow-succ' 2 (6 - c), mul-div-mul-left bits (2 ^ (6 - c)) (lit< tt), row l, z)
+              (sym (in-finder s r c l (omega (arith, d)) ∙ simp (lt-ltb c 7 k)))
 
       pub right-modules : side ≡ 1 → (c k : ℕ) → c ≡ s - 8 + k → k < 8 → 2 + bits / 2 ^ (7 - k) % 2 ≡ cornerAt s r c
       unfolding finderAt half within
