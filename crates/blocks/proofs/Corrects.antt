@@ -1,7 +1,7 @@
 -- Blocks corrected one after the other: what one block more, or one batch more, does, and what all come to. Assumes nothing.
-use Rattle.general.proofs.Names.{_≡_, refl, sym, ap, ap₂, _∙_, _⊎_, inl, inr, _≢_, Bool, true, false, cond, Option, none, some, List, [], _∷_, _++_}
-use Rattle.general.proofs.Names.{append-assoc, flatMap, zipWith, ℕ, zero, suc, _+_, _-_, _≤_, zero-le, add-zero, add-assoc, arith, eqb, eqb·suc-zero}
-use Rattle.general.proofs.Names.{length, take, drop, length-take, length-drop, take-append-drop, drop-drop, length-take-le}
+use Rattle.general.proofs.Names.{_≡_, refl, sym, ap, _∙_, _⊎_, inl, inr, _≢_, Bool, true, false, cond, Option, none, some, List, [], _∷_, _++_, append-assoc}
+use Rattle.general.proofs.Names.{flatMap, zipWith, ℕ, zero, suc, _+_, _-_, _≤_, zero-le, add-zero, add-assoc, arith, eqb, eqb·suc-zero, length, take, drop}
+use Rattle.general.proofs.Names.{length-take, length-drop, take-append-drop, drop-drop, length-take-le}
 use Rattle.reed_solomon.specs.Block.{nearest, unfit}
 use Rattle.reed_solomon.proofs.Nearest.{some-near}
 use Rattle.corrector.specs.Correct.{BlockOutcome, refusedBlock, settled, correctOf, outcome}
@@ -71,11 +71,8 @@ left-behind [] cs s e = refl
 left-behind (b ∷ bs) cs s e =
     let o = correctOf 0x163 1 (b .parity) (take (size b) s) in
     let t = drop (size b) s in
-    let us = joined (blocksOf (corrected bs t)) in
     let z = first-zero (o .number) (firstRefused (corrected bs t)) e in
-    ap (λ (n : ℕ). o .block ++ cond (eqb n 0) (leftOf (bs ++ cs) t) t) (z .0)
-    ∙ ap (λ (l : List ℕ). o .block ++ l) (left-behind bs cs t (z .1) ∙ ap (λ (l : List ℕ). us ++ leftOf cs l) (drop-drop (totalSize bs) (size b) s))
-    ∙ sym (append-assoc (o .block) us (leftOf cs (drop (size b + totalSize bs) s)))
+    rw (z .0, left-behind bs cs t (z .1), drop-drop, append-assoc)
 
 -- ---- one pass behind another
 
@@ -104,16 +101,11 @@ onward-follow zero c s (Corrected m) t f = λ i. record { answer = more-more c m
 outcome-append : (bs cs : List Shape) (a : ℕ) (s : List ℕ)
     → outcomeFrom (bs ++ cs) a s ≡ follow (outcomeFrom bs a s .answer) (outcomeFrom bs a s .stream) (outcomeFrom cs (a + totalSize bs))
 unfolding outcomeFrom totalSize
-outcome-append [] cs a s =
-    sym (add-corrections-zero (outcomeFrom cs a s)) ∙ ap (λ (k : ℕ). addCorrections 0 (outcomeFrom cs k s)) (sym (add-zero a))
+outcome-append [] cs a s = rw add-zero (sym (add-corrections-zero (outcomeFrom cs a s)))
 outcome-append (b ∷ bs) cs a s =
     let o = outcomeAt b a s in
     let s₁ = leftAt b a s in
-    let q = outcomeFrom bs (a + size b) s₁ in
-    let u = onward (o .number) (o .count) s₁ q in
-    ap (onward (o .number) (o .count) s₁) (outcome-append bs cs (a + size b) s₁)
-    ∙ onward-follow (o .number) (o .count) s₁ (q .answer) (q .stream) (outcomeFrom cs (a + size b + totalSize bs))
-    ∙ ap (λ (k : ℕ). follow (u .answer) (u .stream) (outcomeFrom cs k)) (add-assoc a (size b) (totalSize bs))
+    rw (outcome-append bs cs (a + size b) s₁, ← add-assoc a (size b) (totalSize bs)) (onward-follow (o .number) (o .count) s₁ _ _ _)
 
 -- ---- what a pass comes to
 
@@ -124,11 +116,9 @@ answerFrom (suc k) n = Refused
 onward-answer : (n c k m : ℕ) (pre w u t : List ℕ)
     → onward n c ((pre ++ w) ++ t) (record { answer = answerFrom k m; stream = (pre ++ w) ++ u })
     ≡ record { answer = answerFrom (first n k) (c + m); stream = pre ++ (w ++ cond (eqb n 0) u t) }
-onward-answer zero c zero m pre w u t = λ i. record { answer = Corrected (c + m); stream = append-assoc pre w u i }
-onward-answer zero c (suc k) m pre w u t = λ i. record { answer = Refused; stream = append-assoc pre w u i }
-onward-answer (suc n) c k m pre w u t =
-    (λ i. record { answer = Refused; stream = append-assoc pre w t i })
-    ∙ ap (λ (x : Bool). record { answer = answerFrom (cond x k (suc n)) (c + m); stream = pre ++ (w ++ cond x u t) }) (sym (eqb·suc-zero n))
+onward-answer zero c zero m pre w u t = rw append-assoc
+onward-answer zero c (suc k) m pre w u t = rw append-assoc
+onward-answer (suc n) c k m pre w u t = rw (eqb·suc-zero n, append-assoc)
 
 pub outcome-is : (bs : List Shape) (a : ℕ) (s : List ℕ) → a + totalSize bs ≤ length s
     → outcomeFrom bs a s ≡ record {
@@ -145,13 +135,9 @@ outcome-is (b ∷ bs) a s h =
     block-facts (b .parity) (take (size b) (drop a s)) .0 ∙ length-take-le (size b) (drop a s) (omega (arith, length-drop a s)) in
     let room : a + size b ≤ length s = omega arith in
     let e : drop (a + size b) s₁ ≡ t = spliced-behind a (size b) (o .block) s n room ∙ sym (drop-drop (size b) a s) in
-    let f : s₁ ≡ (take a s ++ o .block) ++ t =
-    opened a (size b) (o .block) s n room ∙ ap (λ (l : List ℕ). (take a s ++ o .block) ++ l) (sym (drop-drop (size b) a s)) in
-    ap₂ (λ (u : List ℕ) (q : StreamOutcome). onward (o .number) (o .count) u q) f
-    (outcome-is bs (a + size b) s₁ (omega (arith, spliced-length a (size b) (o .block) s n room))
-    ∙ ap₂ (λ (p u : List ℕ). record { answer = answerFrom (firstRefused (corrected bs u)) (countOf (corrected bs u)); stream = p ++ leftOf bs u })
-    (spliced-front a (size b) (o .block) s n room) e)
-    ∙ onward-answer (o .number) (o .count) (firstRefused (corrected bs t)) (countOf (corrected bs t)) (take a s) (o .block) (leftOf bs t) t
+    let f : s₁ ≡ (take a s ++ o .block) ++ t = rw drop-drop (opened a (size b) (o .block) s n room) in
+    rw (outcome-is bs (a + size b) s₁ (omega (arith, spliced-length a (size b) (o .block) s n room)), spliced-front a (size b) (o .block) s n room, e, f)
+    (onward-answer (o .number) (o .count) (firstRefused (corrected bs t)) (countOf (corrected bs t)) (take a s) (o .block) (leftOf bs t) t)
 
 answer-from-le : (k n : ℕ) → correctionsOf (answerFrom k n) ≤ n
 unfolding correctionsOf
@@ -160,13 +146,9 @@ answer-from-le (suc k) n = zero-le
 
 -- no more corrections than codewords
 pub corrects-le : {bs : List Shape} {a : ℕ} {s s′ : List ℕ} {r : Blocks} → Corrects bs a s s′ r → a + totalSize bs ≤ length s → correctionsOf r ≤ totalSize bs
-corrects-le {bs} {a} {s} {s′} {r} C h =
-    omega (
-      arith,
-      ap (λ (q : StreamOutcome). correctionsOf (q .answer)) (C .is ∙ outcome-is bs a s h),
-      answer-from-le (firstRefused (corrected bs (drop a s))) (countOf (corrected bs (drop a s))),
-      count-le bs (drop a s),
-    )
+corrects-le {bs} {a} {s} C h =
+    let e = ap (λ (q : StreamOutcome). correctionsOf (q .answer)) (C .is ∙ outcome-is bs a s h) in
+    omega (arith, e, answer-from-le (firstRefused (corrected bs (drop a s))) (countOf (corrected bs (drop a s))), count-le bs (drop a s))
 
 -- ---- a loop over blocks
 
@@ -186,18 +168,13 @@ module _ {bs : List Shape} {a : ℕ} {s : List ℕ} {rest : List Shape} {a′ n 
   blocks-left-room = omega (arith, ap totalSize e, total-append cs ds)
 
   whole : {s″ : List ℕ} {r : Blocks} → Corrects cs a′ s′ s″ r → outcomeFrom bs a s ≡ addCorrections n (follow r s″ (outcomeFrom ds (a′ + totalSize cs)))
-  whole C =
-      P .same
-      ∙ ap (addCorrections n) (ap (λ (l : List Shape). outcomeFrom l a′ s′) e ∙ outcome-append cs ds a′ s′
-      ∙ ap (λ (q : StreamOutcome). follow (q .answer) (q .stream) (outcomeFrom ds (a′ + totalSize cs))) (sym (C .is)))
+  whole C = P .same ∙ rw (e, outcome-append cs ds a′ s′, ← C .is)
 
   pub blocks-left-next : {s″ : List ℕ} {r : Blocks} (m a″ : ℕ) → Corrects cs a′ s′ s″ r → r ≡ Corrected m → length s″ ≡ length s′
       → a″ ≡ a′ + totalSize cs → BlocksLeft bs a s ds a″ (n + m) s″
   unfolding correctionsOf
   blocks-left-next {s″} {r} m a″ C f k l = record {
-    same =
-        whole C ∙ ap₂ (λ (x : Blocks) (y : ℕ). addCorrections n (follow x s″ (outcomeFrom ds y))) f (sym l)
-        ∙ (λ i. record { answer = more-more n m (outcomeFrom ds a″ s″ .answer) i; stream = outcomeFrom ds a″ s″ .stream });
+    same = (rw (f, ← l) at (whole C)) ∙ rw more-more;
     size = k ∙ P .size;
     room = omega (arith, blocks-left-room);
     few = omega (arith, ap correctionsOf f, corrects-le C (omega (arith, blocks-left-room, P .size)));
@@ -209,22 +186,16 @@ module _ {bs : List Shape} {a : ℕ} {s : List ℕ} {rest : List Shape} {a′ n 
 pub blocks-left-end : {bs : List Shape} {a : ℕ} {s : List ℕ} {rest : List Shape} {a′ n : ℕ} {s′ : List ℕ} → BlocksLeft bs a s rest a′ n s′ → rest ≡ []
     → Corrects bs a s s′ (Corrected n)
 unfolding outcomeFrom
-blocks-left-end {a′ = a′} {n = n} {s′ = s′} P e = record {
-  is = sym (P .same ∙ ap (λ (l : List Shape). addCorrections n (outcomeFrom l a′ s′)) e ∙ ap (λ (k : ℕ). record { answer = Corrected k; stream = s′ }) (add-zero n));
-}
+blocks-left-end {n = n} P e = record { is = sym ((rw e at (P .same)) ∙ rw add-zero) }
 
 -- ---- one block, as the corrector leaves it
 
 pub one-corrects : (d p a e : ℕ) (s xs : List ℕ) (c : Correction) (r : Blocks) → e ≡ a + (d + p) → r ≡ answerOf c
     → outcome c xs ≡ correctOf 0x163 1 p (take (e - a) (drop a s)) → Corrects (batch 1 d p) a s (take a s ++ (xs ++ drop (e - a) (drop a s))) r
 unfolding outcomeFrom batch answerOf outcome refusedBlock
-one-corrects d p a e s xs c r h f g = record {
-  is =
-      ap₂ (λ (x : Blocks) (y : List ℕ). record { answer = x; stream = y }) f (part-back a (d + p) e s xs h)
-      ∙ go c
-      ∙ ap after
-      (g ∙ (let n : e - a ≡ d + p = omega arith in ap (λ (k : ℕ). correctOf 0x163 1 p (take k (drop a s))) n));
-}
+one-corrects d p a e s xs c r h f g =
+    let n : e - a ≡ d + p = omega arith in
+    record { is = rw (f, part-back a (d + p) e s xs h) (go c ∙ ap after (rw n at g)) }
   where
     after : BlockOutcome → StreamOutcome
     after o = let s₁ = spliced a (d + p) (o .block) s in onward (o .number) (o .count) s₁ (record { answer = Corrected 0; stream = s₁ })

@@ -40,11 +40,9 @@ pub lost-refused : (bs : List Shape) (ws : List (List ℕ)) → Sound bs → Sha
 unfolding outcomes firstRefused settled refusedBlock zipWith
 lost-refused [] ws S h (j, l, e) = absurd (omega arith)
 lost-refused (b ∷ bs) [] S h x = absurd h
-lost-refused (b ∷ bs) (w ∷ ws) (more i p s S) h (zero, l, e) =
-    ap (λ (o : BlockOutcome). first (o .number) (firstRefused (outcomes bs ws))) (block-settled b w i p s (h .0) ∙ ap (settled w) e)
+lost-refused (b ∷ bs) (w ∷ ws) (more i p s S) h (zero, l, e) = rw (block-settled b w i p s (h .0), e)
 lost-refused (b ∷ bs) (w ∷ ws) (more i p s S) h (suc j, l, e) =
-    ap₂ (λ (o : BlockOutcome) (r : ℕ). first (o .number) r) (block-settled b w i p s (h .0)) (lost-refused bs ws S (h .1) (j, omega arith, e))
-    ∙ six w (nearest 0x163 1 (b .parity) w)
+    rw (block-settled b w i p s (h .0), lost-refused bs ws S (h .1) (j, omega arith, e)) (six w (nearest 0x163 1 (b .parity) w))
 
 pub each-settled : (bs : List Shape) (ws vs : List (List ℕ)) → Sound bs → Shaped bs ws → EachNearest bs ws vs
     → (firstRefused (outcomes bs ws) ≡ 0) × (blocksOf (outcomes bs ws) ≡ vs) × (countOf (outcomes bs ws) ≡ differences ws vs)

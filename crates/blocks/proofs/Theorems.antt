@@ -1,7 +1,7 @@
 -- What a customer may quote of blocks that are corrected and made one after the other. Each holds for any blocks that hold the rule of a
 -- row: data, parity, and at most 255 codewords. Assumes nothing.
-use Rattle.general.proofs.Names.{_≡_, sym, ap, ap₂, subst, _∙_, _⊎_, inl, inr, _≢_, none, some, Bool, cond, List, [], _∷_, _++_, append-nil, ℕ, _/_, _≤_}
-use Rattle.general.proofs.Names.{_<_, arith, T, length, take, drop, take-append-drop, ne-eqb}
+use Rattle.general.proofs.Names.{_≡_, sym, ap, subst, _∙_, _⊎_, inl, inr, _≢_, none, some, List, [], _∷_, _++_, append-nil, ℕ, _/_, _≤_, _<_, arith, T, length}
+use Rattle.general.proofs.Names.{take, drop, take-append-drop, ne-eqb}
 use Rattle.reed_solomon.specs.Block.{distance, nearest}
 use Rattle.reed_solomon.proofs.Search.{Bytes}
 use Rattle.corrector.specs.Correct.{correctOf}
@@ -33,13 +33,10 @@ pub left-refused : (bs cs : List Shape) (b : Shape) (s : List ℕ) → firstRefu
     → leftOf (bs ++ (b ∷ cs)) s ≡ joined (blocksOf (corrected bs s)) ++ drop (totalSize bs) s
 unfolding leftOf
 left-refused bs cs b s e d =
-    let us = joined (blocksOf (corrected bs s)) in
     let t = drop (totalSize bs) s in
     let w = take (size b) t in
     left-behind bs (b ∷ cs) s e
-    ∙ ap₂ (λ (l : List ℕ) (x : Bool). us ++ (l ++ cond x (leftOf cs (drop (size b) t)) (drop (size b) t)))
-    (block-facts (b .parity) w .2 d) (ne-eqb (correctOf 0x163 1 (b .parity) w .number) 0 d)
-    ∙ ap (λ (l : List ℕ). us ++ l) (take-append-drop (size b) t)
+    ∙ rw (ne-eqb (correctOf 0x163 1 (b .parity) w .number) 0 d, block-facts (b .parity) w .2 d, take-append-drop (size b) t)
 
 module _ (bs : List Shape) (sound : Sound bs) where
   -- ---- any stream
@@ -79,10 +76,7 @@ module _ (bs : List Shape) (sound : Sound bs) where
     zero-then-each e = elim (either bs (cut bs s) shaped) [
       | inl x ↦ absurd (omega (arith, lost-refused bs (cut bs s) sound shaped x))
       | inr x ↦ (let q = each-settled bs (cut bs s) (x .0) sound shaped (x .1) in
-          subst
-          (λ (vs : List (List ℕ)). ((j : ℕ) → j < length bs → nearest 0x163 1 (parityAt bs j) (blockAt (cut bs s) j) ≡ some (blockAt vs j))
-          × (countOf (corrected bs s) ≡ differences (cut bs s) vs))
-          (sym (q .1)) (x .1 .are, q .2))
+          rw (q .1) (x .1 .are, q .2))
     ]
 
     -- The blocks as they are left, joined, are a stream with these blocks.

@@ -1,8 +1,6 @@
 -- Something of each block of one list put in its place in another: data gathered, and blocks written. Assumes nothing.
-use Rattle.general.proofs.Names.{_≡_, refl, sym, ap, ap₂, subst, _∙_, List, [], _∷_, _++_, flatMap, zipWith, ℕ, _+_, _-_, _*_, _≤_, _<_, add-zero}
-use Rattle.general.proofs.Names.{add-assoc, arith, length, take, drop, length-drop, take-append-drop, drop-drop, take-at, drop-at, take-take}
-use Rattle.general.proofs.Names.{length-take-le}
-use Rattle.reed_solomon.specs.Block.{parityOf}
+use Rattle.general.proofs.Names.{_≡_, refl, sym, ap, ap₂, _∙_, List, [], _∷_, _++_, flatMap, zipWith, ℕ, _+_, _-_, _*_, _≤_, _<_, add-zero, add-assoc, arith}
+use Rattle.general.proofs.Names.{length, take, drop, length-drop, take-append-drop, drop-drop, take-at, drop-at, take-take, length-take-le}
 use Rattle.parity.specs.Encode.{writtenOf}
 use Rattle.remainder.specs.Words.{Prepared}
 use Rattle.reed_solomon.proofs.Search.{Bytes}
@@ -15,7 +13,6 @@ use Rattle.blocks.proofs.Splice.{part-back, spliced-behind, spliced-mor
 use Rattle.blocks.proofs.Rule.{behind-next, batch-next, sum-append, sum-batch, sum-size, sum-info}
 use Rattle.blocks.proofs.RefusedStreams.{Coded}
 use Rattle.blocks.proofs.Written.{encoded-coded}
-use Rattle.parity.specs.Inner.{withParity}
 
 -- ---- some blocks behind others
 
@@ -24,10 +21,7 @@ transferred-append : (w : Transfer) (bs cs : List Shape) (a f : ℕ) (t s : List
 unfolding transferred sum
 transferred-append w [] cs a f t s = ap₂ (λ (x y : ℕ). transferred w cs x y t s) (sym (add-zero a)) (sym (add-zero f))
 transferred-append w (b ∷ bs) cs a f t s =
-    let s₁ = spliced a (w .fills b) (w .makes b (drop f t)) s in
-    transferred-append w bs cs (a + w .fills b) (f + w .takes b) t s₁
-    ∙ ap₂ (λ (x y : ℕ). transferred w cs x y t (transferred w bs (a + w .fills b) (f + w .takes b) t s₁)) (add-assoc a (w .fills b) (sum (w .fills) bs))
-    (add-assoc f (w .takes b) (sum (w .takes) bs))
+    simp add-assoc at (transferred-append w bs cs (a + w .fills b) (f + w .takes b) t (spliced a (w .fills b) (w .makes b (drop f t)) s))
 
 -- ---- a loop over blocks
 
@@ -55,9 +49,7 @@ module _ {w : Transfer} {bs : List Shape} {a f : ℕ} {t s : List ℕ} {rest : L
   pub transfer-next : (a″ f″ : ℕ) {s″ : List ℕ} → s″ ≡ transferred w cs a′ f′ t s′ → length s″ ≡ length s′ → a″ ≡ a′ + sum (w .fills) cs
       → f″ ≡ f′ + sum (w .takes) cs → TransferLeft w bs a f t s ds a″ f″ s″
   transfer-next a″ f″ {s″} g k x y = record {
-    same =
-        P .same ∙ ap (λ (l : List Shape). transferred w l a′ f′ t s′) e ∙ transferred-append w cs ds a′ f′ t s′
-        ∙ ap (transferred w ds (a′ + sum (w .fills) cs) (f′ + sum (w .takes) cs) t) (sym g) ∙ ap₂ (λ (m n : ℕ). transferred w ds m n t s″) (sym x) (sym y);
+    same = P .same ∙ rw (e, g, x, y) (transferred-append w cs ds a′ f′ t s′);
     size = k ∙ P .size;
     place = omega (arith, P .place, into);
     room = record { into = omega (arith, P .room .into, into); out = omega (arith, P .room .out, out) };
@@ -125,10 +117,8 @@ transferred-is w (b ∷ bs) a f t s F h =
     let n = w .fills b in
     let xs = w .makes b (drop f t) in
     let room : a + n ≤ length s = omega arith in
-    transferred-is w bs (a + n) (f + w .takes b) t (spliced a n xs s) (subst (Fills w bs) (drop-drop (w .takes b) f t) (F .1))
-    (omega (arith, spliced-length a n xs s (F .0) room))
-    ∙ spliced-more a n xs s (F .0) room (sum (w .fills) bs) (made w bs (drop (f + w .takes b) t))
-    ∙ ap (λ (l : List ℕ). spliced a (n + sum (w .fills) bs) (xs ++ made w bs l) s) (sym (drop-drop (w .takes b) f t))
+    rw drop-drop (transferred-is w bs (a + n) (f + w .takes b) t (spliced a n xs s) (rw drop-drop at (F .1))
+    (omega (arith, spliced-length a n xs s (F .0) room)) ∙ spliced-more a n xs s (F .0) room (sum (w .fills) bs) (made w bs (drop (f + w .takes b) t)))
 
 gathered-fills : (bs : List Shape) (t : List ℕ) → totalSize bs ≤ length t → Fills gathering bs t
 unfolding totalSize
@@ -205,25 +195,17 @@ module _ (d p a e f : ℕ) (t s s₁ ys : List ℕ) (end : e ≡ a + (d + p)) (i
   front : take d (take (e - a) (drop a s₁)) ≡ ds
   unfolding spliced
   front =
-      take-take d (e - a) (drop a s₁) (omega arith)
-      ∙ ap (λ (l : List ℕ). take d (drop a l)) put
-      ∙ ap (take d) (drop-at (take a s) (ds ++ drop (a + d) s) a (length-take-le a s (omega arith)))
-      ∙ take-at ds (drop (a + d) s) d data-size
+      rw (take-take d (e - a) (drop a s₁) (omega arith), put, drop-at (take a s) _ a (length-take-le a s (omega arith)), take-at ds _ d data-size)
 
   is : ys ≡ writing .makes (record { info = d; parity = p }) (drop f t)
   unfolding writtenOf
   is =
       let n : length (take (e - a) (drop a s₁)) - d ≡ p = omega (arith, lent) in
       let m : length (take (e - a) (drop a s₁)) - p ≡ d = omega (arith, lent) in
-      made ∙ ap (λ (k : ℕ). writtenOf 0x163 1 k (take (e - a) (drop a s₁))) n
-      ∙ ap (λ (l : List ℕ). withParity l (parityOf 0x163 1 p l)) (ap (λ (k : ℕ). take k (take (e - a) (drop a s₁))) m ∙ front)
+      made ∙ rw (n, m, front)
 
   pub one-written : take a s₁ ++ (ys ++ drop (e - a) (drop a s₁)) ≡ transferred writing (batch 1 d p) a f t s
   unfolding transferred batch spliced
   one-written =
-      part-back a (d + p) e s₁ ys end
-      ∙ (λ i. take a (put i) ++ (is i ++ drop (a + (d + p)) (put i)))
-      ∙ ap₂ (λ (x z : List ℕ). x ++ (writing .makes (record { info = d; parity = p }) (drop f t) ++ z))
-      (take-at (take a s) (ds ++ drop (a + d) s) a (length-take-le a s (omega arith)))
-      (ap (λ (k : ℕ). drop k (spliced a d ds s)) (sym (add-assoc a d p)) ∙ sym (drop-drop p (a + d) (spliced a d ds s))
-      ∙ ap (drop p) (spliced-behind a d ds s data-size here) ∙ drop-drop p (a + d) s ∙ ap (λ (k : ℕ). drop k s) (add-assoc a d p))
+      rw (part-back a (d + p) e s₁ ys end, is, put, take-at (take a s) (ds ++ drop (a + d) s) a (length-take-le a s (omega arith)), ← add-assoc a d p)
+      (rw (← drop-drop p (a + d) (spliced a d ds s), spliced-behind a d ds s data-size here, drop-drop))

@@ -1,8 +1,8 @@
 -- Interleave: every stream place is reached, so that a stream that was interleaved is given back.
-use Rattle.general.proofs.Names.{_≡_, refl, ap, ap₂, _∙_, sym, subst, Bool, true, false, _≢_, _⊎_, inl, inr, List, [], _∷_, _++_, map, append-assoc}
-use Rattle.general.proofs.Names.{append-nil, ℕ, zero, suc, _+_, _-_, _*_, _/_, _%_, _<_, _≤_, arith, ℕ-discrete, add-one, length, getD, set, take, drop}
-use Rattle.general.proofs.Names.{replicate, length-set, length-replicate, length-map, length-append, take-append-drop, getD-set-same, getD-set-other}
-use Rattle.general.proofs.Names.{ext-getD, drop-cons, take-set-lt, drop-set-lt, take-suc-set, length-take-le, getD-take, take-all}
+use Rattle.general.proofs.Names.{_≡_, refl, ap, ap₂, _∙_, sym, subst, Bool, true, false, _≢_, _⊎_, inl, inr, List, [], _∷_, _++_, map, append-assoc, append-nil}
+use Rattle.general.proofs.Names.{ℕ, zero, suc, _+_, _-_, _*_, _/_, _%_, _<_, _≤_, arith, ℕ-discrete, add-one, add-zero, zero-add, add-suc, suc-add, length}
+use Rattle.general.proofs.Names.{getD, set, take, drop, replicate, length-set, length-replicate, length-map, length-append, take-append-drop, getD-set-same}
+use Rattle.general.proofs.Names.{getD-set-other, ext-getD, drop-cons, take-set-lt, drop-set-lt, take-suc-set, length-take-le, getD-take, take-all}
 use Rattle.bits.specs.Bits.{storeAt}
 use Rattle.codewords.specs.Codewords.{order, toStream, fromStream}
 use Rattle.codewords.specs.Inner.{into, outOf, moved, goneOn, Moving, Moves, steps, starts}
@@ -28,7 +28,7 @@ module _ (s : List ℕ) where
   unfolding storeAt
   kept [] acc p e h g = g
   kept (q ∷ ps) acc p e h g = kept ps (set acc q (at q)) p (length-set acc q (at q) ∙ e) h (elim (ℕ-discrete p q) [
-    | yes z ↦ ap (λ (x : ℕ). getD (set acc q (at q)) x 0) z ∙ getD-set-same acc q (at q) 0 (omega arith) ∙ ap at (sym z)
+    | yes z ↦ rw z (getD-set-same acc q (at q) 0 (omega arith))
     | no z ↦ getD-set-other acc q p (at q) 0 z ∙ g
   ])
 
@@ -36,8 +36,7 @@ module _ (s : List ℕ) where
   unfolding storeAt
   reached [] acc p e h a = absurd a
   reached (q ∷ ps) acc p e h (inl z) =
-      kept ps (set acc q (at q)) p (length-set acc q (at q) ∙ e) h
-      (ap (λ (x : ℕ). getD (set acc q (at q)) x 0) z ∙ getD-set-same acc q (at q) 0 (omega arith) ∙ ap at (sym z))
+      kept ps (set acc q (at q)) p (length-set acc q (at q) ∙ e) h (rw z (getD-set-same acc q (at q) 0 (omega arith)))
   reached (q ∷ ps) acc p e h (inr a) = reached ps (set acc q (at q)) p (length-set acc q (at q) ∙ e) h a
 
 among-left : (p : ℕ) (ps qs : List ℕ) → Among p ps → Among p (ps ++ qs)
@@ -53,44 +52,37 @@ on-step : (p k q : ℕ) → q < k → Among (p + 13 * q) (steps p k)
 unfolding steps
 on-step p zero q h = absurd (omega arith)
 on-step p (suc k) zero h = inl (omega arith)
-on-step p (suc k) (suc q) h =
-    inr (let e : p + 13 + 13 * q ≡ p + 13 * suc q = omega arith in subst (λ (x : ℕ). Among x (steps (p + 13) k)) e (on-step (p + 13) k q (omega arith)))
+on-step p (suc k) (suc q) h = let e : p + 13 + 13 * q ≡ p + 13 * suc q = omega arith in inr (rw e at (on-step (p + 13) k q (omega arith)))
 
 on-start : (n p r j : ℕ) → p < n → r ≤ p % 13 → p % 13 < r + j → r + j ≤ 13 → Among p (starts n r j)
 unfolding starts
 on-start n p r zero h lo hi c = absurd (omega arith)
 on-start n p r (suc j) h lo hi c = elim (ℕ-discrete (p % 13) r) [
-  | yes e ↦ among-left p (steps r ((n + 12 - r) / 13)) (starts n (suc r) j)
-      (let z : r + 13 * (p / 13) ≡ p = omega arith in subst (λ (x : ℕ). Among x (steps r ((n + 12 - r) / 13))) z
-      (on-step r ((n + 12 - r) / 13) (p / 13) (omega arith)))
+  | yes e ↦ (let z : r + 13 * (p / 13) ≡ p = omega arith in among-left p (steps r ((n + 12 - r) / 13)) (starts n (suc r) j)
+      (rw z at (on-step r ((n + 12 - r) / 13) (p / 13) (omega arith))))
   | no d ↦ among-right p (steps r ((n + 12 - r) / 13)) (starts n (suc r) j) (on-start n p (suc r) j h (omega arith) (omega arith) (omega arith))
 ]
 
 -- the code's way through the places
 steps-last : (p n : ℕ) → steps p (suc n) ≡ steps p n ++ ((p + 13 * n) ∷ [])
 unfolding steps
-steps-last p zero = ap (λ (x : ℕ). x ∷ []) (let e : p ≡ p + 13 * 0 = omega arith in e)
-steps-last p (suc n) = ap (λ (ps : List ℕ). p ∷ ps) (steps-last (p + 13) n
-    ∙ (let e : p + 13 + 13 * n ≡ p + 13 * suc n = omega arith in ap (λ (x : ℕ). steps (p + 13) n ++ (x ∷ [])) e))
+steps-last p zero = simp add-zero
+steps-last p (suc n) = let e : p + 13 + 13 * n ≡ p + 13 * suc n = omega arith in rw (steps-last (p + 13) n, e)
 
 starts-last : (n s k : ℕ) → starts n s (suc k) ≡ starts n s k ++ steps (s + k) ((n + 12 - (s + k)) / 13)
 unfolding starts
-starts-last n s zero =
-    append-nil (steps s ((n + 12 - s) / 13)) ∙ (let e : s ≡ s + 0 = omega arith in ap (λ (x : ℕ). steps x ((n + 12 - x) / 13)) e)
-starts-last n s (suc k) =
-    ap (_++_ (steps s ((n + 12 - s) / 13))) (starts-last n (suc s) k
-    ∙ (let e : suc s + k ≡ s + suc k = omega arith in ap (λ (x : ℕ). starts n (suc s) k ++ steps x ((n + 12 - x) / 13)) e))
-    ∙ sym (append-assoc (steps s ((n + 12 - s) / 13)) (starts n (suc s) k) (steps (s + suc k) ((n + 12 - (s + suc k)) / 13)))
+starts-last n s zero = rw add-zero (append-nil (steps s ((n + 12 - s) / 13)))
+starts-last n s (suc k) = simp (starts-last n (suc s) k, suc-add, add-suc, append-assoc)
 
 steps-are : (p n : ℕ) → each n (λ i. (p + 13 * i) ∷ []) ≡ steps p n
 unfolding each steps
 steps-are p zero = refl
-steps-are p (suc n) = ap (λ (ps : List ℕ). ps ++ ((p + 13 * n) ∷ [])) (steps-are p n) ∙ sym (steps-last p n)
+steps-are p (suc n) = rw (steps-are p n, steps-last p n)
 
 starts-are : (n k : ℕ) → each k (λ s. each ((n + 12 - s) / 13) (λ i. (s + 13 * i) ∷ [])) ≡ starts n 0 k
 unfolding each starts
 starts-are n zero = refl
-starts-are n (suc k) = ap₂ _++_ (starts-are n k) (steps-are k ((n + 12 - k) / 13)) ∙ sym (starts-last n 0 k ∙ (let e : 0 + k ≡ k = omega arith in ap (λ (x : ℕ). starts n 0 k ++ steps x ((n + 12 - x) / 13)) e))
+starts-are n (suc k) = rw (starts-are n k, steps-are k ((n + 12 - k) / 13), starts-last n 0 k, zero-add)
 
 order-is : (n : ℕ) → order n ≡ starts n 0 13
 unfolding order
@@ -109,9 +101,7 @@ length-starts : (n r j : ℕ) → r + j ≡ 13 → length (starts n r j) ≡ j *
 unfolding starts
 length-starts n r zero e = omega arith
 length-starts n r (suc j) e =
-    length-append (steps r ((n + 12 - r) / 13)) (starts n (suc r) j)
-    ∙ ap₂ _+_ (length-steps r ((n + 12 - r) / 13)) (length-starts n (suc r) j (omega arith))
-    ∙ omega arith
+    simp (length-append, length-steps, length-starts n (suc r) j (omega arith)) (omega arith)
 
 pub length-order : (n : ℕ) → length (order n) ≡ n
 length-order n = ap length (order-is n) ∙ length-starts n 0 13 (omega arith) ∙ omega arith
@@ -152,7 +142,7 @@ agree (q ∷ ps) (c ∷ cs) a b p l e h o =
     ])
   where
     at : (x : List ℕ) → p < length x → p ≡ q → getD (set x q c) p 0 ≡ c
-    at x l z = ap (λ (i : ℕ). getD (set x q c) i 0) z ∙ getD-set-same x q c 0 (omega arith)
+    at x l z = rw z (getD-set-same x q c 0 (omega arith))
 
     other : p ≢ q → (getD a p 0 ≡ getD b p 0) ⊎ Among p (q ∷ ps) → (getD (set a q c) p 0 ≡ getD (set b q c) p 0) ⊎ Among p ps
     other z (inl y) = inl (getD-set-other a q p c 0 z ∙ y ∙ sym (getD-set-other b q p c 0 z))
@@ -171,9 +161,7 @@ stream-from cs a e =
 
 pub starts-open : (n s : ℕ) → s < 13 → starts n s (13 - s) ≡ steps s ((n + 12 - s) / 13) ++ starts n (s + 1) (13 - (s + 1))
 unfolding starts
-starts-open n s h =
-    let u : 13 - s ≡ suc (13 - (s + 1)) = omega arith in
-    ap (starts n s) u ∙ ap (λ (x : ℕ). steps s ((n + 12 - s) / 13) ++ starts n x (13 - (s + 1))) (sym (add-one s))
+starts-open n s h = let u : 13 - s ≡ suc (13 - (s + 1)) = omega arith in rw (u, add-one)
 
 pub steps-open : (n p : ℕ) → p < n → steps p ((n + 12 - p) / 13) ≡ p ∷ steps (p + 13) ((n + 12 - (p + 13)) / 13)
 unfolding steps
@@ -187,12 +175,8 @@ steps-done n p h = let u : (n + 12 - p) / 13 ≡ 0 = omega arith in ap (steps p)
 moved-one : (d : Bool) (cs out qs : List ℕ) (p i : ℕ) → i < length cs → length out ≡ length cs
     → goneOn d cs (set out (into d p i) (getD cs (outOf d p i) 0)) qs (i + 1) ≡ goneOn d cs out (p ∷ qs) i
 unfolding storeAt
-moved-one true cs out qs p i h e =
-    ap (λ (x : ℕ). storeAt qs (drop x cs) (set out p (getD cs i 0))) (add-one i) ∙ sym (ap (λ (x : List ℕ). storeAt (p ∷ qs) x out) (drop-cons cs i 0 h))
-moved-one false cs out qs p i h e =
-    ap (λ (x : ℕ). take x (set out i (getD cs p 0)) ++ map (at cs) qs) (add-one i)
-    ∙ ap (λ (x : List ℕ). x ++ map (at cs) qs) (take-suc-set out i (getD cs p 0) (omega arith))
-    ∙ append-assoc (take i out) (getD cs p 0 ∷ []) (map (at cs) qs)
+moved-one true cs out qs p i h e = rw (add-one, drop-cons cs i 0 h)
+moved-one false cs out qs p i h e = rw (add-one, take-suc-set out i (getD cs p 0) (omega arith), append-assoc)
 
 moved-all : (d : Bool) (cs out : List ℕ) (i : ℕ) → length out ≤ i → goneOn d cs out [] i ≡ out
 unfolding storeAt
@@ -221,7 +205,7 @@ module _ (d : Bool) (cs : List ℕ) where
         → (i < length cs) × Moving d cs (set out (into d p i) (getD cs (outOf d p i) 0)) (from (length cs) (p + 13) s) (i + 1)
     move-more p s h U =
         let qs = from (length cs) (p + 13) s in
-        let U′ : Moving d cs out (p ∷ qs) i = subst (λ (ps : List ℕ). Moving d cs out (ps ++ later (length cs) s) i) (steps-open (length cs) p h) U in
+        let U′ : Moving d cs out (p ∷ qs) i = rw (steps-open (length cs) p h) at U in
         let l : i < length cs = omega arith in
         (l, record { size = length-set out _ _ ∙ U .size; rest = omega arith; left = moved-one d cs out qs p i l (U .size) ∙ U′ .left })
 
@@ -229,8 +213,7 @@ module _ (d : Bool) (cs : List ℕ) where
     unfolding starts
     move-done s h U =
         let z : 13 - s ≡ 0 = omega arith in
-        let e : starts (length cs) s (13 - s) ≡ [] = ap (starts (length cs) s) z in
-        sym (ap (λ (ps : List ℕ). goneOn d cs out ps i) e ∙ moved-all d cs out i (omega (arith, ap length e))) ∙ U .left
+        sym (moved-all d cs out i (omega (arith, rw z at (U .rest)))) ∙ (rw z at (U .left))
 
 -- Within one start, places p, p + 13, .. are left.
 pub record MoveStart (d : Bool) (total : ℕ) (cs out₀ out : List ℕ) (start n p : ℕ) : Type 0 where
@@ -253,7 +236,7 @@ module _ {d : Bool} {total : ℕ} {cs out₀ : List ℕ} {start : ℕ} where
     whole = t .whole;
     kept = refl;
     beyond = refl;
-    moving = subst (λ (ps : List ℕ). Moving d (take total cs) (take total out₀) ps i) (starts-open (length (take total cs)) start h) (t .moving);
+    moving = rw (starts-open (length (take total cs)) start h) at (t .moving);
   }
 
   module _ {out : List ℕ} {n p : ℕ} (s : MoveStart d total cs out₀ out start n p) where
@@ -272,25 +255,22 @@ module _ {d : Bool} {total : ℕ} {cs out₀ : List ℕ} {start : ℕ} where
     move-turn h =
         let b = both-below d h (move-place h) in
         let x = getD cs (outOf d p n) 0 in
-        let w : set (take total out) (into d p n) (getD (take total cs) (outOf d p n) 0) ≡ take total (set out (into d p n) (getD cs (outOf d p n) 0)) =
-        ap (set (take total out) (into d p n)) (getD-take total cs (outOf d p n) 0 (b .1)) ∙ sym (take-set-lt total out (into d p n) x (b .0)) in
         record {
           few = s .few;
           room = omega (arith, length-set out (into d p n) x);
           whole = s .whole;
           kept = length-set out (into d p n) x ∙ s .kept;
           beyond = drop-set-lt total out (into d p n) x (b .0) ∙ s .beyond;
-          moving = subst (λ (o : List ℕ). Moving d (take total cs) o (from (length (take total cs)) (p + 13) start) (n + 1)) w (turned h .1);
+          moving = rw (take-set-lt total out (into d p n) x (b .0)) (rw (getD-take total cs (outOf d p n) 0 (b .1)) at (turned h .1));
         }
 
     pub move-leave : total ≤ p → Moves d total cs out (start + 1) n
     move-leave h =
-        let e = steps-done (length (take total cs)) p (omega (arith, lent)) in
         record {
           few = s .few;
           room = s .room;
           whole = s .whole;
-          moving = subst (λ (ps : List ℕ). Moving d (take total cs) (take total out) (ps ++ later (length (take total cs)) start) n) e (s .moving);
+          moving = rw (steps-done (length (take total cs)) p (omega (arith, lent))) at (s .moving);
         }
 
 pub move-first : (d : Bool) (total : ℕ) (cs out : List ℕ) → total ≤ length out → total ≤ length cs → total ≤ 65535 → Moves d total cs out 0 0

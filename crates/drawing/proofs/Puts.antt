@@ -1,8 +1,8 @@
 -- Bits into data modules.
-use Rattle.general.proofs.Names.{_≡_, refl, ap, ap₂, _∙_, sym, subst, _≢_, List, [], _∷_, _++_, append-assoc, append-nil, ℕ, zero, suc, _+_, _-_, _*_, _/_}
-use Rattle.general.proofs.Names.{_%_, _^_, _<_, _≤_, add-one, arith, decLt, ℕ-discrete, T, eqb, eqb→eq, length, getD, take, drop, set, length-set}
-use Rattle.general.proofs.Names.{length-append, drop-of-length-le, sets, sets-eq, length-sets, take-at, drop-at, drop-cons, drop-nil, take-suc, take-all}
-use Rattle.general.proofs.Names.{getD-take, getD-drop, length-take-le, drop-append-add, bitXor, bitAnd, xor-lt, and-le-r}
+use Rattle.general.proofs.Names.{_≡_, refl, ap, _∙_, sym, _≢_, List, [], _∷_, _++_, append-assoc, append-nil, ℕ, zero, suc, _+_, _-_, _*_, _/_, _%_, _^_, _<_}
+use Rattle.general.proofs.Names.{_≤_, add-one, add-zero, zero-add, add-suc, suc-add, arith, decLt, ℕ-discrete, T, eqb, eqb→eq, length, getD, take, drop, set}
+use Rattle.general.proofs.Names.{length-set, length-append, drop-of-length-le, sets, sets-eq, length-sets, take-at, drop-at, drop-cons, drop-nil, take-suc}
+use Rattle.general.proofs.Names.{take-all, getD-take, getD-drop, length-take-le, drop-append-add, bitXor, bitAnd, xor-lt, and-le-r}
 use Rattle.general.proofs.Finite.{upTo, every}
 use Rattle.bits.specs.Bits.{lowBits, bitsOf, value}
 use Rattle.bits.proofs.Reading.{length-bits, bit-lt, length-left}
@@ -12,9 +12,9 @@ use Rattle.symbol.specs.Layout.{dataModules}
 use Rattle.symbol.proofs.DataModules.{module-hit, module-miss}
 use Rattle.codewords.specs.Codewords.{placed}
 use Rattle.placement.specs.Walk.{eightOf, run, behind, bytesOf, Skipped}
-use Rattle.drawing.specs.Puts.{patternOf, getD₀, PatternsFrom, Placing, PutBit, PutEight, RowBuffers, Puts, PutsAll}
+use Rattle.drawing.specs.Puts.{patternOf, PatternsFrom, Placing, PutBit, PutEight, RowBuffers, Puts, PutsAll}
 use Rattle.drawing.specs.declared.Cursor.{Cursor}
-use Rattle.placement.proofs.Walk.{length-run, run-ext, run-front}
+use Rattle.placement.proofs.Walk.{length-run, run-front}
 use Rattle.placement.proofs.Eights.{bytes-eight, eight-zero, xor-eight}
 
 -- Eight bits set apart: a test that antt computes.
@@ -38,14 +38,11 @@ spread-lt x = omega (arith, and-le-r x 16843009)
 pub window-two : (s : List ℕ) (bit a b : ℕ) → bit / 8 + 1 < length s → (a < 256) × (b < 256) → a ≡ getD s (bit / 8) 0 → b ≡ getD s (bit / 8 + 1) 0
     → (a * 256 + b) / 2 ^ (8 - bit % 8) % 256 ≡ value 0 (take 8 (drop bit (bitsOf s)))
 window-two s bit a b h l e f =
-    let z : bit / 8 ≡ bit / 8 + 0 = omega arith in
+    let one = window-more s (bit / 8) 0 a (omega arith) (l .0) (rw add-zero e) in
     let n : 0 * 256 + a ≡ a = omega arith in
-    let one = sym n ∙ ap (λ (x : ℕ). x * 256 + a) (window-none s (bit / 8))
-    ∙ window-more s (bit / 8) 0 a (omega arith) (l .0) (e ∙ ap (λ (i : ℕ). getD s i 0) z) in
-    let two = ap (λ (x : ℕ). x * 256 + b) one ∙ window-more s (bit / 8) 1 b (omega arith) (l .1) f in
     let o : 8 * (bit / 8) + bit % 8 ≡ bit = omega arith in
-    ap (λ (x : ℕ). x / 2 ^ (8 - bit % 8) % 256) two ∙ window-read s (bit / 8) 2 (bit % 8) 8 (8 - bit % 8) (omega arith) (omega arith)
-    ∙ ap (λ (i : ℕ). value 0 (take 8 (drop i (bitsOf s)))) o
+    rw (rw (← window-none s (bit / 8), n) at one, window-more s (bit / 8) 1 b (omega arith) (l .1) f)
+    (rw o at (window-read s (bit / 8) 2 (bit % 8) 8 (8 - bit % 8) (omega arith) (omega arith)))
 
 -- eight bytes stored one by one
 pub put-room : (s : List ℕ) (at a b c d e f g : ℕ) → at + 8 ≤ length s
@@ -55,27 +52,12 @@ pub put-room : (s : List ℕ) (at a b c d e f g : ℕ) → at + 8 ≤ length s
     × (at + 6 < length (set (set (set (set (set (set s at a) (at + 1) b) (at + 2) c) (at + 3) d) (at + 4) e) (at + 5) f))
     × (at + 7 < length (set (set (set (set (set (set (set s at a) (at + 1) b) (at + 2) c) (at + 3) d) (at + 4) e) (at + 5) f) (at + 6) g))
 put-room s at a b c d e f g h =
-    let l1 = length-set s at a in
-    let l2 = length-set (set s at a) (at + 1) b in
-    let l3 = length-set (set (set s at a) (at + 1) b) (at + 2) c in
-    let l4 = length-set (set (set (set s at a) (at + 1) b) (at + 2) c) (at + 3) d in
-    let l5 = length-set (set (set (set (set s at a) (at + 1) b) (at + 2) c) (at + 3) d) (at + 4) e in
-    let l6 = length-set (set (set (set (set (set s at a) (at + 1) b) (at + 2) c) (at + 3) d) (at + 4) e) (at + 5) f in
-    let l7 = length-set (set (set (set (set (set (set s at a) (at + 1) b) (at + 2) c) (at + 3) d) (at + 4) e) (at + 5) f) (at + 6) g in
-    (omega arith, omega arith, omega arith, omega arith, omega arith, omega arith, omega arith)
+    simp length-set (omega arith, omega arith, omega arith, omega arith, omega arith, omega arith, omega arith)
 
 pub put-is : (s : List ℕ) (at a b c d e f g h : ℕ)
     → set (set (set (set (set (set (set (set s at a) (at + 1) b) (at + 2) c) (at + 3) d) (at + 4) e) (at + 5) f) (at + 6) g) (at + 7) h
     ≡ sets s at (a ∷ b ∷ c ∷ d ∷ e ∷ f ∷ g ∷ h ∷ [])
-put-is s at a b c d e f g h =
-    let p1 : at + 1 ≡ suc at = omega arith in
-    let p2 : at + 2 ≡ suc (suc at) = omega arith in
-    let p3 : at + 3 ≡ suc (suc (suc at)) = omega arith in
-    let p4 : at + 4 ≡ suc (suc (suc (suc at))) = omega arith in
-    let p5 : at + 5 ≡ suc (suc (suc (suc (suc at)))) = omega arith in
-    let p6 : at + 6 ≡ suc (suc (suc (suc (suc (suc at))))) = omega arith in
-    let p7 : at + 7 ≡ suc (suc (suc (suc (suc (suc (suc at)))))) = omega arith in
-    rw (p1, p2, p3, p4, p5, p6, p7) refl
+put-is s at a b c d e f g h = rw (add-suc at 6, add-suc at 5, add-suc at 4, add-suc at 3, add-suc at 2, add-suc at 1, add-one)
 
 -- eight bits of the codewords under their mask, as bytes
 pub masked-bytes : {v u x : ℕ} (cw row : List ℕ) (bit c : ℕ) → bit + 8 ≤ 8 * length cw → ((k : ℕ) → getD row k 0 < 2)
@@ -83,19 +65,14 @@ pub masked-bytes : {v u x : ℕ} (cw row : List ℕ) (bit c : ℕ) → bit + 8 �
     → bytesOf (bitXor u x) ≡ run 8 (λ k. bitXor (getD (bitsOf cw) (bit + k) 0) (getD row (c + k) 0))
 masked-bytes {v} {u} {x} cw row bit c h small e f g =
     let eight = take 8 (drop bit (bitsOf cw)) in
+    let s : (k : ℕ) → getD (take 8 (drop bit (bitsOf cw))) k 0 < 2 = take-small 8 (drop bit (bitsOf cw)) (λ k. rw getD-drop (bit-lt cw (bit + k))) in
+    let low = low-value eight s in
     let n : length (take 8 (drop bit (bitsOf cw))) ≡ 8 = length-take-le 8 (drop bit (bitsOf cw)) (omega (arith, length-left cw bit)) in
-    let s : (k : ℕ) → getD (take 8 (drop bit (bitsOf cw))) k 0 < 2 =
-    take-small 8 (drop bit (bitsOf cw)) (λ k. subst (λ (y : ℕ). y < 2) (sym (getD-drop bit (bitsOf cw) k 0)) (bit-lt cw (bit + k))) in
-    let low : lowBits 8 v ≡ take 8 (drop bit (bitsOf cw)) =
-    ap (lowBits 8) e ∙ sym (ap (λ (i : ℕ). lowBits i (value 0 (take 8 (drop bit (bitsOf cw))))) n) ∙ low-value eight s in
-    let p = f ∙ ap (λ (bs : List ℕ). eightOf (behind bs 0)) low in
     let q : (k : ℕ) → getD (take 8 (drop bit (bitsOf cw))) (0 + k) 0 < 256 = λ k. omega (arith, s (0 + k)) in
     let r : (k : ℕ) → getD row (c + k) 0 < 256 = λ k. omega (arith, small (c + k)) in
-    let both = ap₂ bitXor p g ∙ xor-eight (behind eight 0) (behind row c) q r in
-    ap bytesOf both ∙ bytes-eight (λ k. bitXor (behind eight 0 k) (behind row c k)) (λ k. xor-lt 8 (behind eight 0 k) (behind row c k) (q k) (r k))
-    ∙ run-front 8 (λ k. bitXor (behind eight 0 k) (behind row c k)) (λ k. bitXor (getD (bitsOf cw) (bit + k) 0) (getD row (c + k) 0))
-    (λ k l. let z : 0 + k ≡ k = omega arith in ap (λ (y : ℕ). bitXor y (getD row (c + k) 0))
-    (ap (λ (i : ℕ). getD eight i 0) z ∙ getD-take 8 (drop bit (bitsOf cw)) k 0 l ∙ getD-drop bit (bitsOf cw) k 0))
+    rw (f, g, e, rw n at low, xor-eight (behind eight 0) (behind row c) q r)
+    (bytes-eight (λ k. bitXor (behind eight 0 k) (behind row c k)) (λ k. xor-lt 8 (behind eight 0 k) (behind row c k) (q k) (r k))
+    ∙ run-front 8 _ _ (λ k l. simp (zero-add, getD-take, getD-drop)))
 
 -- Placed in front.
 
@@ -116,50 +93,30 @@ module _ (m : ℕ → ℕ) where
   place-hits : (n c : ℕ) (ks rest : List ℕ) (d : ℕ → ℕ) → c + n ≤ length ks → ((k : ℕ) → k < n → getD ks (c + k) 0 ≡ 0)
       → placed m c (drop c ks) (run n d ++ rest) ≡ run n (λ k. bitXor (d k) (m (c + k))) ++ placed m (c + n) (drop (c + n) ks) rest
   unfolding run
-  place-hits zero c ks rest d h z = let e : c ≡ c + 0 = omega arith in ap (λ (i : ℕ). placed m i (drop i ks) rest) e
+  place-hits zero c ks rest d h z = simp add-zero
   place-hits (suc n) c ks rest d h z =
-      let e : c ≡ c + 0 = omega arith in
-      let f : suc c + n ≡ c + suc n = omega arith in
-      let g : (k : ℕ) → suc c + k ≡ c + suc k = λ k. omega arith in
-      ap (λ (us : List ℕ). placed m c us (d 0 ∷ (run n (λ k. d (suc k)) ++ rest))) (drop-cons ks c 0 (omega arith))
-      ∙ hit c (getD ks c 0) (drop (suc c) ks) (d 0) (run n (λ k. d (suc k)) ++ rest) (ap (λ (i : ℕ). getD ks i 0) e ∙ z 0 (omega arith))
-      ∙ ap₂ _∷_ (ap (λ (i : ℕ). bitXor (d 0) (m i)) e)
-      (place-hits n (suc c) ks rest (λ k. d (suc k)) (omega arith) (λ k l. ap (λ (i : ℕ). getD ks i 0) (g k) ∙ z (suc k) (omega arith))
-      ∙ ap₂ _++_
-      (run-ext n (λ k. bitXor (d (suc k)) (m (suc c + k))) (λ k. bitXor (d (suc k)) (m (c + suc k))) (λ k. ap (λ (i : ℕ). bitXor (d (suc k)) (m i)) (g k)))
-      (ap (λ (i : ℕ). placed m i (drop i ks) rest) f))
+      let ih = place-hits n (suc c) ks rest (λ k. d (suc k)) (omega arith) (λ k l. simp suc-add (simp add-suc at (z (suc k) (omega arith)))) in
+      rw (drop-cons ks c 0 (omega arith), hit c _ _ _ _ (simp add-zero at (z 0 (omega arith)))) (simp (add-zero, add-suc, simp suc-add at ih))
 
   -- a pattern, or a data module where no bit is left
   place-miss : (c : ℕ) (ks ds : List ℕ) → c < length ks → (getD ks c 0 ≡ 0 → ds ≡ [])
       → placed m c (drop c ks) ds ≡ patternOf (getD ks c 0) ∷ placed m (suc c) (drop (suc c) ks) ds
-  place-miss c ks ds h z = ap (λ (us : List ℕ). placed m c us ds) (drop-cons ks c 0 h) ∙ miss c (getD ks c 0) (drop (suc c) ks) ds z
+  place-miss c ks ds h z = rw (drop-cons ks c 0) (miss c _ _ ds z)
 
 -- data modules counted from a column on
 modules-hits : (n c : ℕ) (ks : List ℕ) → c + n ≤ length ks → ((k : ℕ) → k < n → getD ks (c + k) 0 ≡ 0)
     → dataModules (drop c ks) ≡ n + dataModules (drop (c + n) ks)
-modules-hits zero c ks h z = let e : c ≡ c + 0 = omega arith in ap (λ (i : ℕ). dataModules (drop i ks)) e ∙ omega arith
+modules-hits zero c ks h z = rw add-zero (omega arith)
 modules-hits (suc n) c ks h z =
-    let e : c ≡ c + 0 = omega arith in
-    let f : suc c + n ≡ c + suc n = omega arith in
-    let ih = modules-hits n (suc c) ks (omega arith)
-    (λ k l. (let g : suc c + k ≡ c + suc k = omega arith in ap (λ (i : ℕ). getD ks i 0) g ∙ z (suc k) (omega arith))) in
-    let one = ap dataModules (drop-cons ks c 0 (omega arith)) ∙ module-hit (getD ks c 0) (drop (suc c) ks)
-    (ap (λ (i : ℕ). getD ks i 0) e ∙ z 0 (omega arith)) in
-    omega (arith, ap (λ (i : ℕ). dataModules (drop i ks)) f)
+    let ih = modules-hits n (suc c) ks (omega arith) (λ k l. simp suc-add (simp add-suc at (z (suc k) (omega arith)))) in
+    rw (drop-cons ks c 0 (omega arith), module-hit _ _ (simp add-zero at (z 0 (omega arith))), add-suc) (omega (arith, simp suc-add at ih))
 
 -- n bits in front
 bits-run : (cw : List ℕ) (n bit : ℕ) → bit + n ≤ 8 * length cw → drop bit (bitsOf cw) ≡ run n (λ k. getD (bitsOf cw) (bit + k) 0) ++ drop (bit + n) (bitsOf cw)
 unfolding run
-bits-run cw zero bit h = let e : bit ≡ bit + 0 = omega arith in ap (λ (i : ℕ). drop i (bitsOf cw)) e
+bits-run cw zero bit h = rw add-zero
 bits-run cw (suc n) bit h =
-    let e : bit ≡ bit + 0 = omega arith in
-    let f : suc bit + n ≡ bit + suc n = omega arith in
-    let g : (k : ℕ) → suc bit + k ≡ bit + suc k = λ k. omega arith in
-    drop-cons (bitsOf cw) bit 0 (omega (arith, length-bits cw))
-    ∙ ap₂ _∷_ (ap (λ (i : ℕ). getD (bitsOf cw) i 0) e)
-    (bits-run cw n (suc bit) (omega arith) ∙ ap₂ _++_
-    (run-ext n (λ k. getD (bitsOf cw) (suc bit + k) 0) (λ k. getD (bitsOf cw) (bit + suc k) 0) (λ k. ap (λ (i : ℕ). getD (bitsOf cw) i 0) (g k)))
-    (ap (λ (i : ℕ). drop i (bitsOf cw)) f))
+    drop-cons (bitsOf cw) bit 0 (omega (arith, length-bits cw)) ∙ simp (add-zero, add-suc, simp suc-add at (bits-run cw n (suc bit) (omega arith)))
 
 -- From column to column.
 
@@ -169,60 +126,46 @@ module _ {m : ℕ → ℕ} {ks whole after sq ds : List ℕ} {c : ℕ} (p : Plac
       → sq′ ≡ sets sq c (run n (λ k. bitXor (d k) (m (c + k)))) → Placing m ks whole after sq′ rest (c + n)
   placing-hits {sq′} n d rest h z e f =
       let new = run n (λ k. bitXor (d k) (m (c + k))) in
-      let l : length (run n (λ k. bitXor (d k) (m (c + k)))) ≡ n = length-run n (λ k. bitXor (d k) (m (c + k))) in
+      let w : length (take c sq ++ run n (λ k. bitXor (d k) (m (c + k)))) ≡ c + n =
+      simp (length-append, length-run, length-take-le c sq (omega arith)) in
       let q : sq′ ≡ take c sq ++ run n (λ k. bitXor (d k) (m (c + k))) ++ drop (c + n) sq =
-      f ∙ sets-eq new sq c (omega arith) ∙ ap (λ (i : ℕ). take c sq ++ new ++ drop (c + i) sq) l in
-      let o : length (take c sq) ≡ c = length-take-le c sq (omega arith) in
-      let w : length (take c sq ++ run n (λ k. bitXor (d k) (m (c + k)))) ≡ c + n = length-append (take c sq) new ∙ ap₂ _+_ o l in
-      let front : take (c + n) sq′ ≡ take c sq ++ run n (λ k. bitXor (d k) (m (c + k))) =
-      ap (take (c + n)) q ∙ take-at (take c sq ++ new) (drop (c + n) sq) (c + n) w in
-      let back : drop (c + n) sq′ ≡ drop (c + n) sq = ap (drop (c + n)) q ∙ drop-at (take c sq ++ new) (drop (c + n) sq) (c + n) w in
+      f ∙ (simp length-run at (sets-eq new sq c (omega (arith, length-run n (λ k. bitXor (d k) (m (c + k))))))) in
       record {
         size = ap length f ∙ length-sets sq c new ∙ p .size;
         few = h;
-        is = ap (λ (u : List ℕ). u ++ placed m (c + n) (drop (c + n) ks) rest) front ∙ append-assoc (take c sq) new (placed m (c + n) (drop (c + n) ks) rest)
-            ∙ sym (ap (λ (u : List ℕ). take c sq ++ u) (ap (placed m c (drop c ks)) e ∙ place-hits m n c ks rest d h z)) ∙ p .is;
-        left = sym (ap₂ drop (modules-hits n c ks h z) e ∙ sym (ap (λ (i : ℕ). drop (i + dataModules (drop (c + n) ks)) (run n d ++ rest)) (length-run n d))
-            ∙ drop-append-add (run n d) rest (dataModules (drop (c + n) ks))) ∙ p .left;
+        is = rw (q, take-at (take c sq ++ new) _ (c + n) w, append-assoc, ← place-hits m n c ks rest d h z, ← e) (p .is);
+        left = sym (drop-append-add (run n d) rest (dataModules (drop (c + n) ks))) ∙ rw (length-run, ← modules-hits n c ks h z, ← e) (p .left);
         patterns = record {
           is = λ k lo hi.
               let g : c + n + (k - (c + n)) ≡ k = omega arith in
-              ap (λ (i : ℕ). getD sq′ i 0) (sym g) ∙ sym (getD-drop (c + n) sq′ (k - (c + n)) 0) ∙ ap (λ (u : List ℕ). getD u (k - (c + n)) 0) back
-              ∙ getD-drop (c + n) sq (k - (c + n)) 0 ∙ ap (λ (i : ℕ). getD sq i 0) g
-              ∙ p .patterns .is k (omega arith) hi;
+              let back = getD-drop (c + n) sq′ (k - (c + n)) 0 in
+              rw q (sym (rw (g, q, drop-at (take c sq ++ new) _ (c + n) w, getD-drop, g) at back) ∙ p .patterns .is k (omega arith) hi);
         };
       }
 
   -- a module that stays as it is
   placing-miss : c < length ks → (getD ks c 0 ≡ 0 → ds ≡ []) → Placing m ks whole after sq ds (suc c)
   placing-miss h z =
-      let front : take (suc c) sq ≡ take c sq ++ (patternOf (getD ks c 0) ∷ []) =
-      take-suc sq c 0 (omega arith) ∙ ap (λ (x : ℕ). take c sq ++ (x ∷ [])) (p .patterns .is c (omega arith) h) in
       record {
         size = p .size;
         few = h;
-        is = ap (λ (u : List ℕ). u ++ placed m (suc c) (drop (suc c) ks) ds) front
-            ∙ append-assoc (take c sq) (patternOf (getD ks c 0) ∷ []) (placed m (suc c) (drop (suc c) ks) ds)
-            ∙ sym (ap (λ (u : List ℕ). take c sq ++ u) (place-miss m c ks ds h z)) ∙ p .is;
+        is = rw (take-suc sq c 0 (omega arith), p .patterns .is c (omega arith) h, append-assoc, ← place-miss m c ks ds h z) (p .is);
         left = counted ∙ p .left;
         patterns = record { is = λ k lo hi. p .patterns .is k (omega arith) hi };
       }
     where
       counted : drop (dataModules (drop (suc c) ks)) ds ≡ drop (dataModules (drop c ks)) ds
       counted = elim (ℕ-discrete (getD ks c 0) 0) [
-        | yes y ↦ ap (drop (dataModules (drop (suc c) ks))) (z y) ∙ drop-nil (dataModules (drop (suc c) ks))
-            ∙ sym (ap (drop (dataModules (drop c ks))) (z y) ∙ drop-nil (dataModules (drop c ks)))
-        | no y ↦ sym (ap (λ (n : ℕ). drop n ds) (ap dataModules (drop-cons ks c 0 h) ∙ module-miss (getD ks c 0) (drop (suc c) ks) y))
+        | yes y ↦ simp (z y, drop-nil)
+        | no y ↦ rw (drop-cons ks c 0, module-miss (getD ks c 0) (drop (suc c) ks) y)
       ]
 
 -- n modules that stay
 placing-skip : {m : ℕ → ℕ} {ks whole after sq ds : List ℕ} (n c : ℕ) → c + n ≤ length ks → ((k : ℕ) → c ≤ k → k < c + n → getD ks k 0 ≢ 0)
     → Placing m ks whole after sq ds c → Placing m ks whole after sq ds (c + n)
-placing-skip {m} {ks} {whole} {after} {sq} {ds} zero c h z p = let e : c ≡ c + 0 = omega arith in subst (Placing m ks whole after sq ds) e p
-placing-skip {m} {ks} {whole} {after} {sq} {ds} (suc n) c h z p =
-    let e : suc c + n ≡ c + suc n = omega arith in
-    subst (Placing m ks whole after sq ds) e
-    (placing-skip n (suc c) (omega arith) (λ k lo hi. z k (omega arith) (omega arith))
+placing-skip zero c h z p = rw add-zero p
+placing-skip (suc n) c h z p =
+    rw (add-suc, ← suc-add) (placing-skip n (suc c) (omega arith) (λ k lo hi. z k (omega arith) (omega arith))
     (placing-miss p (omega arith) (λ y. absurd (z c (omega arith) (omega arith) y))))
 
 module _ {ks row cw sq sq′ : List ℕ} {p q : Cursor} where
@@ -232,40 +175,27 @@ module _ {ks row cw sq sq′ : List ℕ} {p q : Cursor} where
   puts-one h z e b = record {
     go = λ whole after g. elim (decLt (p .bit) (8 * length cw)) [
       | yes l ↦ (let k = b .room l in
-          let o : p .column + 0 ≡ p .column = omega arith in
-          let t : p .bit + 0 ≡ p .bit = omega arith in
-          let s : sq′ ≡ sets sq (p .column) (run 1 (λ i. bitXor (getD (bitsOf cw) (p .bit + i) 0) (getD row (p .column + i) 0))) =
-          k .1 ∙ ap₂ (λ (i j : ℕ). set sq (p .column) (bitXor (getD (bitsOf cw) i 0) (getD row j 0))) (sym t) (sym o) in
-          let d : drop (p .bit) (bitsOf cw) ≡ run 1 (λ i. getD (bitsOf cw) (p .bit + i) 0) ++ drop (q .bit) (bitsOf cw) =
-          bits-run cw 1 (p .bit) (omega arith) ∙ ap (λ (i : ℕ). run 1 (λ j. getD (bitsOf cw) (p .bit + j) 0) ++ drop i (bitsOf cw)) (sym (k .0)) in
-          subst (Placing (getD₀ row) ks whole after sq′ (drop (q .bit) (bitsOf cw))) (sym e)
-          (placing-hits g 1 (λ i. getD (bitsOf cw) (p .bit + i) 0) (drop (q .bit) (bitsOf cw)) (omega arith)
-          (λ i l. let y : p .column + i ≡ p .column = omega arith in ap (λ (j : ℕ). getD ks j 0) y ∙ z) d s))
+          rw (k .0, e) (placing-hits g 1 (λ i. getD (bitsOf cw) (p .bit + i) 0) (drop (p .bit + 1) (bitsOf cw)) (omega arith)
+          (λ i l. let y : p .column + i ≡ p .column = omega arith in rw y z) (bits-run cw 1 (p .bit) (omega arith)) (simp add-zero (k .1))))
       | no l ↦ (let k = b .full (omega arith) in
-          let none : drop (p .bit) (bitsOf cw) ≡ [] = drop-of-length-le (bitsOf cw) {i = p .bit} (omega (arith, length-bits cw)) in
-          subst (λ (s : List ℕ). Placing (getD₀ row) ks whole after s (drop (q .bit) (bitsOf cw)) (q .column)) (sym (k .1))
-          (subst (λ (i : ℕ). Placing (getD₀ row) ks whole after sq (drop i (bitsOf cw)) (q .column)) (sym (k .0))
-          (subst (Placing (getD₀ row) ks whole after sq (drop (p .bit) (bitsOf cw))) (sym (e ∙ add-one (p .column))) (placing-miss g h (λ y. none)))))
+          rw (k .0, k .1, e, add-one)
+          (placing-miss g h (λ y. drop-of-length-le (bitsOf cw) {i = p .bit} (omega (arith, length-bits cw)))))
     ];
   }
 
   pub puts-eight : {kinds : ℕ} → p .column + 8 ≤ length ks → kinds ≡ eightOf (behind ks (p .column)) → kinds ≡ 0 → p .bit + 8 ≤ 8 * length cw
       → PutEight row cw sq sq′ p q → Puts ks row cw sq sq′ p q
   puts-eight {kinds} h e z b u = record {
-    go = λ whole after g. subst (Placing (getD₀ row) ks whole after sq′ (drop (q .bit) (bitsOf cw))) (sym (u .column-is))
-        (placing-hits g 8 (λ i. getD (bitsOf cw) (p .bit + i) 0) (drop (q .bit) (bitsOf cw)) h (eight-zero (behind ks (p .column)) (sym e ∙ z))
-        (bits-run cw 8 (p .bit) b ∙ ap (λ (i : ℕ). run 8 (λ k. getD (bitsOf cw) (p .bit + k) 0) ++ drop i (bitsOf cw)) (sym (u .bit-is))) (u .is));
+    go = λ whole after g. rw (u .column-is, u .bit-is)
+        (placing-hits g 8 (λ i. getD (bitsOf cw) (p .bit + i) 0) _ h (eight-zero (behind ks (p .column)) (sym e ∙ z)) (bits-run cw 8 (p .bit) b) (u .is));
   }
 
 pub puts-skip : {ks row cw sq : List ℕ} {p q : Cursor} → Skipped ks (p .column) (q .column) → q .bit ≡ p .bit → Puts ks row cw sq sq p q
 puts-skip {ks} {row} {cw} {sq} {p} {q} s e = record {
-  go = λ whole after g. subst (λ (i : ℕ). Placing (getD₀ row) ks whole after sq (drop i (bitsOf cw)) (q .column)) (sym e)
-      (subst (Placing (getD₀ row) ks whole after sq (drop (p .bit) (bitsOf cw))) f
-      (placing-skip (q .column - p .column) (p .column) (omega arith) (λ k lo hi. s .none k lo (omega arith)) g));
+  go = λ whole after g.
+      let f : p .column + (q .column - p .column) ≡ q .column = omega arith in
+      rw e (rw f at (placing-skip (q .column - p .column) (p .column) (omega arith) (λ k lo hi. s .none k lo (omega arith)) g));
 }
-  where
-    f : p .column + (q .column - p .column) ≡ q .column
-    f = omega arith
 
 pub puts-none : {ks row cw sq : List ℕ} {p : Cursor} → Puts ks row cw sq sq p p
 puts-none = record { go = λ whole after g. g }
@@ -280,11 +210,7 @@ puts-all {ks} {row} {cw} {a} {b} {p} {q} f h = record {
   go = λ whole after k.
       let g = f .go whole after k in
       let none : drop (q .column) ks ≡ [] = drop-of-length-le ks {i = q .column} h in
-      let all : take (q .column) b ≡ b = take-all (q .column) b (omega arith) in (
-        sym (append-nil b) ∙ sym (ap₂ (λ (u v : List ℕ). u ++ placed (getD₀ row) (q .column) v (drop (q .bit) (bitsOf cw))) all none)
-            ∙ g .is,
-        sym (ap (λ (v : List ℕ). drop (dataModules v) (drop (q .bit) (bitsOf cw))) none) ∙ g .left,
-      );
+      (sym (append-nil b) ∙ (rw (take-all (q .column) b (omega arith), none) at (g .is)), rw none at (g .left));
 }
 
 pub puts-end : {ks row cw a b c : List ℕ} {p q : Cursor} {bit : ℕ} → Puts ks row cw a b p q → PutsAll ks row cw b c q bit → PutsAll ks row cw a c p bit

@@ -1,6 +1,6 @@
 -- At most 8 of the 68 information modules flipped: the nearest word is the one that was written.
-use Rattle.general.proofs.Names.{_≡_, sym, ap, ap₂, _∙_, Bool, true, false, cond, not, _&&_, List, [], _∷_, ℕ, zero, suc, _+_, _-_, _*_, _^_, _<_, _≤_}
-use Rattle.general.proofs.Names.{arith, eqb, length, getD, set, bitXor}
+use Rattle.general.proofs.Names.{_≡_, sym, ap, _∙_, Bool, true, false, cond, not, List, [], _∷_, ℕ, zero, suc, _+_, _*_, _^_, _<_, _≤_, arith, eqb, length}
+use Rattle.general.proofs.Names.{getD, set, bitXor}
 use lib.Count.{ones}
 use Rattle.symbol.specs.Version.{sideOf}
 use Rattle.symbol.specs.Layout.{layoutOf}
@@ -22,19 +22,11 @@ without [] g h p e a b = absurd (omega arith)
 without (k ∷ ks) [] h p e a b = absurd (omega arith)
 without (k ∷ ks) (x ∷ g) [] p e a b = absurd (omega arith)
 without (zero ∷ ks) (x ∷ g) (y ∷ h) zero e a b = absurd (omega arith)
-without (suc zero ∷ ks) (x ∷ g) (y ∷ h) zero e a b = by (eqb x y)
-  where
-    by : (t : Bool) → cond (not t) 1 0 + infoFlips ks g h ≡ cond t 0 1 + (0 + infoFlips ks g h)
-    by true = omega arith
-    by false = omega arith
+without (suc zero ∷ ks) (x ∷ g) (y ∷ h) zero e a b =
+    elim (eqb x y) as (λ t. cond (not t) 1 0 + infoFlips ks g h ≡ cond t 0 1 + (0 + infoFlips ks g h)) [ true ↦ omega arith | false ↦ omega arith ]
 without (suc (suc k) ∷ ks) (x ∷ g) (y ∷ h) zero e a b = absurd (omega arith)
 without (k ∷ ks) (x ∷ g) (y ∷ h) (suc p) e a b =
-    let ih = without ks g h p e (omega arith) (omega arith) in
-    ap (λ (m : ℕ). cond (eqb k 1 && not (eqb x y)) 1 0 + m) ih ∙ swap (cond (eqb k 1 && not (eqb x y)) 1 0) (cond (eqb (getD g p 0) (getD h p 0)) 0 1)
-    (infoFlips (set ks p 2) g h)
-  where
-    swap : (a b d : ℕ) → a + (b + d) ≡ b + (a + d)
-    swap a b d = omega arith
+    omega (arith, without ks g h p e (omega arith) (omega arith))
 
 -- the kinds without n places
 abbrev removed : (ℕ → ℕ) → ℕ → List ℕ → List ℕ
@@ -84,10 +76,7 @@ module _ (v : ℕ) (lo : 1 ≤ v) (g h : List ℕ) (lg : length g ≡ sideOf v *
     pub flips-distance : wordDistance v (copyOf (sideOf v) false h) (copyOf (sideOf v) true h) k ≤ infoFlips (layoutOf v) g h
     unfolding wordDistance
     flips-distance =
-        let d : wordDistance v (copyOf (sideOf v) false h) (copyOf (sideOf v) true h) k ≡ differ false + differ true =
-        ap₂ (λ (x y : ℕ). ones (bitXor x (copyOf (sideOf v) false h)) + ones (bitXor y (copyOf (sideOf v) true h))) (sym a) (sym b)
-        ∙ ap₂ (λ (x y : ℕ). x + y) (copies false) (copies true) in
-        omega (arith, d, both)
+        omega (arith, rw a at (copies false), rw b at (copies true), both)
 
     -- with at most 8 that differ, word k is the nearest
     pub flips-nearest : v ≤ 84 → k < 16 → infoFlips (layoutOf v) g h ≤ 8 → nearestWord v (copyOf (sideOf v) false h) (copyOf (sideOf v) true h) ≡ k

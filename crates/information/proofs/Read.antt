@@ -1,7 +1,7 @@
 -- A copy that was written is read; and the distance of two readings is the number of places that differ.
-use Rattle.general.proofs.Names.{_≡_, refl, sym, ap, ap₂, _∙_, Bool, true, false, cond, List, ℕ, zero, suc, _+_, _-_, _*_, _/_, _%_, _^_, _<_, _≤_}
-use Rattle.general.proofs.Names.{not-suc-le-zero, le-of-suc-le-suc, arith, ℕ-discrete, eqb, bitXor, differ, xor-step, length, getD, set, length-set}
-use Rattle.general.proofs.Names.{getD-set-same, getD-set-other}
+use Rattle.general.proofs.Names.{_≡_, refl, sym, ap, ap₂, _∙_, Bool, true, false, cond, List, ℕ, zero, suc, _+_, _*_, _/_, _%_, _^_, _<_, _≤_, not-suc-le-zero}
+use Rattle.general.proofs.Names.{le-of-suc-le-suc, arith, ℕ-discrete, eqb, bitXor, differ, xor-step, length, getD, set, length-set, getD-set-same}
+use Rattle.general.proofs.Names.{getD-set-other}
 use lib.Count.{ones, ones-step}
 use Rattle.bits.specs.Bits.{lowBits, value, storeAt}
 use Rattle.bits.proofs.Words.{low-back}
@@ -103,15 +103,11 @@ differ-bits (suc zero) (suc (suc y)) a b = absurd (not-suc-le-zero (le-of-suc-le
 
 one-more : (a b x y : ℕ) → x < 2 → y < 2 → ones (bitXor (a * 2 + x) (b * 2 + y)) ≡ ones (bitXor a b) + cond (eqb x y) 0 1
 one-more a b x y p q =
-    let e : bitXor (a * 2 + x) (b * 2 + y) ≡ bitXor ((a * 2 + x) / 2) ((b * 2 + y) / 2) * 2 + differ ((a * 2 + x) % 2) ((b * 2 + y) % 2) =
-    xor-step (a * 2 + x) (b * 2 + y) in
     let a1 : (a * 2 + x) / 2 ≡ a = omega arith in
     let a2 : (a * 2 + x) % 2 ≡ x = omega arith in
     let b1 : (b * 2 + y) / 2 ≡ b = omega arith in
     let b2 : (b * 2 + y) % 2 ≡ y = omega arith in
-    let f : bitXor (a * 2 + x) (b * 2 + y) ≡ bitXor a b * 2 + cond (eqb x y) 0 1 =
-    (rw (a1, a2, b1, b2) at e) ∙ ap (λ (n : ℕ). bitXor a b * 2 + n) (differ-bits x y p q) in
-    rw f (last (bitXor a b) (eqb x y))
+    rw (xor-step (a * 2 + x) (b * 2 + y), a1, a2, b1, b2, differ-bits x y p q) (last (bitXor a b) (eqb x y))
   where
     last : (n : ℕ) (t : Bool) → ones (n * 2 + cond t 0 1) ≡ ones n + cond t 0 1
     last n true = ones-step (n * 2 + 0) ∙ (let c : (n * 2 + 0) / 2 ≡ n = omega arith in let d : (n * 2 + 0) % 2 ≡ 0 = omega arith in rw (c, d) (omega arith))
@@ -121,5 +117,4 @@ one-more a b x y p q =
 pub distance-is : (f h : ℕ → ℕ) → ((k : ℕ) → f k < 2) → ((k : ℕ) → h k < 2) → (n : ℕ) → ones (bitXor (numberFrom f n) (numberFrom h n)) ≡ differing f h n
 unfolding numberFrom differing ones
 distance-is f h p q zero = refl
-distance-is f h p q (suc n) =
-    one-more (numberFrom f n) (numberFrom h n) (f n) (h n) (p n) (q n) ∙ ap (λ (m : ℕ). m + cond (eqb (f n) (h n)) 0 1) (distance-is f h p q n)
+distance-is f h p q (suc n) = rw (one-more (numberFrom f n) (numberFrom h n) (f n) (h n) (p n) (q n), distance-is f h p q n)

@@ -1,7 +1,7 @@
 -- A square as its rows.
-use Rattle.general.proofs.Names.{_≡_, refl, ap, ap₂, _∙_, sym, subst, List, [], _∷_, _++_, append-nil, ℕ, zero, suc, _+_, _-_, _*_, _<_, _≤_, add-mul}
-use Rattle.general.proofs.Names.{one-mul, mul-le-mul-left, arith, length, getD, take, drop, length-append, length-drop, take-append-drop, drop-of-length-le}
-use Rattle.general.proofs.Names.{length-take-le, take-all, drop-drop, getD-drop, getD-take, bitXor}
+use Rattle.general.proofs.Names.{_≡_, refl, ap, ap₂, _∙_, sym, subst, List, [], _∷_, _++_, append-nil, ℕ, zero, suc, _+_, _-_, _*_, _<_, _≤_, add-mul, one-mul}
+use Rattle.general.proofs.Names.{mul-le-mul-left, zero-add, add-zero, add-suc, suc-add, arith, length, getD, take, drop, length-append, length-drop}
+use Rattle.general.proofs.Names.{take-append-drop, drop-of-length-le, length-take-le, take-all, drop-drop, getD-drop, getD-take, bitXor}
 use lib.Arith.{digits-div, digits-mod}
 use lib.Pow.{pow-pos}
 use Rattle.bits.specs.Bits.{lowBits, firstWords, groups}
@@ -9,7 +9,7 @@ use Rattle.bits.proofs.Words.{length-low}
 use Rattle.bits.proofs.Bytes.{take-small}
 use Rattle.codewords.specs.Codewords.{maskAt, maskBit, dataBits}
 use Rattle.masks.specs.Columns.{Row}
-use Rattle.placement.specs.Walk.{bitsFrom, BitsAndKinds, FewPending, Words, Walk, Masked, Aligned, rowBits, ReadsColumns}
+use Rattle.placement.specs.Walk.{bitsFrom, BitsAndKinds, FewPending, Walk, Masked, Aligned, rowBits, ReadsColumns}
 use Rattle.placement.specs.declared.Run.{Run}
 
 -- Parts of a list.
@@ -60,29 +60,21 @@ aligned {mask} {ks} {sq} {row} at side g r s h =
 data-append : (m : ℕ → ℕ) (i : ℕ) (us vs xs ys : List ℕ) → length us ≡ length xs
     → dataBits m i (us ++ vs) (xs ++ ys) ≡ dataBits m i us xs ++ dataBits m (i + length us) vs ys
 unfolding dataBits
-data-append m i [] vs [] ys e = let f : i ≡ i + 0 = omega arith in ap (λ (j : ℕ). dataBits m j vs ys) f
+data-append m i [] vs [] ys e = rw add-zero
 data-append m i [] vs (x ∷ xs) ys e = absurd (omega arith)
 data-append m i (u ∷ us) vs [] ys e = absurd (omega arith)
-data-append m i (zero ∷ us) vs (x ∷ xs) ys e =
-    let f : suc i + length us ≡ i + suc (length us) = omega arith in
-    ap (λ (l : List ℕ). bitXor x (m i) ∷ l) (data-append m (suc i) us vs xs ys (omega arith) ∙ ap (λ (j : ℕ). dataBits m (suc i) us xs ++ dataBits m j vs ys) f)
-data-append m i (suc u ∷ us) vs (x ∷ xs) ys e =
-    let f : suc i + length us ≡ i + suc (length us) = omega arith in
-    data-append m (suc i) us vs xs ys (omega arith) ∙ ap (λ (j : ℕ). dataBits m (suc i) us xs ++ dataBits m j vs ys) f
+data-append m i (zero ∷ us) vs (x ∷ xs) ys e = rw (add-suc, ← suc-add, data-append m (suc i) us vs xs ys (omega arith))
+data-append m i (suc u ∷ us) vs (x ∷ xs) ys e = rw (add-suc, ← suc-add) (data-append m (suc i) us vs xs ys (omega arith))
 
 -- masks that are the same at the data modules from two places on
 abbrev pub Agree : List ℕ → (ℕ → ℕ) → (ℕ → ℕ) → ℕ → ℕ → Type 0
 Agree us m n i j = (k : ℕ) → k < length us → getD us k 0 ≡ 0 → m (i + k) ≡ n (j + k)
 
 pub agree-first : (m n : ℕ → ℕ) (i j : ℕ) (us : List ℕ) → Agree (0 ∷ us) m n i j → m i ≡ n j
-agree-first m n i j us h =
-    let a : i ≡ i + 0 = omega arith in
-    let b : j + 0 ≡ j = omega arith in ap m a ∙ h 0 (omega arith) refl ∙ ap n b
+agree-first m n i j us h = simp add-zero at (h 0 (omega arith) refl)
 
 pub agree-later : (m n : ℕ → ℕ) (i j u : ℕ) (us : List ℕ) → Agree (u ∷ us) m n i j → Agree us m n (suc i) (suc j)
-agree-later m n i j u us h k q z =
-    let a : suc i + k ≡ i + suc k = omega arith in
-    let b : j + suc k ≡ suc j + k = omega arith in ap m a ∙ h (suc k) (omega arith) z ∙ ap n b
+agree-later m n i j u us h k q z = simp suc-add (simp add-suc at (h (suc k) (omega arith) z))
 
 data-masks : (m n : ℕ → ℕ) (i j : ℕ) (us xs : List ℕ) → Agree us m n i j → dataBits m i us xs ≡ dataBits n j us xs
 unfolding dataBits
@@ -102,8 +94,7 @@ row-split m ks sq row at side g h e =
     let l : length (part at (at + side) sq) ≡ side = part-length at side sq h in
     ap₂ (dataBits m at) (part-front at (at + side) ks (omega arith)) (part-front at (at + side) sq (omega arith))
     ∙ data-append m at us (drop (at + side) ks) xs (drop (at + side) sq) (k ∙ sym l)
-    ∙ ap₂ (λ (b : List ℕ) (n : ℕ). b ++ dataBits m (at + n) (drop (at + side) ks) (drop (at + side) sq))
-    (data-masks m (λ c. getD row c 0) at 0 us xs (λ c q d. sym (e c (omega arith) d) ∙ (let z : c ≡ 0 + c = omega arith in ap (λ (i : ℕ). getD row i 0) z))) k
+    ∙ rw (k, data-masks m (λ c. getD row c 0) at 0 us xs (λ c q d. simp zero-add (sym (e c (omega arith) d))))
 
 pub bits-none : (m : ℕ → ℕ) (ks sq : List ℕ) (i : ℕ) → length sq ≤ i → bitsFrom m ks sq i ≡ []
 unfolding dataBits
@@ -121,10 +112,7 @@ rows-pending {r} v b = record { few = omega arith; small = omega (arith, pow-pos
 -- the column does not matter
 pub walk-again : {total : ℕ} {all out rest : List ℕ} {r s : Run} → s .n ≡ r .n → s .value ≡ r .value → s .bits ≡ r .bits → Walk total all out rest r
     → Walk total all out rest s
-walk-again {total} {all} {out} {rest} {r} {s} n v b k = record {
-  words = subst (λ (i : ℕ). Words total all out (lowBits (s .bits) (s .value) ++ rest) i) (sym n)
-      (subst (λ (l : List ℕ). Words total all out l (r .n)) (sym (ap₂ (λ (i j : ℕ). lowBits i j ++ rest) b v)) (k .words));
-}
+walk-again n v b k = record { words = rw (n, b, v) (k .words) }
 
 pub rows-begun : (all out : List ℕ) {r : Run} → r .n ≡ 0 → r .value ≡ 0 → r .bits ≡ 0 → 8 * length out ≤ length all → Walk (length out) all out all r
 unfolding lowBits
@@ -147,9 +135,7 @@ module _ {total : ℕ} {all out out′ row : List ℕ} {r s : Run} (m : ℕ → 
       → Walk total all out′ (bitsFrom m ks sq ((i + 1) * side)) s
   row-turn e a b go w =
       let rest = bitsFrom m ks sq (i * side + side) in
-      let front = row-split m ks sq row (i * side) side g h e ∙ ap (λ (u : List ℕ). u ++ rest) (sym a) in
-      subst (λ (u : List ℕ). Walk total all out′ u s) (ap (λ (u : List ℕ). u ++ rest) b ∙ ap (bitsFrom m ks sq) (row-next i side))
-      (go .go total all rest (subst (λ (u : List ℕ). Walk total all out u r) front w))
+      rw (← row-next i side) (rw b at (go .go total all rest (rw (row-split m ks sq row (i * side) side g h e, ← a) at w)))
 
   -- all columns are read
   pub rows-turn : ((c : ℕ) → c < side → getD row c 0 ≡ m (i * side + c)) → r .column ≡ 0 → s .column ≡ length (rowIn i side ks)
@@ -165,15 +151,12 @@ pub rows-done : {total : ℕ} {all out : List ℕ} {r : Run} (m : ℕ → ℕ) (
 unfolding firstWords groups
 rows-done {total} {all} {out} {r} m ks sq i h p k =
     let w = k .words in
-    let z : length (lowBits (r .bits) (r .value) ++ bitsFrom m ks sq i) ≡ r .bits =
-    length-append (lowBits (r .bits) (r .value)) (bitsFrom m ks sq i) ∙ ap₂ _+_ (length-low (r .bits) (r .value)) (ap length (bits-none m ks sq i h))
-    ∙ omega arith in
+    let z : length (lowBits (r .bits) (r .value) ++ bitsFrom m ks sq i) ≡ r .bits = simp (length-append, length-low, bits-none m ks sq i h) (omega arith) in
     let n : r .n ≡ total = omega arith in
     let e : total - r .n ≡ 0 = omega arith in
-    sym (take-all (r .n) out (omega arith)) ∙ sym (append-nil (take (r .n) out))
-    ∙ sym (ap (λ (j : ℕ). take (r .n) out ++ firstWords 8 j (lowBits (r .bits) (r .value) ++ bitsFrom m ks sq i)) e) ∙ w .is
+    sym (take-all (r .n) out (omega arith)) ∙ sym (append-nil (take (r .n) out)) ∙ (rw e at (w .is))
 
 -- The first total codewords in front of what stood behind them.
 pub first-codewords : {out′ : List ℕ} (out all : List ℕ) (total : ℕ) → total ≤ length out → out′ ≡ firstWords 8 (length (take total out)) all
     → out′ ++ drop total out ≡ firstWords 8 total all ++ drop total out
-first-codewords out all total h e = ap (λ (o : List ℕ). o ++ drop total out) (e ∙ ap (λ (n : ℕ). firstWords 8 n all) (length-take-le total out h))
+first-codewords out all total h e = rw (e, length-take-le total out h)

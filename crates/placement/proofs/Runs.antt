@@ -1,7 +1,7 @@
 -- Runs of modules of one sort.
 use Rattle.general.proofs.Names.{_≡_, refl, ap, ap₂, _∙_, sym, subst, _≢_, List, ℕ, zero, suc, _+_, _-_, _*_, _/_, _%_, _^_, _<_, _≤_, zero-le, suc-le-suc}
-use Rattle.general.proofs.Names.{mod-one, zero-div, zero-mod, add-one, arith, decLt, bitXor, bitAnd, bitOr, or-shr, and-shr, xor-shr, or-mod, and-mod}
-use Rattle.general.proofs.Names.{xor-mod, and-zero-r, xor-zero-r, T, eqb, eqb→eq, length, getD, List·getD-eq-default}
+use Rattle.general.proofs.Names.{mod-one, zero-div, zero-mod, add-one, arith, decLt, bitXor, bitAnd, bitOr, or-shr, and-shr, xor-shr, or-mod, and-mod, xor-mod}
+use Rattle.general.proofs.Names.{and-zero-r, xor-zero-r, T, eqb, eqb→eq, length, getD, List·getD-eq-default}
 use lib.Count.{trailingZeros, under, trailing-le}
 use lib.Pow.{shr-shr, mod-pow-add, mod-mod-pow, field}
 use Rattle.general.proofs.Finite.{upTo, every}
@@ -35,25 +35,21 @@ trailing-most (suc k) n (suc j) h e =
     let low : n % 2 ≡ 0 = omega arith in
     subst (λ (d : ℕ). suc j ≤ under d (trailingZeros k (n / 2))) (sym low) (suc-le-suc (trailing-most k (n / 2) j (omega arith) (omega arith)))
 
+-- zeros at the end, fewer of them
+fewer : (x a b : ℕ) → b ≤ a → x % 2 ^ a ≡ 0 → x % 2 ^ b ≡ 0
+fewer x a b h z = let e : a - b + b ≡ a = omega arith in sym (mod-mod-pow x (a - b) b) ∙ rw (e, z) (zero-mod (2 ^ b))
+
 pub zero-bytes-first : (x : ℕ) → ZeroBytesFirst x (trailingZeros 64 x / 8)
 zero-bytes-first x =
-    let t = trailingZeros 64 x in
     let few = trailing-le 64 x in
-    let e : trailingZeros 64 x ≡ trailingZeros 64 x % 8 + 8 * (trailingZeros 64 x / 8) = omega arith in
     record {
       most = omega arith;
-      zeros = sym (mod-mod-pow x (t % 8) (8 * (t / 8))) ∙ ap (λ (y : ℕ). y % 2 ^ (8 * (t / 8))) (sym (ap (λ (n : ℕ). x % 2 ^ n) e) ∙ trailing-zeros 64 x)
-          ∙ zero-mod (2 ^ (8 * (t / 8)));
+      zeros = fewer x (trailingZeros 64 x) _ (omega arith) (trailing-zeros 64 x);
       first = λ z. omega (arith, trailing-most 64 x 8 (omega arith) z);
     }
 
 first-byte-zero : {x w : ℕ} → ZeroBytesFirst x w → (j : ℕ) → j < w → x / 2 ^ (8 * j) % 256 ≡ 0
-first-byte-zero {x} {w} l j h =
-    let n = 8 + 8 * j in
-    let e : 8 * w ≡ 8 * (w - 1 - j) + (8 + 8 * j) = omega arith in
-    let z : x % 2 ^ (8 + 8 * j) ≡ 0 =
-    sym (mod-mod-pow x (8 * (w - 1 - j)) n) ∙ ap (λ (y : ℕ). y % 2 ^ n) (sym (ap (λ (i : ℕ). x % 2 ^ i) e) ∙ l .zeros) ∙ zero-mod (2 ^ n) in
-    sym (field x 8 (8 * j)) ∙ ap (λ (y : ℕ). y / 2 ^ (8 * j)) z ∙ zero-div (2 ^ (8 * j))
+first-byte-zero {x} {w} l j h = sym (field x 8 (8 * j)) ∙ rw (fewer x (8 * w) (8 + 8 * j) (omega arith) (l .zeros)) (zero-div (2 ^ (8 * j)))
 
 -- Kinds that are not 0. A bit for each of seven bytes: tests that antt computes.
 
@@ -82,14 +78,10 @@ two-low y e = (omega arith, omega arith)
 
 holes-at : (k j : ℕ) → 0 < j → j < 8 → k / 2 ^ (8 * j) % 256 ≡ 0 → holes k / 2 ^ (8 * j) % 2 ≡ 1
 holes-at k j p h z =
-    let n = 8 * j in
-    let m = bit-at j p h in
     let i : 1 + 8 * j ≡ 8 * j + 1 = omega arith in
-    let s : k / 2 / 2 ^ (8 * j) ≡ k / 2 ^ (8 * j) / 2 = shr-shr k 1 n ∙ ap (λ (x : ℕ). k / 2 ^ x) i ∙ sym (shr-shr k n 1) in
-    let low = two-low (k / 2 ^ n) z in
-    let or = ap (λ (y : ℕ). y % 2) (or-shr k (k / 2) n) ∙ or-mod (k / 2 ^ n) (k / 2 / 2 ^ n) 1 ∙ ap₂ bitOr (low .0) (ap (λ (y : ℕ). y % 2) s ∙ low .1) in
-    let and = ap (λ (y : ℕ). y % 2) (and-shr (bitOr k (k / 2)) bits n) ∙ and-mod (bitOr k (k / 2) / 2 ^ n) (bits / 2 ^ n) 1 ∙ ap₂ bitAnd or m in
-    ap (λ (y : ℕ). y % 2) (xor-shr (bitAnd (bitOr k (k / 2)) bits) bits n) ∙ xor-mod (bitAnd (bitOr k (k / 2)) bits / 2 ^ n) (bits / 2 ^ n) 1 ∙ ap₂ bitXor and m
+    let s : k / 2 / 2 ^ (8 * j) ≡ k / 2 ^ (8 * j) / 2 = shr-shr k 1 (8 * j) ∙ rw i (sym (shr-shr k (8 * j) 1)) in
+    let low = two-low (k / 2 ^ (8 * j)) z in
+    rw (xor-shr, and-shr, or-shr, xor-mod _ _ 1, and-mod _ _ 1, or-mod _ _ 1, bit-at j p h, s, low .0, low .1)
 
 pub no-data-are : {k w : ℕ} → ZeroBytesFirst (holes k) w → NoData k w
 no-data-are {k} {w} l = record {
@@ -154,10 +146,8 @@ down : (s : List ℕ) (c left : ℕ) {x : ℕ} → left ≤ 8 → 8 ≤ length s
     → x / 2 ^ (64 - 8 * left) ≡ eightOf (behind s c)
 down s c left {x} few big e bytes f =
     let i : 64 - 8 * left ≡ 8 * (8 - left) = omega arith in
-    let j : (y : ℕ) → length s - 8 + (8 - left + y) ≡ c + y = λ y. omega arith in
-    ap₂ (λ (y z : ℕ). y / 2 ^ z) f i
-    ∙ eight-down (8 - left) (behind s c) (behind s (length s - 8)) (λ y. bytes (length s - 8 + y))
-    (λ y h. List·getD-eq-default s 0 {n = length s - 8 + y} (omega arith)) (λ y. ap (λ (z : ℕ). getD s z 0) (j y))
+    rw (f, i) (eight-down (8 - left) (behind s c) (behind s (length s - 8)) (λ y. bytes (length s - 8 + y))
+    (λ y h. List·getD-eq-default s 0 {n = length s - 8 + y} (omega arith)) (λ y. let j : length s - 8 + (8 - left + y) ≡ c + y = omega arith in rw j))
 
 module _ {ks sq row : List ℕ} (a : Aligned ks sq row) (bytes : (i : ℕ) → getD ks i 0 < 256) (big : 8 ≤ length ks) where
   -- the bits of the eight columns that end a row

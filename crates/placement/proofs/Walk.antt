@@ -1,14 +1,14 @@
 -- Bits behind bits, and the walk over a row.
-use Rattle.general.proofs.Names.{_≡_, refl, ap, ap₂, _∙_, sym, subst, _≢_, List, [], _∷_, _++_, append-assoc, ℕ, zero, suc, _+_, _-_, _*_, _/_, _%_, _^_}
-use Rattle.general.proofs.Names.{_<_, _≤_, mod-lt, mod-eq-of-lt, pow-le-pow-right, arith, add-one, decLt, lit<, length, getD, take, drop, set, length-set}
-use Rattle.general.proofs.Names.{length-append, take-at, drop-at, drop-cons, take-suc-set, bitXor, xor-lt}
+use Rattle.general.proofs.Names.{_≡_, refl, ap, ap₂, _∙_, sym, _≢_, List, [], _∷_, _++_, append-assoc, ℕ, zero, suc, _+_, _-_, _*_, _/_, _%_, _^_, _<_, _≤_}
+use Rattle.general.proofs.Names.{mod-lt, mod-eq-of-lt, pow-le-pow-right, arith, add-one, zero-add, suc-add, add-suc, add-zero, add-assoc, add-comm, decLt, lit<}
+use Rattle.general.proofs.Names.{length, getD, drop, set, length-set, length-append, take-at, drop-at, drop-cons, take-suc-set, bitXor, xor-lt}
 use lib.Arith.{digits-lt}
 use lib.Pow.{pow-pos, pow-add, shl-lt, shr-shr, split, high, low, field, mod-mod-pow}
 use Rattle.bits.specs.Bits.{lowBits, value, firstWords, groups}
 use Rattle.bits.proofs.Words.{length-low, low-back}
 use Rattle.bits.proofs.Bytes.{value-add, value-small, low-value}
 use Rattle.codewords.specs.Codewords.{dataBits}
-use Rattle.placement.specs.Walk.{bitsFrom, byteOf, eightOf, run, behind, Gathered, FewPending, Words, Walk, Stored, Pushed, Masked, unmaskedAt, Skipped}
+use Rattle.placement.specs.Walk.{bitsFrom, byteOf, eightOf, run, behind, Gathered, FewPending, Words, Stored, Pushed, Masked, unmaskedAt, Skipped}
 use Rattle.placement.specs.Walk.{rowBits, ReadsColumns}
 use Rattle.placement.specs.declared.Run.{Run}
 use Rattle.placement.proofs.Eights.{xor-eight}
@@ -19,23 +19,15 @@ use Rattle.placement.proofs.Eights.{xor-eight}
 pub low-mod : (n k v : ℕ) → n ≤ k → lowBits n (v % 2 ^ k) ≡ lowBits n v
 unfolding lowBits
 low-mod zero k v h = refl
-low-mod (suc n) k v h = ap₂ _∷_ (top (k - suc n) (omega arith)) (low-mod n k v (omega arith))
-  where
-    top : (j : ℕ) → k ≡ j + 1 + n → v % 2 ^ k / 2 ^ n % 2 ≡ v / 2 ^ n % 2
-    top j e = ap (λ (i : ℕ). v % 2 ^ i / 2 ^ n % 2) e ∙ ap (λ (y : ℕ). y % 2) (field v (j + 1) n) ∙ mod-mod-pow (v / 2 ^ n) j 1
+low-mod (suc n) k v h =
+    let e : k ≡ k - suc n + 1 + n = omega arith in
+    ap₂ _∷_ (rw (e, field v (k - suc n + 1) n) (mod-mod-pow (v / 2 ^ n) (k - suc n) 1)) (low-mod n k v (omega arith))
 
 -- bits behind bits are the bits of one number
 low-join : (a b p q : ℕ) → q < 2 ^ b → lowBits a p ++ lowBits b q ≡ lowBits (a + b) (p * 2 ^ b + q)
 unfolding lowBits
-low-join zero b p q h =
-    let e : b ≡ 0 + b = omega arith in
-    ap (lowBits b) (sym (low p b h)) ∙ low-mod b b (p * 2 ^ b + q) (omega arith) ∙ ap (λ (n : ℕ). lowBits n (p * 2 ^ b + q)) e
-low-join (suc a) b p q h =
-    let e : suc (a + b) ≡ suc a + b = omega arith in
-    let f : b + a ≡ a + b = omega arith in
-    let top : p / 2 ^ a ≡ (p * 2 ^ b + q) / 2 ^ (a + b) =
-    ap (λ (y : ℕ). y / 2 ^ a) (sym (high p b h)) ∙ shr-shr (p * 2 ^ b + q) b a ∙ ap (λ (n : ℕ). (p * 2 ^ b + q) / 2 ^ n) f in
-    ap₂ (λ (y : ℕ) (l : List ℕ). (y % 2) ∷ l) top (low-join a b p q h) ∙ ap (λ (n : ℕ). lowBits n (p * 2 ^ b + q)) e
+low-join zero b p q h = rw (zero-add, ← low-mod b b (p * 2 ^ b + q) (omega arith), low p b h)
+low-join (suc a) b p q h = rw (suc-add, low-join a b p q h, add-comm a b, ← shr-shr (p * 2 ^ b + q) b a, high p b h)
 
 -- eight in front of the others
 low-apart : (n v : ℕ) → n ≤ 8 → lowBits (8 + n) v ≡ lowBits 8 (v / 2 ^ n % 256) ++ lowBits n (v % 256)
@@ -79,15 +71,8 @@ run-eight b = omega arith
 -- those before a place in front of the others
 run-split : (a b : ℕ) (f : ℕ → ℕ) → run (a + b) f ≡ run a f ++ run b (λ k. f (a + k))
 unfolding run
-run-split zero b f =
-    let e : 0 + b ≡ b = omega arith in
-    let g : (k : ℕ) → k ≡ 0 + k = λ k. omega arith in ap (λ (n : ℕ). run n f) e ∙ run-ext b f (λ k. f (0 + k)) (λ k. ap f (g k))
-run-split (suc a) b f =
-    let e : suc a + b ≡ suc (a + b) = omega arith in
-    let g : (k : ℕ) → suc (a + k) ≡ suc a + k = λ k. omega arith in
-    ap (λ (n : ℕ). run n f) e ∙ ap (λ (l : List ℕ). f 0 ∷ l)
-    (run-split a b (λ k. f (suc k)) ∙ ap (λ (l : List ℕ). run a (λ k. f (suc k)) ++ l)
-    (run-ext b (λ k. f (suc (a + k))) (λ k. f (suc a + k)) (λ k. ap f (g k))))
+run-split zero b f = simp zero-add
+run-split (suc a) b f = simp (suc-add, run-split a b (λ k. f (suc k)))
 
 value-behind : (v : ℕ) (us vs : List ℕ) → value v (us ++ vs) ≡ value (value v us) vs
 unfolding value
@@ -96,20 +81,17 @@ value-behind v (u ∷ us) vs = value-behind (v * 2 + u) us vs
 
 module _ (f : ℕ → ℕ) (small : (k : ℕ) → f k < 2) where
   run-lt : (n : ℕ) (g : ℕ → ℕ) → ((k : ℕ) → g k < 2) → value 0 (run n g) < 2 ^ n
-  run-lt n g h = subst (λ (i : ℕ). value 0 (run n g) < 2 ^ i) (length-run n g) (value-small (run n g) (run-small n g h))
+  run-lt n g h = rw length-run at (value-small (run n g) (run-small n g h))
 
   value-split : (a b : ℕ) → value 0 (run (a + b) f) ≡ value 0 (run a f) * 2 ^ b + value 0 (run b (λ k. f (a + k)))
-  value-split a b =
-      let l = run b (λ k. f (a + k)) in
-      ap (value 0) (run-split a b f) ∙ value-behind 0 (run a f) l ∙ value-add (value 0 (run a f)) l
-      ∙ ap (λ (n : ℕ). value 0 (run a f) * 2 ^ n + value 0 l) (length-run b (λ k. f (a + k)))
+  value-split a b = rw (run-split a b f, value-behind, value-add (value 0 (run a f)) (run b (λ k. f (a + k))), length-run)
 
   -- the first n, and the others
   pub first-value : (n p : ℕ) → value 0 (run (n + p) f) / 2 ^ p ≡ value 0 (run n f)
-  first-value n p = ap (λ (y : ℕ). y / 2 ^ p) (value-split n p) ∙ high (value 0 (run n f)) p (run-lt p (λ k. f (n + k)) (λ k. small (n + k)))
+  first-value n p = rw (value-split n p, high (value 0 (run n f)) p (run-lt p (λ k. f (n + k)) (λ k. small (n + k))))
 
   pub last-value : (n w : ℕ) → value 0 (run (n + w) f) % 2 ^ w ≡ value 0 (run w (λ k. f (n + k)))
-  last-value n w = ap (λ (y : ℕ). y % 2 ^ w) (value-split n w) ∙ low (value 0 (run n f)) w (run-lt w (λ k. f (n + k)) (λ k. small (n + k)))
+  last-value n w = rw (value-split n w, low (value 0 (run n f)) w (run-lt w (λ k. f (n + k)) (λ k. small (n + k))))
 
 pub gathered-is : {x g : ℕ} (b : ℕ → ℕ) → ((k : ℕ) → b k < 2) → x ≡ eightOf b → Gathered x g → g ≡ value 0 (run 8 b)
 gathered-is b h e g = g .is b h e ∙ sym (run-eight b)
@@ -117,40 +99,28 @@ gathered-is b h e g = g .is b h e ∙ sym (run-eight b)
 -- Codewords.
 
 module _ {total : ℕ} {all out : List ℕ} {n : ℕ} where
-  same-words : {left left′ : List ℕ} → left ≡ left′ → Words total all out left n → Words total all out left′ n
-  same-words e w = subst (λ (l : List ℕ). Words total all out l n) e w
-
   -- a codeword is stored where there is room, and nothing changes where there is none
   words-next : {out′ : List ℕ} {n′ : ℕ} (y : ℕ) (tail : List ℕ) → y < 256 → Stored n y out out′ n′ → Words total all out (lowBits 8 y ++ tail) n
       → Words total all out′ tail n′
   unfolding firstWords groups
   words-next {out′} {n′} y tail small s w = elim (decLt n total) [
     | yes h ↦ (let l : n < length out = omega arith in
-        let k = s .room l in
-        subst (λ (o : List ℕ). Words total all o tail n′) (sym (k .1)) (subst (λ (i : ℕ). Words total all (set out n y) tail i) (sym (k .0)) (more h l)))
+        rw (s .room l .1, s .room l .0) (more h l))
     | no h ↦ (let k = s .full (omega arith) in
         let z : total - n ≡ 0 = omega arith in
-        let is : take n out ++ firstWords 8 (total - n) tail ≡ firstWords 8 total all =
-        ap (λ (i : ℕ). take n out ++ firstWords 8 i tail) z ∙ sym (ap (λ (i : ℕ). take n out ++ firstWords 8 i (lowBits 8 y ++ tail)) z) ∙ w .is in
-        subst (λ (o : List ℕ). Words total all o tail n′) (sym (k .1))
-        (subst (λ (i : ℕ). Words total all out tail i) (sym (k .0)) (record { size = w .size; few = w .few; enough = omega arith; is = is })))
+        rw (k .1, k .0) (record { size = w .size; few = w .few; enough = omega arith; is = rw z (rw z at (w .is)) }))
   ]
     where
-      back : drop 8 (lowBits 8 y ++ tail) ≡ tail
-      back = drop-at (lowBits 8 y) tail 8 (length-low 8 y)
-
       more : n < total → n < length out → Words total all (set out n y) tail (n + 1)
       more h l =
-          let k : total - n ≡ suc (total - (n + 1)) = omega arith in
-          let first : value 0 (take 8 (lowBits 8 y ++ tail)) ≡ y = ap (value 0) (take-at (lowBits 8 y) tail 8 (length-low 8 y)) ∙ low-back 8 y small in
-          let front : take (n + 1) (set out n y) ≡ take n out ++ (y ∷ []) = ap (λ (i : ℕ). take i (set out n y)) (add-one n) ∙ take-suc-set out n y l in
+          let k : total - n ≡ suc (total - suc n) = omega arith in
+          let eight = length-low 8 y in
           record {
             size = length-set out n y ∙ w .size;
             few = omega arith;
-            enough = omega (arith, length-append (lowBits 8 y) tail, length-low 8 y);
-            is = ap (λ (u : List ℕ). u ++ firstWords 8 (total - (n + 1)) tail) front ∙ append-assoc (take n out) (y ∷ []) (firstWords 8 (total - (n + 1)) tail)
-                ∙ sym (ap (λ (i : ℕ). take n out ++ firstWords 8 i (lowBits 8 y ++ tail)) k
-                ∙ ap₂ (λ (x : ℕ) (u : List ℕ). take n out ++ (x ∷ firstWords 8 (total - (n + 1)) u)) first back) ∙ w .is;
+            enough = omega (arith, length-append (lowBits 8 y) tail);
+            is = rw (add-one, take-suc-set, append-assoc)
+                (rw (k, take-at (lowBits 8 y) tail 8 eight, low-back 8 y small, drop-at (lowBits 8 y) tail 8 eight) at (w .is));
           }
 
 -- Bits pushed behind pending ones.
@@ -163,28 +133,20 @@ module _ {r : Run} (p : FewPending r) (w x : ℕ) (short : w ≤ 8) (hx : x < 2 
   shifted = mod-eq-of-lt (omega (arith, shifted-lt, pow-le-pow-right {n = 2} (lit< tt) {i = 8 + r .bits + w} {j = 23} (omega (arith, p .few))))
 
   pub sum-lt : r .value * 2 ^ w + x < 2 ^ (8 + (r .bits + w))
-  sum-lt =
-      let e : 8 + r .bits + w ≡ 8 + (r .bits + w) = omega arith in
-      subst (λ (n : ℕ). r .value * 2 ^ w + x < 2 ^ n) e
-      (subst (λ (n : ℕ). r .value * 2 ^ w + x < n) (sym (pow-add 2 (8 + r .bits) w)) (digits-lt (p .small) hx))
+  sum-lt = rw (← add-assoc 8 (r .bits) w, pow-add 2 (8 + r .bits) w) (digits-lt (p .small) hx)
 
   pub sum-small : r .value * 2 ^ w + x < 8388608
   sum-small = omega (arith, sum-lt, pow-le-pow-right {n = 2} (lit< tt) {i = 8 + (r .bits + w)} {j = 23} (omega (arith, p .few)))
 
   together : (rest : List ℕ) → lowBits (r .bits) (r .value) ++ (lowBits w x ++ rest) ≡ lowBits (r .bits + w) (r .value * 2 ^ w + x) ++ rest
-  together rest = sym (append-assoc (lowBits (r .bits) (r .value)) (lowBits w x) rest) ∙ ap (λ (l : List ℕ). l ++ rest) (low-join (r .bits) w (r .value) x hx)
+  together rest = rw (← append-assoc, low-join (r .bits) w (r .value) x hx)
 
   -- still fewer than eight
   pub few-pushed : {s : Run} {out : List ℕ} → s .value ≡ r .value * 2 ^ w + x → s .bits ≡ r .bits + w → s .n ≡ r .n → r .bits + w < 8
       → FewPending s × Pushed w x out out r s
   few-pushed {s} {out} v b n h = (
-    record { few = omega arith; small = subst (λ (k : ℕ). s .value < 2 ^ (8 + k)) (sym b) (subst (λ (y : ℕ). y < 2 ^ (8 + (r .bits + w))) (sym v) sum-lt) },
-    record {
-      go = λ total all rest k. record {
-        words = subst (λ (i : ℕ). Words total all out (lowBits (s .bits) (s .value) ++ rest) i) (sym n)
-            (same-words (together rest ∙ sym (ap₂ (λ (i j : ℕ). lowBits i j ++ rest) b v)) (k .words));
-      };
-    },
+    record { few = omega arith; small = rw (b, v) sum-lt },
+    record { go = λ total all rest k. record { words = rw (n, b, v, ← together rest) (k .words) } },
   )
 
   -- a codeword, and what is left
@@ -193,26 +155,12 @@ module _ {r : Run} (p : FewPending r) (w x : ℕ) (short : w ≤ 8) (hx : x < 2 
   full-pushed {s} {out} {out′} left l v b st = (
     record { few = omega arith; small = omega (arith, pow-le-pow-right {n = 2} (lit< tt) {i = 8} {j = 8 + s .bits} (omega arith)) },
     record {
-      go = λ total all rest k.
-          let e : lowBits (r .bits) (r .value) ++ (lowBits w x ++ rest) ≡ lowBits 8 y ++ (lowBits left z ++ rest) =
-          together rest ∙ ap (λ (n : ℕ). lowBits n u ++ rest) l ∙ ap (λ (q : List ℕ). q ++ rest) (low-apart left u (omega arith))
-          ∙ append-assoc (lowBits 8 y) (lowBits left z) rest in
-          let f : lowBits left z ++ rest ≡ lowBits (s .bits) (s .value) ++ rest = sym (ap₂ (λ (i j : ℕ). lowBits i j ++ rest) b v) in
-          record { words = same-words f (words-next y (lowBits left z ++ rest) (mod-lt (u / 2 ^ left) (lit< tt)) st (same-words e (k .words))) };
+      go = λ total all rest k. record {
+        words = rw (b, v) (words-next _ _ (mod-lt _ (lit< tt)) st
+            (rw (together rest, l, low-apart left (r .value * 2 ^ w + x) (omega arith), append-assoc) at (k .words)));
+      };
     },
   )
-    where
-      u : ℕ
-      u = r .value * 2 ^ w + x
-
-      y : ℕ
-      y = u / 2 ^ left % 256
-
-      z : ℕ
-      z = u % 256
-
-      byte : s .value < 256
-      byte = subst (λ (q : ℕ). q < 256) (sym v) (mod-lt u (lit< tt))
 
 -- The data bits from a place on.
 
@@ -234,25 +182,17 @@ module _ (m : ℕ → ℕ) (ks sq : List ℕ) (same : length sq ≤ length ks) w
   pub from-hits : (n i : ℕ) → i + n ≤ length sq → ((k : ℕ) → k < n → getD ks (i + k) 0 ≡ 0)
       → bitsFrom m ks sq i ≡ run n (λ k. bitXor (getD sq (i + k) 0) (m (i + k))) ++ bitsFrom m ks sq (i + n)
   unfolding run
-  from-hits zero i h z = let e : i ≡ i + 0 = omega arith in ap (bitsFrom m ks sq) e
+  from-hits zero i h z = rw add-zero
   from-hits (suc n) i h z =
-      let e : i ≡ i + 0 = omega arith in
-      let f : suc i + n ≡ i + suc n = omega arith in
-      let g : (k : ℕ) → suc i + k ≡ i + suc k = λ k. omega arith in
-      opened i (omega arith) ∙ hit i (getD ks i 0) (drop (suc i) ks) (drop (suc i) sq) (ap (λ (j : ℕ). getD ks j 0) e ∙ z 0 (omega arith))
-      ∙ ap₂ (λ (b : ℕ) (l : List ℕ). b ∷ l) (ap (λ (j : ℕ). bitXor (getD sq j 0) (m j)) e)
-      (from-hits n (suc i) (omega arith) (λ k l. ap (λ (j : ℕ). getD ks j 0) (g k) ∙ z (suc k) (omega arith))
-      ∙ ap₂ _++_
-      (run-ext n (λ k. bitXor (getD sq (suc i + k) 0) (m (suc i + k))) (λ k. bitXor (getD sq (i + suc k) 0) (m (i + suc k)))
-      (λ k. ap (λ (j : ℕ). bitXor (getD sq j 0) (m j)) (g k))) (ap (bitsFrom m ks sq) f))
+      let ih = from-hits n (suc i) (omega arith) (λ k l. simp suc-add (simp add-suc at (z (suc k) (omega arith)))) in
+      opened i (omega arith) ∙ hit i _ _ _ (simp add-zero at (z 0 (omega arith))) ∙ simp (add-zero, add-suc, simp suc-add at ih)
 
   -- n modules that are not
   pub from-misses : (n i : ℕ) → i + n ≤ length sq → ((k : ℕ) → i ≤ k → k < i + n → getD ks k 0 ≢ 0) → bitsFrom m ks sq i ≡ bitsFrom m ks sq (i + n)
-  from-misses zero i h z = let e : i ≡ i + 0 = omega arith in ap (bitsFrom m ks sq) e
+  from-misses zero i h z = rw add-zero
   from-misses (suc n) i h z =
-      let f : suc i + n ≡ i + suc n = omega arith in
-      opened i (omega arith) ∙ miss i (getD ks i 0) (drop (suc i) ks) (drop (suc i) sq) (z i (omega arith) (omega arith))
-      ∙ from-misses n (suc i) (omega arith) (λ k a b. z k (omega arith) (omega arith)) ∙ ap (bitsFrom m ks sq) f
+      rw (add-suc, ← suc-add) (opened i (omega arith) ∙ miss i _ _ _ (z i (omega arith) (omega arith))
+      ∙ from-misses n (suc i) (omega arith) (λ k a b. z k (omega arith) (omega arith)))
 
 -- From column to column.
 
@@ -272,29 +212,21 @@ module _ {ks sq row : List ℕ} (a : Masked sq row) (size : length sq ≡ length
   pub reads-push : {out out′ : List ℕ} {r s : Run} (n x : ℕ) → r .column + n ≤ length ks → ((k : ℕ) → k < n → getD ks (r .column + k) 0 ≡ 0)
       → x ≡ value 0 (run n (unmaskedAt sq row (r .column))) → s .column ≡ r .column + n → Pushed n x out out′ r s → ReadsColumns ks sq row out out′ r s
   reads-push {out} {out′} {r} {s} n x h z e f q = record {
-    go = λ total all rest k.
-        let b : rowBits ks sq row (r .column) ≡ lowBits n x ++ rowBits ks sq row (s .column) =
-        from-hits (λ k. getD row k 0) ks sq (omega arith) n (r .column) (omega arith) z
-        ∙ ap₂ _++_ (run-low n x (unmaskedAt sq row (r .column)) (bits-small a (r .column)) (sym e)) (ap (rowBits ks sq row) (sym f)) in
-        q .go total all (rowBits ks sq row (s .column) ++ rest)
-        (subst (λ (l : List ℕ). Walk total all out l r) (ap (λ (l : List ℕ). l ++ rest) b ∙ append-assoc (lowBits n x) (rowBits ks sq row (s .column)) rest) k);
+    go = λ total all rest k. q .go total all (rowBits ks sq row (s .column) ++ rest)
+        (rw (run-low n x (unmaskedAt sq row (r .column)) (bits-small a (r .column)) (sym e), ← f, append-assoc)
+        at (rw (from-hits (λ k. getD row k 0) ks sq (omega arith) n (r .column) (omega arith) z) at k));
   }
 
   -- modules that are no data passed
   pub reads-skip : {out : List ℕ} {r s : Run} → Skipped ks (r .column) (s .column)
       → s .n ≡ r .n → s .value ≡ r .value → s .bits ≡ r .bits → ReadsColumns ks sq row out out r s
   reads-skip {out} {r} {s} q n v b = record {
-    go = λ total all rest k. record {
-      words = subst (λ (i : ℕ). Words total all out (lowBits (s .bits) (s .value) ++ (rowBits ks sq row (s .column) ++ rest)) i) (sym n)
-          (same-words (ap₂ (λ (l t : List ℕ). l ++ (t ++ rest)) (sym (ap₂ lowBits b v)) passed) (k .words));
-    };
+    go = λ total all rest k.
+        let e : r .column + (s .column - r .column) ≡ s .column = omega arith in
+        let passed = from-misses (λ k. getD row k 0) ks sq (omega arith) (s .column - r .column) (r .column) (omega arith)
+        (λ k l h. q .none k l (omega arith)) in
+        record { words = rw (n, b, v) (rw (passed, e) at (k .words)) };
   }
-    where
-      passed : rowBits ks sq row (r .column) ≡ rowBits ks sq row (s .column)
-      passed =
-          let e : r .column + (s .column - r .column) ≡ s .column = omega arith in
-          from-misses (λ k. getD row k 0) ks sq (omega arith) (s .column - r .column) (r .column) (omega arith) (λ k l h. q .none k l (omega arith))
-          ∙ ap (rowBits ks sq row) e
 
 pub reads-none : {ks sq row out : List ℕ} {r : Run} → ReadsColumns ks sq row out out r r
 reads-none = record { go = λ total all rest k. k }

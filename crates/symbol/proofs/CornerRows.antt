@@ -1,7 +1,7 @@
 -- The rows of the corners, stretch by stretch.
-use Rattle.general.proofs.Names.{_≡_, refl, sym, ap, subst, _∙_, Bool, true, false, cond, List, [], ℕ, suc, _+_, _-_, _*_, _/_, _%_, _^_, _<_, _≤_, arith}
-use Rattle.general.proofs.Names.{mul-le-mul-right, mul-div-mul-left, pow-succ', suc-mul, zero-div, le-div-iff-mul-le, div-lt-iff-lt-mul, decLt, add-one, T}
-use Rattle.general.proofs.Names.{ltb, ltb→lt, lit<, length, getD, set, length-set, lt-ltb, le-ltb, ltb-true, ltb-false, ne-eqb}
+use Rattle.general.proofs.Names.{_≡_, refl, sym, ap, _∙_, cond, List, [], ℕ, suc, _+_, _-_, _*_, _/_, _%_, _^_, _<_, _≤_, arith, mul-le-mul-right}
+use Rattle.general.proofs.Names.{mul-div-mul-left, pow-succ', suc-mul, zero-div, le-div-iff-mul-le, div-lt-iff-lt-mul, decLt, add-one, T, ltb, ltb→lt, lit<}
+use Rattle.general.proofs.Names.{length, getD, set, length-set, lt-ltb, le-ltb, ne-eqb}
 use lib.Arith.{digits-div, digits-mod}
 use Rattle.symbol.specs.Layout.{finders, edge, ring, half, within, finderRow, finderAt, cornerAt}
 use Rattle.symbol.specs.Inner.{Stored, RowRoom, Ends, UpTo, Beyond, cornerKind}
@@ -16,20 +16,15 @@ rows-small = tt
 
 pub row-small : (corner row : ℕ) → corner < 4 → row < 7 → getD (getD finders corner []) row 0 < 128
 row-small corner row h g =
-    let n : 7 * corner + row < 28 = omega arith in
     let p : (7 * corner + row) / 7 ≡ corner = omega arith in
     let q : (7 * corner + row) % 7 ≡ row = omega arith in
     let t : getD (getD finders ((7 * corner + row) / 7) []) ((7 * corner + row) % 7) 0 < 128 =
-    ltb→lt _ _ (every (λ n. ltb (getD (getD finders (n / 7) []) (n % 7) 0) 128) 28 rows-small (7 * corner + row) n) in
+    ltb→lt _ _ (every (λ n. ltb (getD (getD finders (n / 7) []) (n % 7) 0) 128) 28 rows-small (7 * corner + row) (omega arith)) in
     rw (p, q) at t
 
 -- by the test a < b
 by-lt : (P : ℕ → Type 0) (a b x y : ℕ) → (a < b → P x) → (b ≤ a → P y) → P (cond (ltb a b) x y)
-by-lt P a b x y f g = go (ltb a b) refl
-  where
-    go : (t : Bool) → ltb a b ≡ t → P (cond t x y)
-    go true e = f (ltb-true a b e)
-    go false e = g (ltb-false a b e)
+by-lt P a b x y f g = elim (decLt a b) [ yes h ↦ rw (lt-ltb a b h) (f h) | no h ↦ rw (le-ltb a b (omega arith)) (g (omega arith)) ]
 
 pub edge-near : (s i : ℕ) → i < s - 1 - i → edge s i ≡ i
 unfolding edge
@@ -107,64 +102,51 @@ pub along : (s r : ℕ) (f : ℕ → ℕ) {from to : ℕ} → r * s ≤ from →
     → (i : ℕ) → from ≤ i → i < to → f i ≡ cornerKind s i
 along s r f {from} {to} a b k i h g =
     let e : r * s + (i - r * s) ≡ i = omega arith in
-    let t : f (r * s + (i - r * s)) ≡ cornerKind s (r * s + (i - r * s)) =
-    k (i - r * s) (omega arith) (omega arith) ∙ sym (row-kind s r (i - r * s) (omega arith)) in
-    subst (λ (n : ℕ). f n ≡ cornerKind s n) e t
+    rw e at (k (i - r * s) (omega arith) (omega arith) ∙ sym (row-kind s r (i - r * s) (omega arith)))
 
 pub row-end : (s r : ℕ) → r < s → r * s + s ≤ s * s
-row-end s r h = subst (λ (n : ℕ). n ≤ s * s) (suc-mul r s) (mul-le-mul-right s h)
+row-end s r h = rw suc-mul at (mul-le-mul-right s h)
 
 pub row-room : {s r : ℕ} {g : List ℕ} → 23 ≤ s → s ≤ 189 → s * s ≤ length g → r < s → RowRoom s r g
 row-room {s} {r} a b e h =
     record { big = a; small = b; inside = h; room = omega (arith, row-end s r h); fits = omega (arith, row-end s r h, square-le s b) }
 
 module _ (s r : ℕ) (big : 23 ≤ s) (in-row : r < s) where
-  near-column : (c : ℕ) → c ≤ 8 → edge s c ≡ c
-  near-column c h = edge-near s c (omega arith)
-
-  far-column : (k : ℕ) → k ≤ 8 → edge s (s - 1 - k) ≡ k
-  far-column k h = edge-far s (s - 1 - k) (omega arith) ∙ (let e : s - 1 - (s - 1 - k) ≡ k = omega arith in e)
-
   pub data-column : (c : ℕ) → 9 ≤ c → c + 9 < s → cornerAt s r c ≡ 0
   data-column c h g = in-data-column s r c (edge-mid s c 9 h g)
 
   -- in the row of the information arms
   module _ (arm : edge s r ≡ 8) where
     pub arm-left : (c : ℕ) → c < 9 → cornerAt s r c ≡ 1
-    arm-left c h = in-information s r c (omega arith) (omega (arith, near-column c (omega arith))) (λ z. absurd (omega arith))
+    arm-left c h = in-information s r c (omega arith) (omega (arith, edge-near s c (omega arith))) (λ z. absurd (omega arith))
 
     pub arm-right : (c : ℕ) → s ≤ c + 9 → c < s → cornerAt s r c ≡ 1
-    arm-right c h g =
-        let e : s - 1 - (s - 1 - c) ≡ c = omega arith in
-        let d : edge s c ≡ s - 1 - c = ap (edge s) (sym e) ∙ far-column (s - 1 - c) (omega arith) in
-        in-information s r c (omega arith) (omega arith) (λ z. absurd (omega arith))
+    arm-right c h g = in-information s r c (omega arith) (omega (arith, edge-far s c (omega arith))) (λ z. absurd (omega arith))
 
   -- in a row of the finders and their separators: the modules of a row byte
   module _ (near : edge s r < 8) where
     pub left-information : cornerAt s r 8 ≡ 1
-    left-information = let d = near-column 8 (omega arith) in in-information s r 8 (omega arith) (omega arith) (λ z. d)
+    left-information = let d = edge-near s 8 (omega arith) in in-information s r 8 (omega arith) (omega arith) (λ z. d)
 
     pub right-information : cornerAt s r (s - 9) ≡ 1
     right-information =
-        let e : s - 1 - 8 ≡ s - 9 = omega arith in
-        let d : edge s (s - 9) ≡ 8 = ap (edge s) (sym e) ∙ far-column 8 (omega arith) in
+        let d : edge s (s - 9) ≡ 8 = omega (arith, edge-far s (s - 9) (omega arith)) in
         in-information s r (s - 9) (omega arith) (omega arith) (λ z. d)
 
     -- a row byte of a finder, or 0 in the row of the separators
     module _ (bits side : ℕ) (small : bits < 128) (row : edge s r < 7 → bits ≡ finderRow s side r) (none : edge s r ≡ 7 → bits ≡ 0) where
       separator-row : (c n : ℕ) → edge s c ≤ 7 → edge s r ≡ 7 → (b : ℕ) → b ≡ 0 → 2 + b / n % 2 ≡ cornerAt s r c
-      separator-row c n h e b z =
-          ap (λ (k : ℕ). 2 + k / n % 2) z ∙ ap (λ (k : ℕ). 2 + k % 2) (zero-div n) ∙ sym (in-separator s r c (omega arith) h (λ l. absurd (omega arith)))
+      separator-row c n h e b z = rw (z, zero-div n) (sym (in-separator s r c (omega arith) h (λ l. absurd (omega arith))))
 
       pub left-modules : side ≡ 0 → (c : ℕ) → c < 8 → 2 + 2 * bits / 2 ^ (7 - c) % 2 ≡ cornerAt s r c
       unfolding finderAt half within
-      left-modules z c h = elim (decLt (edge s r) 7) [ yes l ↦ elim (decLt c 7) [ yes k ↦ finder l k | no k ↦ last l (omega arith) ] | no l ↦ light (omega arith) ]
+      left-modules z c h = elim (decLt (edge s r) 7) [
+        | yes l ↦ elim (decLt c 7) [ yes k ↦ finder l k | no k ↦ last l (omega arith) ]
+        | no l ↦ (let e : edge s r ≡ 7 = omega arith in separator-row c (2 ^ (7 - c)) (omega (arith, d)) e (2 * bits) (omega (arith, none e)))
+      ]
         where
           d : edge s c ≡ c
-          d = near-column c (omega arith)
-
-          light : edge s r ≡ 7 → 2 + 2 * bits / 2 ^ (7 - c) % 2 ≡ cornerAt s r c
-          light e = separator-row c (2 ^ (7 - c)) (omega (arith, d)) e (2 * bits) (omega (arith, none e))
+          d = edge-near s c (omega arith)
 
           last : edge s r < 7 → c ≡ 7 → 2 + 2 * bits / 2 ^ (7 - c) % 2 ≡ cornerAt s r c
           last l k =
@@ -175,20 +157,18 @@ module _ (s r : ℕ) (big : 23 ≤ s) (in-row : r < s) where
           finder : edge s r < 7 → c < 7 → 2 + 2 * bits / 2 ^ (7 - c) % 2 ≡ cornerAt s r c
           finder l k =
               let e : 7 - c ≡ suc (6 - c) = omega arith in
-              ap (λ (n : ℕ). 2 + 2 * bits / n % 2) (ap (λ (n : ℕ). 2 ^ n) e ∙ pow-succ' 2 (6 - c))
-              ∙ ap (λ (n : ℕ). 2 + n % 2) (mul-div-mul-left bits (2 ^ (6 - c)) (lit< tt))
-              ∙ ap (λ (n : ℕ). 2 + n / 2 ^ (6 - c) % 2) (row l ∙ ap (λ (n : ℕ). finderRow s n r) z)
-              ∙ sym (in-finder s r c l (omega (arith, d)) ∙ simp (lt-ltb c 7 k))
+              rw (e, pow-succ' 2 (6 - c), mul-div-mul-left bits (2 ^ (6 - c)) (lit< tt), row l, z)
+              (sym (in-finder s r c l (omega (arith, d)) ∙ simp (lt-ltb c 7 k)))
 
       pub right-modules : side ≡ 1 → (c k : ℕ) → c ≡ s - 8 + k → k < 8 → 2 + bits / 2 ^ (7 - k) % 2 ≡ cornerAt s r c
       unfolding finderAt half within
-      right-modules z c k f h = elim (decLt (edge s r) 7) [ yes l ↦ elim (decLt 0 k) [ yes i ↦ finder l i | no i ↦ first l (omega arith) ] | no l ↦ light (omega arith) ]
+      right-modules z c k f h = elim (decLt (edge s r) 7) [
+        | yes l ↦ elim (decLt 0 k) [ yes i ↦ finder l i | no i ↦ first l (omega arith) ]
+        | no l ↦ (let e : edge s r ≡ 7 = omega arith in separator-row c (2 ^ (7 - k)) (omega (arith, d)) e bits (none e))
+      ]
         where
           d : edge s c ≡ 7 - k
-          d = let e : s - 1 - (7 - k) ≡ c = omega arith in ap (edge s) (sym e) ∙ far-column (7 - k) (omega arith)
-
-          light : edge s r ≡ 7 → 2 + bits / 2 ^ (7 - k) % 2 ≡ cornerAt s r c
-          light e = separator-row c (2 ^ (7 - k)) (omega (arith, d)) e bits (none e)
+          d = omega (arith, edge-far s c (omega arith))
 
           first : edge s r < 7 → k ≡ 0 → 2 + bits / 2 ^ (7 - k) % 2 ≡ cornerAt s r c
           first l e =
@@ -198,13 +178,7 @@ module _ (s r : ℕ) (big : 23 ≤ s) (in-row : r < s) where
           finder : edge s r < 7 → 0 < k → 2 + bits / 2 ^ (7 - k) % 2 ≡ cornerAt s r c
           finder l i =
               let e : 6 - (c - (s - 7)) ≡ 7 - k = omega arith in
-              ap (λ (n : ℕ). 2 + n / 2 ^ (7 - k) % 2) (row l ∙ ap (λ (n : ℕ). finderRow s n r) z)
-              ∙ ap (λ (n : ℕ). 2 + finderRow s 1 r / 2 ^ n % 2) (sym e)
-              ∙ sym (in-finder s r c l (omega (arith, d)) ∙ simp (le-ltb c 7 (omega arith)))
-
--- one row more
-row-next : (s r : ℕ) → r * s + s ≡ (r + 1) * s
-row-next s r = sym (suc-mul r s) ∙ ap (λ (n : ℕ). n * s) (sym (add-one r))
+              rw (row l, z, ← e) (sym (in-finder s r c l (omega (arith, d)) ∙ simp (le-ltb c 7 (omega arith))))
 
 -- a row of the corners from its ends
 module _ (s r : ℕ) (big : 23 ≤ s) (in-row : r < s) where
@@ -288,7 +262,7 @@ module _ (s r : ℕ) (big : 23 ≤ s) (in-row : r < s) where
       → Ends (cornerKind s) (r * s) (r * s + s) g g'
       → UpTo (cornerKind s) (s * s) ((r + 1) * s) g' × Beyond (s * s) g₀ g'
   row-more {g₀} {g} {g'} u e = (
-    subst (λ (n : ℕ). UpTo (cornerKind s) (s * s) n g') (row-next s r) (row-done (u .0) e),
+    rw (add-one r, suc-mul) (row-done (u .0) e),
     record { size = e .size ∙ u .1 .size; after = λ i h. e .after i (omega (arith, row-end s r in-row)) ∙ u .1 .after i h },
   )
 
@@ -298,20 +272,13 @@ data-rows s big {g} u =
     record {
       done = λ i h. elim (decLt i (9 * s)) [
         | yes l ↦ u .done i l
-        | no l ↦ u .blank i (omega arith) (omega (arith, mul-le-mul-right s (let z : s - 9 ≤ s = omega arith in z)))
-            ∙ sym (in-data-row s (i / s) (i % s) (edge-mid s (i / s) 9 (low i (omega arith)) (omega (arith, high i h))))
+        | no l ↦ (let low : 9 ≤ i / s = le-div-iff-mul-le {k = s} {x = 9} {y = i} (omega arith) .1 (omega arith) in
+            let high : i / s < s - 9 = div-lt-iff-lt-mul {k = s} {x = i} {y = s - 9} (omega arith) .1 h in
+            u .blank i (omega arith) (omega (arith, mul-le-mul-right s (let z : s - 9 ≤ s = omega arith in z)))
+            ∙ sym (in-data-row s (i / s) (i % s) (edge-mid s (i / s) 9 low (omega arith))))
       ];
       blank = λ i h k. u .blank i (omega (arith, mul-le-mul-right s (let z : 9 ≤ s - 9 = omega arith in z))) k;
     }
-  where
-    pos-side : 0 < s
-    pos-side = omega arith
-
-    low : (i : ℕ) → 9 * s ≤ i → 9 ≤ i / s
-    low i h = le-div-iff-mul-le {k = s} {x = 9} {y = i} pos-side .1 h
-
-    high : (i : ℕ) → i < (s - 9) * s → i / s < s - 9
-    high i h = div-lt-iff-lt-mul {k = s} {x = i} {y = s - 9} pos-side .1 h
 
 -- the rows of the information arms, and those between them
 pub upper-arm : (s : ℕ) → 23 ≤ s → edge s 8 ≡ 8
@@ -327,7 +294,7 @@ middle-rows s big {g₁} {g₂} {g₃} {g₄} u a b =
     let p = row-more s 8 big (omega arith) u a in
     let q = row-more s (s - 9) big (omega arith) (data-rows s big (p .0), p .1) b in
     let e : s - 9 + 1 ≡ s - 8 = omega arith in
-    (subst (λ (n : ℕ). UpTo (cornerKind s) (s * s) (n * s) g₄) e (q .0), q .1)
+    (rw e at (q .0), q .1)
 
 pub all-blank : (f : ℕ → ℕ) (n m : ℕ) {g g' : List ℕ} → m ≡ 0 → Stored (λ i. 0) 0 n g g' → UpTo f n m g'
 all-blank f n m e s = record { done = λ i h. absurd (omega arith); blank = λ i h k. s .here i (omega arith) k }
