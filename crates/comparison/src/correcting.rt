@@ -1,8 +1,8 @@
 // The field, Correct a block and the parity of a block for the comparison with the Rust.
 ghost use mathlib.Core.Path.{_≡_};
-ghost use Prim.Native.Nat.{ℕ, _%_};
+ghost use Prim.Native.Nat.{_%_};
 ghost use Rattle.field.specs.Field.{power, mul};
-ghost use Rattle.corrector.specs.Correct.{BlockOutcome, correctOf};
+ghost use Rattle.corrector.specs.Correct.{correctOf};
 ghost use Rattle.parity.specs.Encode.{encodeOf};
 ghost use Rattle.comparison.specs.Correcting.{outcomeOf, encodingOf, IsQuotient};
 use corrector::Correction;

@@ -113,9 +113,6 @@ module _ {s p : List ℕ} {n : ℕ} {t : List ℕ} {i j a : ℕ} (h : length s �
   unfolding encodings flatMap
   place-is = rw (nothing, add-zero) at (d .place)
 
-  pub end-room : a ≤ 8 * n
-  end-room = let l = place-is in let m = d .fits .room in omega arith
-
   -- zeros behind
   pub ended : (u : List ℕ) → ((k : ℕ) → getD u k 0 < 256) → bitsOf u ≡ take a (bitsOf t) ++ replicate (8 * n - a) 0
       → u ≡ scriptData n (commandsOf s p)

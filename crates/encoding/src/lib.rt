@@ -7,13 +7,12 @@ ghost use mathlib.Core.List.{_++_};
 ghost use Prim.Native.Nat.{_+_, _-_, _*_, _/_, _<_, _≤_};
 ghost use lib.ListN.{length, getD, take, drop, replicate};
 ghost use Rattle.bits.specs.Bits.{bitsOf, lowBits, wordBits};
-ghost use Rattle.script.specs.Writer.{isDigit, numericWords, modeHas, modeBits, eciBits, encodingOf};
+ghost use Rattle.script.specs.Writer.{numericWords, modeHas, encodingOf};
 ghost use Rattle.script.specs.Characters.{wordsOf, hasAll, widthOf, switchOf, endOf, beginsIn};
 ghost use Rattle.segments.specs.Script.{run, eci};
 ghost use Rattle.script.specs.Check.{commandsOf};
 ghost use Rattle.script.specs.Inner.{Fits, scriptData};
 ghost use Rattle.encoding.specs.Written.{Written, WordsLeft, groupAt};
-ghost use Rattle.general.specs.Lists.{all};
 
 // Writes the n low bits of a number, and says where the next go.
 fn put(buf: &mut [u8], at: usize, n: usize, v: usize) -> usize

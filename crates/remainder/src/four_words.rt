@@ -3,7 +3,6 @@ ghost use mathlib.Core.Path.{_≡_};
 ghost use Prim.Native.Nat.{_+_, _-_, _*_, _/_, _%_, _^_, _≤_, _<_};
 ghost use lib.ListN.{length, getD};
 ghost use Rattle.remainder.specs.Words.{rowAt, sumOf, doubleOf, doubledOf, movedOf, Put, wordAt, byteAt, Kept};
-ghost use Rattle.general.specs.Each.{Each};
 use crate::Register;
 
 // A row of a table.

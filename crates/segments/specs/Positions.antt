@@ -14,7 +14,7 @@ use Rattle.segments.specs.declared.Region.the-variants.{End, Switch, Cut
 use Rattle.segments.specs.declared.Step.{Step}
 use Rattle.segments.specs.declared.Step.the-variants.{On, Cut as StepCut, Lacking as StepLacking}
 use Rattle.segments.specs.Script.{Segment, run, eci, bytesOf, commandOf, payloadOf, scriptOf}
-use Rattle.segments.specs.Segments.{Fault, cut, lacking, Result, failed, got, before, groupsOf, numericOf, textOf, bytesMode, regionOf}
+use Rattle.segments.specs.Segments.{Fault, cut, lacking, Result, failed, got, before, numericOf, textOf, bytesMode, regionOf}
 use Rattle.segments.specs.Segments.{doubleByteOf, fourByteOf, bytesOfMode, Ending, endMark, fewBits, broken, Parsed}
 
 -- the command of n payload bytes in a mode
@@ -32,9 +32,6 @@ behind w i n o (failed bad) = stopped bad
 behind w i n o (got bs u) = at (i + w * u) (n + length bs) (sets o n bs)
 
 -- the states of the modes, from a position on
-abbrev pub groupsAt : List ℕ → ℕ → ℕ → List ℕ → ℕ → State
-groupsAt s i n o p = behind 10 i n o (groupsOf p (words 10 (drop i (bitsOf s))))
-
 abbrev pub numericAt : List ℕ → ℕ → ℕ → List ℕ → State
 numericAt s i n o = behind 10 i n o (numericOf (words 10 (drop i (bitsOf s))))
 

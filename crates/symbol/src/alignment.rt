@@ -2,8 +2,7 @@
 ghost use mathlib.Core.Path.{_≡_};
 ghost use mathlib.Core.Bool.{cond};
 ghost use Prim.Native.Nat.{_+_, _-_, _*_, _%_, _≤_, _<_};
-ghost use Rattle.symbol.specs.Version as version;
-ghost use Rattle.symbol.specs.Layout.{edge, stepOf, mOf, lineOf, rowLine, columnLine, assistant, rowEnds, columnEnds, crossing, crossings, alignment};
+ghost use Rattle.symbol.specs.Layout.{stepOf, mOf, lineOf, rowLine, columnLine, rowEnds, columnEnds, crossing, crossings, alignment};
 ghost use Rattle.symbol.specs.Inner.{Plotted, Spaced, FitsSquare, Inside};
 ghost use Rattle.general.specs.Lists.{each};
 use crate::Spacing;

@@ -5,9 +5,8 @@ ghost use Prim.Native.Nat.{ℕ, _+_, _-_, _*_, _%_, _≤_, _<_};
 ghost use lib.ListN.{length, getD};
 ghost use lib.IntN.{pos};
 ghost use lib.Signed.{mag};
-ghost use Rattle.symbol.specs.Layout.{edge, plot, when, odd, threeAt, assistant, lineModule, lineLeft, lineDown};
+ghost use Rattle.symbol.specs.Layout.{plot, when, odd, threeAt, assistant, lineModule, lineLeft, lineDown};
 ghost use Rattle.symbol.specs.Inner.{Stored, Plotted, FitsSquare, Inside, drawn};
-ghost use Rattle.general.specs.Lists.{each};
 use crate::Spacing;
 
 // Gives a place of the square its kind while it is data.

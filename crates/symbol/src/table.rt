@@ -1,8 +1,4 @@
 // k and m of each version, and the rows of the finders.
-ghost use Prim.Native.Nat.{_-_, _*_};
-ghost use Rattle.symbol.specs.Version as version;
-ghost use Rattle.symbol.specs.Layout.{finders};
-ghost use Rattle.general.specs.Lists.{each};
 
 // k and m of each version (han_xin.rs: `MODULE_K`, `MODULE_M`); its `MODULE_R` is side - m * k.
 pub const MODULE_K: [u8; 84] = [

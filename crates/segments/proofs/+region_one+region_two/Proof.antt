@@ -1,5 +1,5 @@
 -- `region_one` and `region_two` call each other at a switch; the bits left fall by twelve each time.
-use Rattle.general.proofs.Names.{ℕ, _<_, _-_, _*_, _∙_, arith, needs, length}
+use Rattle.general.proofs.Names.{ℕ, _<_, _-_, _*_, arith, needs, length}
 use borrow.Fn.Kinds.{In}
 use borrow.Fn.PlainCycle.{Measures, is, falls, and}
 use Rattle.segments.specs.Positions.{countOf}
