@@ -147,7 +147,8 @@ hx_status hx_read_square(const uint8_t *square, size_t square_length, size_t sid
 hx_status hx_read_known(const uint8_t *square, size_t square_length, size_t version, size_t level, size_t mask, uint8_t *payload,
                         size_t payload_length, uint8_t *script, size_t script_length, uint8_t *receipt, size_t receipt_length);
 
-/* Writes a mark: all modules of the square.
+/* Writes a mark: all modules of the square. Data modules behind the last codeword, 1 to 7 in each version, are zero bits under the
+ * mask; reading ignores them.
  *   version, level, mask      1 to 84, 0 to 3, 0 to 3
  *   script, script_length     the commands
  *   payload, payload_length   the bytes that the commands take

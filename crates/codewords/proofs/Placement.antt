@@ -1,6 +1,6 @@
 -- Data bits into the data modules of a square and out of them.
-use Rattle.general.proofs.Names.{_≡_, refl, sym, ap, ap₂, _∙_, List, [], _∷_, ℕ, zero, suc, _<_, _≤_, le-of-suc-le-suc, arith, length, getD, take, bitXor}
-use Rattle.general.proofs.Names.{xor-self, xor-zero-r}
+use Rattle.general.proofs.Names.{_≡_, refl, sym, ap, ap₂, _∙_, List, [], _∷_, ℕ, zero, suc, _+_, _<_, _≤_, le-of-suc-le-suc, add-zero, add-suc, suc-add, arith}
+use Rattle.general.proofs.Names.{length, getD, take, bitXor, xor-self, xor-zero-r}
 use Rattle.general.proofs.Xor.{xor-assoc}
 use Rattle.symbol.specs.Layout.{dataModules}
 use Rattle.symbol.proofs.DataModules.{module-miss}
@@ -30,17 +30,37 @@ module _ (m : ℕ → ℕ) where
   length-placed i (suc (suc zero) ∷ ks) ds = ap suc (length-placed (suc i) ks ds)
   length-placed i (suc (suc (suc k)) ∷ ks) ds = ap suc (length-placed (suc i) ks ds)
 
-  -- squares that agree on the data modules have the same data bits
-  pub data-agree : (i : ℕ) (ks a b : List ℕ) → length a ≡ length b → ((p : ℕ) → p < length ks → getD ks p 0 ≡ 0 → getD a p 0 ≡ getD b p 0)
-      → dataBits m i ks a ≡ dataBits m i ks b
-  unfolding dataBits
-  data-agree i [] a b e h = refl
-  data-agree i (k ∷ ks) [] [] e h = refl
-  data-agree i (k ∷ ks) [] (y ∷ b) e h = absurd (omega arith)
-  data-agree i (k ∷ ks) (x ∷ a) [] e h = absurd (omega arith)
-  data-agree i (zero ∷ ks) (x ∷ a) (y ∷ b) e h =
-      ap₂ _∷_ (ap (λ (z : ℕ). bitXor z (m i)) (h 0 (omega arith) refl)) (data-agree (suc i) ks a b (omega arith) (λ p l. h (suc p) (omega arith)))
-  data-agree i (suc k ∷ ks) (x ∷ a) (y ∷ b) e h = data-agree (suc i) ks a b (omega arith) (λ p l. h (suc p) (omega arith))
+  -- a data module behind the last bit is a zero bit under the mask
+  pub placed-leftover : (i : ℕ) (ks ds : List ℕ) (p : ℕ) → p < length ks → getD ks p 0 ≡ 0 → length ds ≤ dataModules (take p ks)
+      → getD (placed m i ks ds) p 0 ≡ m (i + p)
+  unfolding placed dataModules
+  placed-leftover i [] ds p l z h = absurd (omega arith)
+  placed-leftover i (zero ∷ ks) [] zero l z h = rw add-zero
+  placed-leftover i (zero ∷ ks) (d ∷ ds) zero l z h = absurd (omega arith)
+  placed-leftover i (suc k ∷ ks) ds zero l z h = absurd (omega arith)
+  placed-leftover i (zero ∷ ks) [] (suc p) l z h = rw (add-suc, ← suc-add) (placed-leftover (suc i) ks [] p (omega arith) z (omega arith))
+  placed-leftover i (zero ∷ ks) (d ∷ ds) (suc p) l z h = rw (add-suc, ← suc-add) (placed-leftover (suc i) ks ds p (omega arith) z (omega arith))
+  placed-leftover i (suc zero ∷ ks) ds (suc p) l z h = rw (add-suc, ← suc-add) (placed-leftover (suc i) ks ds p (omega arith) z h)
+  placed-leftover i (suc (suc zero) ∷ ks) ds (suc p) l z h = rw (add-suc, ← suc-add) (placed-leftover (suc i) ks ds p (omega arith) z h)
+  placed-leftover i (suc (suc (suc k)) ∷ ks) ds (suc p) l z h =
+      rw (add-suc, ← suc-add) (placed-leftover (suc i) ks ds p (omega arith) z (rw (module-miss (suc (suc (suc k))) (take p ks) (λ z. omega arith)) at h))
+
+  -- squares that agree on the first n data modules have the same first n data bits
+  pub data-agree : (n i : ℕ) (ks a b : List ℕ) → length a ≡ length b
+      → ((p : ℕ) → p < length ks → getD ks p 0 ≡ 0 → dataModules (take p ks) < n → getD a p 0 ≡ getD b p 0)
+      → take n (dataBits m i ks a) ≡ take n (dataBits m i ks b)
+  unfolding dataBits dataModules
+  data-agree zero i ks a b e h = refl
+  data-agree (suc n) i [] a b e h = refl
+  data-agree (suc n) i (k ∷ ks) [] [] e h = refl
+  data-agree (suc n) i (k ∷ ks) [] (y ∷ b) e h = absurd (omega arith)
+  data-agree (suc n) i (k ∷ ks) (x ∷ a) [] e h = absurd (omega arith)
+  data-agree (suc n) i (zero ∷ ks) (x ∷ a) (y ∷ b) e h =
+      ap₂ _∷_ (ap (λ (z : ℕ). bitXor z (m i)) (h 0 (omega arith) refl (omega arith)))
+      (data-agree n (suc i) ks a b (omega arith) (λ p l z q. h (suc p) (omega arith) z (omega arith)))
+  data-agree (suc n) i (suc k ∷ ks) (x ∷ a) (y ∷ b) e h =
+      data-agree (suc n) (suc i) ks a b (omega arith)
+      (λ p l z q. h (suc p) (omega arith) z (rw (module-miss (suc k) (take p ks) (λ z. omega arith)) q))
 
   -- as many as data modules among the kinds of the square
   pub length-data : (i : ℕ) (ks sq : List ℕ) → length (dataBits m i ks sq) ≡ dataModules (take (length sq) ks)

@@ -1,5 +1,5 @@
 -- Bits stay bits and bytes stay bytes on the way from a square to its stream and back.
-use Rattle.general.proofs.Names.{sym, subst, List, [], _∷_, ℕ, zero, suc, _+_, _-_, _<_, arith, decLt, xor-lt, lit<, length, getD, set, drop, replicate}
+use Rattle.general.proofs.Names.{sym, subst, List, [], _∷_, ℕ, zero, suc, _+_, _<_, arith, decLt, xor-lt, lit<, length, getD, set, drop, replicate}
 use Rattle.general.proofs.Names.{getD-replicate, length-replicate, List·getD-eq-default, getD-drop}
 use Rattle.symbol.proofs.KindsLow.{set-any}
 use Rattle.bits.specs.Bits.{bitsOf, groups, firstWords, storeAt}
@@ -23,7 +23,7 @@ module _ (m : ℕ → ℕ) (small : (i : ℕ) → m i < 2) where
   pub placed-below : (i : ℕ) (ks ds : List ℕ) → Below 2 ds → Below 2 (placed m i ks ds)
   unfolding placed
   placed-below i [] ds h j = omega arith
-  placed-below i (zero ∷ ks) [] h zero = omega arith
+  placed-below i (zero ∷ ks) [] h zero = xor-lt 1 0 (m i) (omega arith) (small i)
   placed-below i (zero ∷ ks) [] h (suc j) = placed-below (suc i) ks [] h j
   placed-below i (zero ∷ ks) (d ∷ ds) h zero = xor-lt 1 d (m i) (h 0) (small i)
   placed-below i (zero ∷ ks) (d ∷ ds) h (suc j) = placed-below (suc i) ks ds (λ n. h (suc n)) j

@@ -28,10 +28,10 @@ dataBits m i (k ∷ ks) [] = []
 dataBits m i (zero ∷ ks) (b ∷ sq) = bitXor b (m i) ∷ dataBits m (suc i) ks sq
 dataBits m i (suc k ∷ ks) (b ∷ sq) = dataBits m (suc i) ks sq
 
--- a square of data bits: leftover data modules are light, and the information modules too until the word is written
+-- a square of data bits: leftover data modules are written as zero bits under the mask; information modules are light until the word is written
 unfoldable pub placed : (ℕ → ℕ) → ℕ → List ℕ → List ℕ → List ℕ
 placed m i [] ds = []
-placed m i (zero ∷ ks) [] = 0 ∷ placed m (suc i) ks []
+placed m i (zero ∷ ks) [] = bitXor 0 (m i) ∷ placed m (suc i) ks []
 placed m i (zero ∷ ks) (d ∷ ds) = bitXor d (m i) ∷ placed m (suc i) ks ds
 placed m i (suc zero ∷ ks) ds = 0 ∷ placed m (suc i) ks ds
 placed m i (suc (suc zero) ∷ ks) ds = 0 ∷ placed m (suc i) ks ds

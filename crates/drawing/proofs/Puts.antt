@@ -1,8 +1,8 @@
 -- Bits into data modules.
 use Rattle.general.proofs.Names.{_≡_, refl, ap, _∙_, sym, _≢_, List, [], _∷_, _++_, append-assoc, append-nil, ℕ, zero, suc, _+_, _-_, _*_, _/_, _%_, _^_, _<_}
-use Rattle.general.proofs.Names.{_≤_, add-one, add-zero, zero-add, add-suc, suc-add, arith, decLt, ℕ-discrete, T, eqb, eqb→eq, length, getD, take, drop, set}
-use Rattle.general.proofs.Names.{length-set, length-append, drop-of-length-le, sets, sets-eq, length-sets, take-at, drop-at, drop-cons, drop-nil, take-suc}
-use Rattle.general.proofs.Names.{take-all, getD-take, getD-drop, length-take-le, drop-append-add, bitXor, bitAnd, xor-lt, and-le-r}
+use Rattle.general.proofs.Names.{_≤_, one-add, add-one, add-zero, zero-add, add-suc, suc-add, arith, T, eqb, eqb→eq, length, getD, take, drop, set}
+use Rattle.general.proofs.Names.{length-set, length-append, drop-of-length-le, sets, sets-eq, length-sets, take-at, drop-at, drop-cons, take-suc}
+use Rattle.general.proofs.Names.{List·getD-eq-default, take-all, getD-take, getD-drop, length-take-le, drop-drop, bitXor, bitAnd, xor-lt, and-le-r}
 use Rattle.general.proofs.Finite.{upTo, every}
 use Rattle.bits.specs.Bits.{lowBits, bitsOf, value}
 use Rattle.bits.proofs.Reading.{length-bits, bit-lt, length-left}
@@ -59,6 +59,15 @@ pub put-is : (s : List ℕ) (at a b c d e f g h : ℕ)
     ≡ sets s at (a ∷ b ∷ c ∷ d ∷ e ∷ f ∷ g ∷ h ∷ [])
 put-is s at a b c d e f g h = rw (add-suc at 6, add-suc at 5, add-suc at 4, add-suc at 3, add-suc at 2, add-suc at 1, add-one)
 
+-- behind the last bit the mask is left
+pub put-none : (cw sq : List ℕ) (at bit inverted : ℕ) → 8 * length cw ≤ bit → PutBit at bit inverted cw sq (set sq at inverted) bit
+put-none cw sq at bit inverted h =
+    let n = length-bits cw in
+    record {
+      is = rw (List·getD-eq-default (bitsOf cw) 0 {n = bit} (omega arith));
+      left = drop-of-length-le (bitsOf cw) {i = bit} (omega arith) ∙ sym (drop-of-length-le (bitsOf cw) {i = bit + 1} (omega arith));
+    }
+
 -- eight bits of the codewords under their mask, as bytes
 pub masked-bytes : {v u x : ℕ} (cw row : List ℕ) (bit c : ℕ) → bit + 8 ≤ 8 * length cw → ((k : ℕ) → getD row k 0 < 2)
     → v ≡ value 0 (take 8 (drop bit (bitsOf cw))) → u ≡ eightOf (behind (lowBits 8 v) 0) → x ≡ eightOf (behind row c)
@@ -77,29 +86,30 @@ masked-bytes {v} {u} {x} cw row bit c h small e f g =
 -- Placed in front.
 
 module _ (m : ℕ → ℕ) where
-  hit : (i k : ℕ) (us : List ℕ) (x : ℕ) (ds : List ℕ) → k ≡ 0 → placed m i (k ∷ us) (x ∷ ds) ≡ bitXor x (m i) ∷ placed m (suc i) us ds
+  -- a data module: the first bit, or a zero bit where none is left
+  hit : (i k : ℕ) (us ds : List ℕ) → k ≡ 0 → placed m i (k ∷ us) ds ≡ bitXor (getD ds 0 0) (m i) ∷ placed m (suc i) us (drop 1 ds)
   unfolding placed
-  hit i zero us x ds e = refl
-  hit i (suc k) us x ds e = absurd (omega arith)
+  hit i zero us [] e = refl
+  hit i zero us (d ∷ ds) e = refl
+  hit i (suc k) us ds e = absurd (omega arith)
 
-  miss : (i k : ℕ) (us ds : List ℕ) → (k ≡ 0 → ds ≡ []) → placed m i (k ∷ us) ds ≡ patternOf k ∷ placed m (suc i) us ds
+  miss : (i k : ℕ) (us ds : List ℕ) → k ≢ 0 → placed m i (k ∷ us) ds ≡ patternOf k ∷ placed m (suc i) us ds
   unfolding placed patternOf
-  miss i zero us [] e = refl
-  miss i zero us (d ∷ ds) e = absurd (omega (arith, ap length (e refl)))
+  miss i zero us ds e = absurd (e refl)
   miss i (suc zero) us ds e = refl
   miss i (suc (suc zero)) us ds e = refl
   miss i (suc (suc (suc k))) us ds e = refl
 
-  place-hits : (n c : ℕ) (ks rest : List ℕ) (d : ℕ → ℕ) → c + n ≤ length ks → ((k : ℕ) → k < n → getD ks (c + k) 0 ≡ 0)
-      → placed m c (drop c ks) (run n d ++ rest) ≡ run n (λ k. bitXor (d k) (m (c + k))) ++ placed m (c + n) (drop (c + n) ks) rest
+  place-hits : (n c : ℕ) (ks ds : List ℕ) → c + n ≤ length ks → ((k : ℕ) → k < n → getD ks (c + k) 0 ≡ 0)
+      → placed m c (drop c ks) ds ≡ run n (λ k. bitXor (getD ds k 0) (m (c + k))) ++ placed m (c + n) (drop (c + n) ks) (drop n ds)
   unfolding run
-  place-hits zero c ks rest d h z = simp add-zero
-  place-hits (suc n) c ks rest d h z =
-      let ih = place-hits n (suc c) ks rest (λ k. d (suc k)) (omega arith) (λ k l. simp suc-add (simp add-suc at (z (suc k) (omega arith)))) in
-      rw (drop-cons ks c 0 (omega arith), hit c _ _ _ _ (simp add-zero at (z 0 (omega arith)))) (simp (add-zero, add-suc, simp suc-add at ih))
+  place-hits zero c ks ds h z = simp add-zero
+  place-hits (suc n) c ks ds h z =
+      let ih = place-hits n (suc c) ks (drop 1 ds) (omega arith) (λ k l. simp suc-add (simp add-suc at (z (suc k) (omega arith)))) in
+      rw (drop-cons ks c 0 (omega arith), hit c _ _ _ (simp add-zero at (z 0 (omega arith))))
+      (simp (add-zero, add-suc, simp (suc-add, getD-drop, drop-drop, one-add) at ih))
 
-  -- a pattern, or a data module where no bit is left
-  place-miss : (c : ℕ) (ks ds : List ℕ) → c < length ks → (getD ks c 0 ≡ 0 → ds ≡ [])
+  place-miss : (c : ℕ) (ks ds : List ℕ) → c < length ks → getD ks c 0 ≢ 0
       → placed m c (drop c ks) ds ≡ patternOf (getD ks c 0) ∷ placed m (suc c) (drop (suc c) ks) ds
   place-miss c ks ds h z = rw (drop-cons ks c 0) (miss c _ _ ds z)
 
@@ -111,30 +121,23 @@ modules-hits (suc n) c ks h z =
     let ih = modules-hits n (suc c) ks (omega arith) (λ k l. simp suc-add (simp add-suc at (z (suc k) (omega arith)))) in
     rw (drop-cons ks c 0 (omega arith), module-hit _ _ (simp add-zero at (z 0 (omega arith))), add-suc) (omega (arith, simp suc-add at ih))
 
--- n bits in front
-bits-run : (cw : List ℕ) (n bit : ℕ) → bit + n ≤ 8 * length cw → drop bit (bitsOf cw) ≡ run n (λ k. getD (bitsOf cw) (bit + k) 0) ++ drop (bit + n) (bitsOf cw)
-unfolding run
-bits-run cw zero bit h = rw add-zero
-bits-run cw (suc n) bit h =
-    drop-cons (bitsOf cw) bit 0 (omega (arith, length-bits cw)) ∙ simp (add-zero, add-suc, simp suc-add at (bits-run cw n (suc bit) (omega arith)))
-
 -- From column to column.
 
 module _ {m : ℕ → ℕ} {ks whole after sq ds : List ℕ} {c : ℕ} (p : Placing m ks whole after sq ds c) where
   -- n data modules
-  placing-hits : {sq′ : List ℕ} (n : ℕ) (d : ℕ → ℕ) (rest : List ℕ) → c + n ≤ length ks → ((k : ℕ) → k < n → getD ks (c + k) 0 ≡ 0) → ds ≡ run n d ++ rest
-      → sq′ ≡ sets sq c (run n (λ k. bitXor (d k) (m (c + k)))) → Placing m ks whole after sq′ rest (c + n)
-  placing-hits {sq′} n d rest h z e f =
-      let new = run n (λ k. bitXor (d k) (m (c + k))) in
-      let w : length (take c sq ++ run n (λ k. bitXor (d k) (m (c + k)))) ≡ c + n =
+  placing-hits : {sq′ : List ℕ} (n : ℕ) → c + n ≤ length ks → ((k : ℕ) → k < n → getD ks (c + k) 0 ≡ 0)
+      → sq′ ≡ sets sq c (run n (λ k. bitXor (getD ds k 0) (m (c + k)))) → Placing m ks whole after sq′ (drop n ds) (c + n)
+  placing-hits {sq′} n h z f =
+      let new = run n (λ k. bitXor (getD ds k 0) (m (c + k))) in
+      let w : length (take c sq ++ run n (λ k. bitXor (getD ds k 0) (m (c + k)))) ≡ c + n =
       simp (length-append, length-run, length-take-le c sq (omega arith)) in
-      let q : sq′ ≡ take c sq ++ run n (λ k. bitXor (d k) (m (c + k))) ++ drop (c + n) sq =
-      f ∙ (simp length-run at (sets-eq new sq c (omega (arith, length-run n (λ k. bitXor (d k) (m (c + k))))))) in
+      let q : sq′ ≡ take c sq ++ run n (λ k. bitXor (getD ds k 0) (m (c + k))) ++ drop (c + n) sq =
+      f ∙ (simp length-run at (sets-eq new sq c (omega (arith, length-run n (λ k. bitXor (getD ds k 0) (m (c + k))))))) in
       record {
         size = ap length f ∙ length-sets sq c new ∙ p .size;
         few = h;
-        is = rw (q, take-at (take c sq ++ new) _ (c + n) w, append-assoc, ← place-hits m n c ks rest d h z, ← e) (p .is);
-        left = sym (drop-append-add (run n d) rest (dataModules (drop (c + n) ks))) ∙ rw (length-run, ← modules-hits n c ks h z, ← e) (p .left);
+        is = rw (q, take-at (take c sq ++ new) _ (c + n) w, append-assoc, ← place-hits m n c ks ds h z) (p .is);
+        left = rw (drop-drop, ← modules-hits n c ks h z) (p .left);
         patterns = record {
           is = λ k lo hi.
               let g : c + n + (k - (c + n)) ≡ k = omega arith in
@@ -144,21 +147,15 @@ module _ {m : ℕ → ℕ} {ks whole after sq ds : List ℕ} {c : ℕ} (p : Plac
       }
 
   -- a module that stays as it is
-  placing-miss : c < length ks → (getD ks c 0 ≡ 0 → ds ≡ []) → Placing m ks whole after sq ds (suc c)
+  placing-miss : c < length ks → getD ks c 0 ≢ 0 → Placing m ks whole after sq ds (suc c)
   placing-miss h z =
       record {
         size = p .size;
         few = h;
         is = rw (take-suc sq c 0 (omega arith), p .patterns .is c (omega arith) h, append-assoc, ← place-miss m c ks ds h z) (p .is);
-        left = counted ∙ p .left;
+        left = rw (drop-cons ks c 0 h, module-miss (getD ks c 0) (drop (suc c) ks) z) at (p .left);
         patterns = record { is = λ k lo hi. p .patterns .is k (omega arith) hi };
       }
-    where
-      counted : drop (dataModules (drop (suc c) ks)) ds ≡ drop (dataModules (drop c ks)) ds
-      counted = elim (ℕ-discrete (getD ks c 0) 0) [
-        | yes y ↦ simp (z y, drop-nil)
-        | no y ↦ rw (drop-cons ks c 0, module-miss (getD ks c 0) (drop (suc c) ks) y)
-      ]
 
 -- n modules that stay
 placing-skip : {m : ℕ → ℕ} {ks whole after sq ds : List ℕ} (n c : ℕ) → c + n ≤ length ks → ((k : ℕ) → c ≤ k → k < c + n → getD ks k 0 ≢ 0)
@@ -166,28 +163,22 @@ placing-skip : {m : ℕ → ℕ} {ks whole after sq ds : List ℕ} (n c : ℕ) �
 placing-skip zero c h z p = rw add-zero p
 placing-skip (suc n) c h z p =
     rw (add-suc, ← suc-add) (placing-skip n (suc c) (omega arith) (λ k lo hi. z k (omega arith) (omega arith))
-    (placing-miss p (omega arith) (λ y. absurd (z c (omega arith) (omega arith) y))))
+    (placing-miss p (omega arith) (z c (omega arith) (omega arith))))
 
 module _ {ks row cw sq sq′ : List ℕ} {p q : Cursor} where
   pub puts-one : p .column < length ks → getD ks (p .column) 0 ≡ 0 → q .column ≡ p .column + 1
       → PutBit (p .column) (p .bit) (getD row (p .column) 0) cw sq sq′ (q .bit) → Puts ks row cw sq sq′ p q
   unfolding run
   puts-one h z e b = record {
-    go = λ whole after g. elim (decLt (p .bit) (8 * length cw)) [
-      | yes l ↦ (let k = b .room l in
-          rw (k .0, e) (placing-hits g 1 (λ i. getD (bitsOf cw) (p .bit + i) 0) (drop (p .bit + 1) (bitsOf cw)) (omega arith)
-          (λ i l. let y : p .column + i ≡ p .column = omega arith in rw y z) (bits-run cw 1 (p .bit) (omega arith)) (simp add-zero (k .1))))
-      | no l ↦ (let k = b .full (omega arith) in
-          rw (k .0, k .1, e, add-one)
-          (placing-miss g h (λ y. drop-of-length-le (bitsOf cw) {i = p .bit} (omega (arith, length-bits cw)))))
-    ];
+    go = λ whole after g. rw (e, b .left, ← drop-drop)
+        (placing-hits g 1 (omega arith) (λ i l. let y : p .column + i ≡ p .column = omega arith in rw y z) (simp (add-zero, getD-drop) (b .is)));
   }
 
-  pub puts-eight : {kinds : ℕ} → p .column + 8 ≤ length ks → kinds ≡ eightOf (behind ks (p .column)) → kinds ≡ 0 → p .bit + 8 ≤ 8 * length cw
+  pub puts-eight : {kinds : ℕ} → p .column + 8 ≤ length ks → kinds ≡ eightOf (behind ks (p .column)) → kinds ≡ 0
       → PutEight row cw sq sq′ p q → Puts ks row cw sq sq′ p q
-  puts-eight {kinds} h e z b u = record {
-    go = λ whole after g. rw (u .column-is, u .bit-is)
-        (placing-hits g 8 (λ i. getD (bitsOf cw) (p .bit + i) 0) _ h (eight-zero (behind ks (p .column)) (sym e ∙ z)) (bits-run cw 8 (p .bit) b) (u .is));
+  puts-eight {kinds} h e z u = record {
+    go = λ whole after g. rw (u .column-is, u .bit-is, ← drop-drop)
+        (placing-hits g 8 h (eight-zero (behind ks (p .column)) (sym e ∙ z)) (simp getD-drop (u .is)));
   }
 
 pub puts-skip : {ks row cw sq : List ℕ} {p q : Cursor} → Skipped ks (p .column) (q .column) → q .bit ≡ p .bit → Puts ks row cw sq sq p q

@@ -25,7 +25,7 @@ placed-append m i (suc (suc (suc k)) ∷ us) vs ds =
 placed-masks : (m n : ℕ → ℕ) (i j : ℕ) (us ds : List ℕ) → Agree us m n i j → placed m i us ds ≡ placed n j us ds
 unfolding placed
 placed-masks m n i j [] ds h = refl
-placed-masks m n i j (zero ∷ us) [] h = rw (placed-masks m n (suc i) (suc j) us [] (agree-later m n i j 0 us h))
+placed-masks m n i j (zero ∷ us) [] h = rw (agree-first m n i j us h, placed-masks m n (suc i) (suc j) us [] (agree-later m n i j 0 us h))
 placed-masks m n i j (zero ∷ us) (d ∷ ds) h = rw (agree-first m n i j us h, placed-masks m n (suc i) (suc j) us ds (agree-later m n i j 0 us h))
 placed-masks m n i j (suc zero ∷ us) ds h = rw (placed-masks m n (suc i) (suc j) us ds (agree-later m n i j 1 us h))
 placed-masks m n i j (suc (suc zero) ∷ us) ds h = rw (placed-masks m n (suc i) (suc j) us ds (agree-later m n i j 2 us h))

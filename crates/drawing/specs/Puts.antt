@@ -1,7 +1,7 @@
 -- What the functions that write say of each other. Nobody has to believe it.
 use mathlib.Core.Path.{_≡_}
 use mathlib.Core.List.{List, _++_}
-use Prim.Native.Nat.{ℕ, zero, suc, _+_, _*_, _<_, _≤_}
+use Prim.Native.Nat.{ℕ, zero, suc, _+_, _<_, _≤_}
 use lib.ListN.{length, getD, take, drop, set}
 use lib.Seq.{sets}
 use lib.Bits.{bitXor}
@@ -34,10 +34,10 @@ pub record Placing (m : ℕ → ℕ) (ks whole after sq ds : List ℕ) (c : ℕ)
   pub left : drop (dataModules (drop c ks)) ds ≡ after
   pub patterns : PatternsFrom ks sq c
 
--- a bit is put, where one is left
+-- a bit is put, a zero bit where none is left
 pub record PutBit (at bit inverted : ℕ) (cw sq sq′ : List ℕ) (r : ℕ) : Type 0 where
-  pub room : bit < 8 * length cw → (r ≡ bit + 1) × (sq′ ≡ set sq at (bitXor (getD (bitsOf cw) bit 0) inverted))
-  pub full : 8 * length cw ≤ bit → (r ≡ bit) × (sq′ ≡ sq)
+  pub is : sq′ ≡ set sq at (bitXor (getD (bitsOf cw) bit 0) inverted)
+  pub left : drop r (bitsOf cw) ≡ drop (bit + 1) (bitsOf cw)
 
 -- eight bits are put
 pub record PutEight (row cw sq sq′ : List ℕ) (p q : Cursor) : Type 0 where

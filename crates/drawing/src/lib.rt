@@ -73,12 +73,13 @@ fn put(square: &mut [u8], at: usize, x: usize)
     square[at + 7] = (x / 72057594037927936 % 256) as u8;
 }
 
-// One bit under a mask bit, if one is left.
+// One bit under a mask bit. Behind the last codeword it is a zero bit, so that the mask bit alone is stored.
 fn put_bit(square: &mut [u8], at: usize, codewords: &[u8], bit: usize, inverted: u8) -> usize
     requires { ⌜ (at < length (now square)) × (length (now codewords) ≤ 65535) ⌝ }
     ensures { λ r. ⌜ PutBit at bit inverted (now (codewords .entry)) (now (square .entry)) (now (square .exit)) r ⌝ }
 {
     if codewords.len() * 8 <= bit {
+        square[at] = inverted;
         return bit;
     }
     square[at] = (bits::bit(codewords, bit) as u8) ^ inverted;
@@ -198,7 +199,7 @@ fn place_all(square: &mut [u8], kinds: &[u8], codewords: &[u8], side: usize, mas
     place_rows(square, kinds, codewords, side, mask);
 }
 
-// A square of the first total codewords: masked data modules, those left over light; the information modules are light.
+// A square of the first total codewords: masked data modules, those left over as zero bits; the information modules are light.
 pub fn place_codewords(
     square: &mut [u8],
     kinds: &[u8],

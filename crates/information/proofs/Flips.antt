@@ -8,7 +8,8 @@ use Rattle.symbol.proofs.Theorems.{layout-length}
 use Rattle.information.specs.Information.{wordAt, wordDistance, nearestWord, infoPosition, copyOf, infoWritten, infoFlips}
 use Rattle.information.specs.Inner.{moduleOf, stored, copyWritten}
 use Rattle.information.proofs.Apart.{few-flips}
-use Rattle.information.proofs.Read.{copy-is, stored-length, stored-else, copy-length, copy-else, copy-bits, differing, distance-is, round, round-first}
+use Rattle.information.proofs.Read.{copy-is, number-same, stored-length, stored-else, copy-length, copy-else, copy-bits, differing, distance-is, round}
+use Rattle.information.proofs.Read.{round-first}
 use Rattle.information.proofs.Distinct.{place-same, place-other}
 use Rattle.information.proofs.Kind.{info-kind}
 
@@ -81,6 +82,13 @@ module _ (v : ℕ) (lo : 1 ≤ v) (g h : List ℕ) (lg : length g ≡ sideOf v *
     -- with at most 8 that differ, word k is the nearest
     pub flips-nearest : v ≤ 84 → k < 16 → infoFlips (layoutOf v) g h ≤ 8 → nearestWord v (copyOf (sideOf v) false h) (copyOf (sideOf v) true h) ≡ k
     flips-nearest hi small few = few-flips v k (copyOf (sideOf v) false h) (copyOf (sideOf v) true h) hi small (omega (arith, flips-distance))
+
+-- squares with the same information modules have the same copies
+pub copy-agree : (v : ℕ) → 1 ≤ v → (second : Bool) (g h : List ℕ) → ((p : ℕ) → getD (layoutOf v) p 0 ≡ 1 → getD g p 0 ≡ getD h p 0)
+    → copyOf (sideOf v) second g ≡ copyOf (sideOf v) second h
+copy-agree v lo second g h e =
+    rw (copy-is (sideOf v) second g, copy-is (sideOf v) second h)
+    (number-same (moduleOf (sideOf v) second g) (moduleOf (sideOf v) second h) 34 (λ k l. e _ (info-kind v lo second k l)))
 
 -- both copies written into a square: read back, of the same length, and bits where there were bits
 module _ (v : ℕ) (lo : 1 ≤ v) (w : ℕ) (g : List ℕ) (room : sideOf v * sideOf v ≤ length g) (word : w < 2 ^ 34) where

@@ -20,7 +20,7 @@ pub copy-written : (s : ℕ) (b : Bool) (w : ℕ) (g : List ℕ) → copyWritten
 unfolding positions each lowBits storeAt stored bitOf
 copy-written s b w g = refl
 
-number-same : (f h : ℕ → ℕ) (n : ℕ) → ((k : ℕ) → k < n → f k ≡ h k) → numberFrom f n ≡ numberFrom h n
+pub number-same : (f h : ℕ → ℕ) (n : ℕ) → ((k : ℕ) → k < n → f k ≡ h k) → numberFrom f n ≡ numberFrom h n
 unfolding numberFrom
 number-same f h zero e = refl
 number-same f h (suc n) e = ap₂ (λ (x y : ℕ). x * 2 + y) (number-same f h n (λ k l. e k (omega arith))) (e n (omega arith))

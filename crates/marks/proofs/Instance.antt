@@ -1,7 +1,7 @@
 -- The premises of the theorem can be met: the digit 5 is written as a mark of version 1, and the mark is read back. Whether it is written is
 -- computed. Assumes nothing.
 use Rattle.general.proofs.Names.{_≡_, refl, ap, Bool, true, false, cond, _&&_, bind, List, [], _∷_, flatMap, ℕ, zero, suc, _+_, _<_, arith, eq-eqb, eqb}
-use Rattle.general.proofs.Names.{getD, replicate}
+use Rattle.general.proofs.Names.{length, take, getD, replicate}
 use Rattle.bits.specs.Bits.{lowBits, wordBits}
 use Rattle.symbol.specs.Version.{isVersion}
 use Rattle.symbol.specs.Layout.{layoutOf, plotAll, corners, cornerAt, ring, edge, finderAt, finderRow, half, within, finders}
@@ -14,7 +14,7 @@ use Rattle.script.specs.Check.{allowed, segmentAt, commands, commandsOf}
 use Rattle.corrector.proofs.Repairs.{distance-self}
 use Rattle.marks.specs.Read.{Reading, firstRefusal, unless, readOf, readKnownOf}
 use Rattle.marks.specs.Write.{roomOf, markOf, scriptRefusals, writeRefusal, writeOf}
-use Rattle.marks.specs.Promise.{blockIn}
+use Rattle.marks.specs.Promise.{blockIn, Leftover}
 use Rattle.marks.proofs.Marks.{Ranges, mark-below}
 use Rattle.marks.proofs.Theorems.{mark-is-read, mark-is-read-known}
 use Rattle.general.specs.Lists.{each}
@@ -79,3 +79,12 @@ some-mark-is-read-known =
     ap (λ (r : Reading). r .number)
     (mark-is-read-known 1 0 0 script payload before mark bytes made mark refl (mark-below 1 0 0 script payload ranged)
     (λ j h. omega (arith, distance-self (blockIn 1 0 0 mark j))) (0 ∷ []) (0 ∷ 0 ∷ 0 ∷ []) (replicate 12 0) refl (omega arith) (omega arith))
+
+-- There are leftover modules: in version 1 the last data module of the last row is one, with 204 data modules before it and 25 codewords.
+pub some-leftover : Leftover 1 519
+unfolding totalOf dataModules totals layoutOf plotAll corners each cornerAt ring edge finderAt finderRow half within finders
+some-leftover =
+    let size : length (layoutOf 1) ≡ 529 = refl in
+    let before-it : dataModules (take 519 (layoutOf 1)) ≡ 204 = refl in
+    let total : totalOf 1 ≡ 25 = refl in
+    (omega arith, refl, omega arith)

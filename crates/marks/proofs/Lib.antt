@@ -5,6 +5,7 @@ pub mod Data
 pub mod Marks
 pub mod ReadBack
 pub mod Starts
+pub mod Leftovers
 pub mod AnySquare
 pub mod Theorems
 pub mod Instance

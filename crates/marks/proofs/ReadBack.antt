@@ -1,5 +1,5 @@
 -- From a mark to its reading: a written mark within reach is read as it was written. Assumes nothing.
-use Rattle.general.proofs.Names.{_≡_, sym, ap, _∙_, List, _++_, ℕ, _+_, _*_, _/_, _≤_, _<_, arith, eq-eqb, leb-true}
+use Rattle.general.proofs.Names.{_≡_, sym, ap, _∙_, List, _++_, ℕ, _*_, _/_, _≤_, _<_, arith, eq-eqb, leb-true}
 use Rattle.general.proofs.Names.{le-leb, leb, length, drop}
 use Rattle.symbol.specs.Version.{sideOf, sideVersion}
 use Rattle.symbol.specs.Layout.{layoutOf}
@@ -67,16 +67,19 @@ module _ (v l k : ℕ) (script payload before : List ℕ) (bytes : Below 256 scr
   ds-length : length ds ≡ roomOf v l
   ds-length = let D = encoded-data script payload (roomOf v l) bytes (W .fits) in ap length (D .0) ∙ D .1
 
-  -- the stream of the mark is that of the script
+  -- the script's stream has the version's codewords ..
+  pub stream-total : length (streamOf bs ds) ≡ totalOf v
+  stream-total = written-blocks bs sound ds ds-bytes ds-length .0 ∙ sized
+
+  -- .. and is that of the mark
   pub mark-stream : streamFrom v k mark ≡ streamOf bs ds
   unfolding markOf hasBlocks
   mark-stream =
       let B = written-blocks bs sound ds ds-bytes ds-length in
-      let e : length (streamOf bs ds) ≡ totalOf v = B .0 ∙ sized in
       let h : 8 * totalOf v ≤ dataModules (layoutOf v) =
       leb-true (8 * totalOf v) (dataModules (layoutOf v)) (both-true (rowHolds bs (totalOf v)) (leb (8 * totalOf v) (dataModules (layoutOf v))) (W .blocked) .1) in
       stream-bits v mark (mark-below v l k script payload R) k
-      ∙ (rw e at (written-stream v k (infoBits v l k) (streamOf bs ds) (R .low) (B .1) (omega arith)))
+      ∙ (rw stream-total at (written-stream v k (infoBits v l k) (streamOf bs ds) (R .low) (B .1) (omega (arith, stream-total))))
 
   module _ (square : List ℕ) (size : length square ≡ sideOf v * sideOf v) (modules : Below 2 square)
       (reach : (j : ℕ) → j < length bs → distance (blockAt (blocksIn v l k square) j) (blockAt (blocksIn v l k mark) j) ≤ parityAt bs j / 2)

@@ -1,18 +1,21 @@
 -- A WRITTEN MARK IS READ BACK (SPECIFICATION 11), by Read a square and by Read with known version, level, mask, over the definitions that
 -- the contracts cite; its words are those of specs/Promise.antt. First: a mark made by the writer is read as it was written, whichever
--- modules flip within reach. Second: what a reading answers for any square at all that passes its first refusals. Assumes nothing.
+-- modules flip within reach. Second: what a reading answers for any square at all that passes its first refusals. Third: leftover modules.
+-- Assumes nothing.
 use Rattle.general.proofs.Names.{_≡_, sym, ap, _∙_, _≢_, List, _++_, ℕ, _/_, _≤_, _<_, length, getD, drop}
 use Rattle.symbol.specs.Version.{sideOf, sideVersion}
 use Rattle.symbol.specs.Layout.{layoutOf}
 use Rattle.information.specs.Information.{infoFlips}
+use Rattle.codewords.specs.Codewords.{maskBit}
 use Rattle.marks.specs.Receipt.{receiptOf}
 use Rattle.marks.specs.Read.{Reading, refused, nearestIn, readRefusal, knownRefusal, bodyOf, readOf, readKnownOf}
 use Rattle.marks.specs.Write.{writeOf}
-use Rattle.marks.specs.Promise.{blockCount, blockIn, parityIn, changedAt, changed, InReach, EachInReach, setTo, correctionsAt}
+use Rattle.marks.specs.Promise.{blockCount, blockIn, parityIn, changedAt, changed, InReach, EachInReach, setTo, correctionsAt, Leftover}
 use Rattle.reed_solomon.specs.Block.{distance}
 use Rattle.marks.proofs.Marks.{Ranges}
 use Rattle.marks.proofs.Starts.{level-range}
 use Rattle.marks.proofs.ReadBack as back
+use Rattle.marks.proofs.Leftovers as leftovers
 use Rattle.marks.proofs.AnySquare as any
 
 -- ---- 1. Marks made by the writer (11.1 to 11.8)
@@ -141,3 +144,22 @@ pub known-accepted-passes : (sq : List ℕ) (v l k : ℕ) (p s r : List ℕ) →
     → (length r ≡ 12) × (knownRefusal v l k sq ≡ 0)
 unfolding readKnownOf
 known-accepted-passes sq v l k p s r e = any.begins r p s (knownRefusal v l k sq) _ e
+
+-- ---- 3. Leftover modules (11.15)
+
+-- Each leftover module of a mark is a zero bit under the mask: dark exactly where the mask inverts.
+pub leftover-is-masked : (v level mask : ℕ) (script payload before mark : List ℕ) (bytes : (i : ℕ) → getD script i 0 < 256)
+    → writeOf v level mask script payload before ≡ record { number = 0; square = mark }
+    → (i : ℕ) → Leftover v i → getD mark i 0 ≡ maskBit (sideOf v) mask i
+leftover-is-masked = leftovers.leftover-masked
+
+-- Reading ignores them: two squares of one size with module bytes 0 and 1 that differ in leftover modules alone get the same answer, with
+-- the same receipt, payload and script.
+module _ (a b : List ℕ) (size : length a ≡ length b) (modules-a : (i : ℕ) → getD a i 0 < 2) (modules-b : (i : ℕ) → getD b i 0 < 2) where
+  pub leftovers-are-ignored : (side : ℕ) → ((i : ℕ) → (Leftover (sideVersion side) i → ⊥) → getD a i 0 ≡ getD b i 0)
+      → (p s r : List ℕ) → readOf a side p s r ≡ readOf b side p s r
+  leftovers-are-ignored = leftovers.read-alike a b size modules-a modules-b
+
+  pub known-leftovers-are-ignored : (v : ℕ) → ((i : ℕ) → (Leftover v i → ⊥) → getD a i 0 ≡ getD b i 0)
+      → (level mask : ℕ) (p s r : List ℕ) → readKnownOf a v level mask p s r ≡ readKnownOf b v level mask p s r
+  known-leftovers-are-ignored = leftovers.known-alike a b size modules-a modules-b

@@ -1,12 +1,13 @@
 -- SPECIFICATION 11, "A written mark is read back": the words in which the theorem (proofs/Theorems.antt) is stated.
 use mathlib.Core.Path.{_≡_}
 use mathlib.Core.List.{List, [], map}
-use Prim.Native.Nat.{ℕ, _<_}
+use Prim.Native.Nat.{ℕ, _*_, _<_, _≤_}
 use lib.Dec.{T}
-use lib.ListN.{length, getD}
+use lib.ListN.{length, getD, take}
+use Rattle.symbol.specs.Layout.{layoutOf, data-kind, dataModules}
 use Rattle.reed_solomon.specs.Block.{distance, inReach}
 use Rattle.corrector.specs.Correct.{correctOf}
-use Rattle.block_table.specs.Blocks.{shapesOf, dataParts}
+use Rattle.block_table.specs.Blocks.{totalOf, shapesOf, dataParts}
 use Rattle.blocks.specs.Blockwise.{differences}
 use Rattle.segments.specs.FromData.{fromData}
 use Rattle.marks.specs.Read.{Reading, blocksIn, outcomeReading}
@@ -47,3 +48,7 @@ setTo v level mask d sq ws p s =
 -- how many codewords of block j Correct a block sets right
 abbrev pub correctionsAt : ℕ → ℕ → ℕ → List ℕ → ℕ → ℕ
 correctionsAt v level mask sq j = correctOf 0x163 1 (parityIn v level j) (blockIn v level mask sq j) .count
+
+-- SPECIFICATION 6.3: place i of a square of version v is a leftover module, a data module with 8 T or more data modules before it
+abbrev pub Leftover : ℕ → ℕ → Type 0
+Leftover v i = (i < length (layoutOf v)) × (getD (layoutOf v) i 0 ≡ data-kind) × (8 * totalOf v ≤ dataModules (take i (layoutOf v)))

@@ -16,7 +16,7 @@ returns c =
       omega arith,
       omega arith,
       puts-eight (start .pre .1) (c .before .before .before .before .before .before .before .eight .ensures)
-          (c .before .before .before .before .before .before .if1 .taken) (omega arith) put,
+          (c .before .before .before .before .before .before .if1 .taken) put,
     )
 
 put-one-requires : tie.Need-put-one-requires
