@@ -37,12 +37,12 @@ unsafe extern "C" {
 
 /// Which reading, with the numbers that it is given.
 #[derive(Clone, Copy, Debug)]
-enum Reading {
+pub enum Reading {
     Side(usize),
     Known(usize, usize, usize),
 }
 
-fn read(square: &[u8], how: Reading, payload: &mut [u8], script: &mut [u8], receipt: &mut [u8]) -> usize {
+pub fn read(square: &[u8], how: Reading, payload: &mut [u8], script: &mut [u8], receipt: &mut [u8]) -> usize {
     let (q, qn) = (square.as_ptr(), square.len());
     let (p, pn) = (payload.as_mut_ptr(), payload.len());
     let (s, sn) = (script.as_mut_ptr(), script.len());
@@ -56,7 +56,7 @@ fn read(square: &[u8], how: Reading, payload: &mut [u8], script: &mut [u8], rece
     }
 }
 
-fn write(version: usize, level: usize, mask: usize, script: &[u8], payload: &[u8], square: &mut [u8]) -> usize {
+pub fn write(version: usize, level: usize, mask: usize, script: &[u8], payload: &[u8], square: &mut [u8]) -> usize {
     let (s, sn) = (script.as_ptr(), script.len());
     let (p, pn) = (payload.as_ptr(), payload.len());
     // SAFETY: each slice is passed with its own length, and the mutable one overlaps no other.
