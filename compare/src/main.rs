@@ -1,7 +1,7 @@
 //! Both sides by running: the original Rust, unchanged, and our static libraries.
 //!
 //! `compare [PART ..]` compares every answer and every lent byte, prints how many of which kind were tried, and stops at the first
-//! difference with the input that shows it. `compare
+//! difference with the input that shows it. `compare zint FILE` compares the marks of a list that scripts/zint_vectors has made. `compare
 //! bench [--all] [PART ..]` times both, `compare instructions` runs what callgrind counts. `compare record [PART ..]` writes, from the
 //! Rust's answers, the lists that the programs `replay_PART` of the repository run on and what they must print.
 #![allow(dead_code)]
@@ -102,15 +102,24 @@ fn record(name: &str, list: fn() -> (Vec<u8>, String)) {
     std::fs::write(format!("{folder}/stdout"), answers).unwrap();
 }
 
+/// The marks of zint in a file.
+fn zint(words: &[String]) {
+    match words {
+        [file] => squares::zint(file),
+        _ => tools::fail("zint needs one file, which scripts/zint_vectors --long makes"),
+    }
+}
+
 fn main() {
     let mut words: Vec<String> = std::env::args().skip(1).collect();
     let mode = match words.first().map(String::as_str) {
-        Some("bench" | "instructions" | "record") => words.remove(0),
+        Some("bench" | "instructions" | "record" | "zint") => words.remove(0),
         _ => "compare".to_string(),
     };
     match mode.as_str() {
         "bench" => return bench(words),
         "instructions" => return squares::instructions(),
+        "zint" => return zint(&words),
         _ => {}
     }
     let recorded = mode == "record";
