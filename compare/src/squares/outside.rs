@@ -39,10 +39,9 @@ impl Given {
         }
         let differing: Vec<usize> = (0..again.len()).filter(|&i| again[i] != self.square[i]).collect();
         if let Some(first) = differing.first() {
-            let count = differing.len();
-            let what = format!("the mark of another writer, written again, in {count} modules, first in that at place {first},");
-            let input = format!("{}: script {}, payload {}", self.name, hex(&script), hex(&answer.payload));
-            differs(&what, &input, &hex(&packed(&again)), &hex(&packed(&self.square)));
+            let (count, script, payload) = (differing.len(), hex(&script), hex(&answer.payload));
+            let input = format!("{}; {count} modules, the first at place {first}; script {script}, payload {payload}", self.name);
+            differs("the mark of another writer, written again,", &input, &hex(&packed(&again)), &hex(&packed(&self.square)));
         }
         script
     }
