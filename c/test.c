@@ -230,34 +230,60 @@ static void test_finders(void)
     }
 }
 
-/* Versions 1 to 3 have no alignment: data are all modules outside the four corners of nine by nine; those that are left over stay light. */
+/* Whether a mask inverts the module at row i and column j, both counted from 1 (SPECIFICATION 6.1). */
+static unsigned inverted(size_t mask, size_t i, size_t j)
+{
+    if (mask == 1)
+        return (i + j) % 2 == 0;
+    if (mask == 2)
+        return ((i + j) % 3 + j % 3) % 2 == 0;
+    if (mask == 3)
+        return (i % j + j % i + i % 3 + j % 3) % 2 == 0;
+    return 0;
+}
+
+/* Modules that are left over are zeros under the mask. They are in no block: with each of them inverted, and with all, the mark is read. */
+static void test_leftover(size_t version, size_t mask, const size_t *leftover, size_t count)
+{
+    size_t side = HX_SIDE(version), i;
+    Mark m = serial_mark(version, 0, mask);
+    WRITES(&m, square);
+    for (i = 0; i < count; i++) {
+        about(version, 0, mask, i);
+        CHECK(square[leftover[i]] == inverted(mask, leftover[i] / side + 1, leftover[i] % side + 1));
+        square[leftover[i]] ^= 1;
+        READS(by_side(side), square, area(version), ENOUGH, &m, 0, 0);
+        square[leftover[i]] ^= 1;
+    }
+    for (i = 0; i < count; i++)
+        square[leftover[i]] ^= 1;
+    READS(by_side(side), square, area(version), ENOUGH, &m, 0, 0);
+    for (i = 0; i < 49; i++) { /* finders are in no block either */
+        square[i / 7 * side + i % 7] ^= 1;
+        square[(side - 1 - i / 7) * side + side - 1 - i % 7] ^= 1;
+    }
+    READS(by_side(side), square, area(version), ENOUGH, &m, 0, 0);
+}
+
+/* Versions 1 to 3 have no alignment: data are all modules outside the four corners of nine by nine, of which five are left over. */
 static void test_places(void)
 {
     static const size_t totals[] = {25, 37, 50}, rooms[] = {21, 31, 42};
-    size_t v, i, n;
+    size_t v, mask, i, n;
     for (v = 1; v <= 3; v++) {
         size_t side = HX_SIDE(v), found = data_modules(v, 0, rooms[v - 1], places);
-        Mark m = serial_mark(v, 0, 0);
         about(v, 0, 0, 0);
         CHECK(found == 8 * totals[v - 1]);
-        WRITES(&m, square);
         for (i = 0, n = 0; i < side * side; i++) {
             size_t row = i / side, column = i % side;
             if ((row < 9 || row >= side - 9) && (column < 9 || column >= side - 9))
                 continue;
             if (n < found)
                 CHECK(places[n] == i);
-            else
-                CHECK(square[i] == 0);
-            if (n++ >= found)
-                square[i] = 1;
+            places[n++] = i; /* those left over too */
         }
-        READS(by_side(side), square, area(v), ENOUGH, &m, 0, 0); /* leftover modules are in no block */
-        for (i = 0; i < 49; i++) {                               /* nor are the finders */
-            square[i / 7 * side + i % 7] ^= 1;
-            square[(side - 1 - i / 7) * side + side - 1 - i % 7] ^= 1;
-        }
-        READS(by_side(side), square, area(v), ENOUGH, &m, 0, 0);
+        for (mask = 0; mask < 4; mask++)
+            test_leftover(v, mask, places + 8 * totals[v - 1], n - 8 * totals[v - 1]);
     }
 }
 
@@ -298,18 +324,6 @@ static void test_one_block(void)
 
 /* GF(256) with polynomial 163 hex: a times x. */
 static unsigned times_x(unsigned a) { return a & 128u ? (a << 1 ^ 0x163u) & 255u : a << 1; }
-
-/* Whether a mask inverts the module at row i and column j, both counted from 1. */
-static unsigned inverted(size_t mask, size_t i, size_t j)
-{
-    if (mask == 1)
-        return (i + j) % 2 == 0;
-    if (mask == 2)
-        return ((i + j) % 3 + j % 3) % 2 == 0;
-    if (mask == 3)
-        return (i % j + j % i + i % 3 + j % 3) % 2 == 0;
-    return 0;
-}
 
 /* The stream of a square of version 1 to 3, where data are all modules outside the four corners. */
 static void stream_of(size_t side, size_t mask, size_t total, uint8_t *stream)

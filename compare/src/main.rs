@@ -1,13 +1,15 @@
 //! Both sides by running: the original Rust, unchanged, and our static libraries.
 //!
 //! `compare [PART ..]` compares every answer and every lent byte, prints how many of which kind were tried, and stops at the first
-//! difference with the input that shows it. `compare bench [--all] [PART ..]` times both, `compare instructions` runs what callgrind counts. `compare record [PART ..]` writes, from the Rust's
-//! answers, the lists that the programs `replay_PART` of the repository run on and what they must print.
+//! difference with the input that shows it. `compare zint FILE` compares the marks of a list that scripts/zint_vectors has made. `compare
+//! bench [--all] [PART ..]` times both, `compare instructions` runs what callgrind counts. `compare record [PART ..]` writes, from the
+//! Rust's answers, the lists that the programs `replay_PART` of the repository run on and what they must print.
 #![allow(dead_code)]
 include!(concat!(env!("OUT_DIR"), "/original.rs"));
 
 mod blocks;
 mod others;
+mod requests;
 mod segments;
 mod sheet;
 mod squares;
@@ -29,33 +31,38 @@ pub mod encoding {
     }
 }
 
-/// A part: its comparison, and the list that its replay runs on with what that must print.
+/// A part: its comparison; and the list that its replay runs on with what that must print, where it has one.
 struct Part {
     name: &'static str,
     compare: fn(),
-    record: fn() -> (Vec<u8>, String),
+    record: Option<fn() -> (Vec<u8>, String)>,
 }
 
-const PARTS: [Part; 4] = [
+const PARTS: [Part; 5] = [
     Part {
         name: "blocks",
         compare: blocks::compare,
-        record: blocks::record,
+        record: Some(blocks::record),
     },
     Part {
         name: "symbol",
         compare: symbol::compare,
-        record: symbol::record,
+        record: Some(symbol::record),
     },
     Part {
         name: "segments",
         compare: segments::compare,
-        record: segments::record,
+        record: Some(segments::record),
     },
     Part {
         name: "squares",
         compare: squares::compare,
-        record: squares::record,
+        record: Some(squares::record),
+    },
+    Part {
+        name: "requests",
+        compare: requests::compare,
+        record: None,
     },
 ];
 
@@ -88,25 +95,40 @@ fn bench(mut words: Vec<String>) {
     sheet.end();
 }
 
-fn record(part: &Part) {
-    let (list, answers) = (part.record)();
-    let folder = format!("crates/replay_{}", part.name);
+fn record(name: &str, list: fn() -> (Vec<u8>, String)) {
+    let (list, answers) = list();
+    let folder = format!("crates/replay_{name}");
     std::fs::write(format!("{folder}/stdin"), list).unwrap();
     std::fs::write(format!("{folder}/stdout"), answers).unwrap();
+}
+
+/// The marks of zint in a file.
+fn zint(words: &[String]) {
+    match words {
+        [file] => squares::zint(file),
+        _ => tools::fail("zint needs one file, which scripts/zint_vectors --long makes"),
+    }
 }
 
 fn main() {
     let mut words: Vec<String> = std::env::args().skip(1).collect();
     let mode = match words.first().map(String::as_str) {
-        Some("bench" | "instructions" | "record") => words.remove(0),
+        Some("bench" | "instructions" | "record" | "zint") => words.remove(0),
         _ => "compare".to_string(),
     };
     match mode.as_str() {
         "bench" => return bench(words),
         "instructions" => return squares::instructions(),
-        _ => known(&words, &PARTS.map(|p| p.name)),
+        "zint" => return zint(&words),
+        _ => {}
     }
-    for part in PARTS.iter().filter(|p| words.is_empty() || words.iter().any(|w| w == p.name)) {
-        if mode == "record" { record(part) } else { (part.compare)() }
+    let recorded = mode == "record";
+    let parts: Vec<&Part> = PARTS.iter().filter(|p| !recorded || p.record.is_some()).collect();
+    known(&words, &parts.iter().map(|p| p.name).collect::<Vec<_>>());
+    for part in parts.iter().filter(|p| words.is_empty() || words.iter().any(|w| w == p.name)) {
+        match part.record {
+            Some(list) if recorded => record(part.name, list),
+            _ => (part.compare)(),
+        }
     }
 }

@@ -57,12 +57,12 @@ impl<'a> Zint<'a> {
         unsafe { (self.write)(self.symbol, self.text.as_ptr(), int(self.text.len())) == 0 }
     }
 
-    /// Whether it wrote this square, but for some modules.
-    pub fn wrote(&self, square: &[u8], open: &[usize]) -> bool {
+    /// Whether it wrote this square.
+    pub fn wrote(&self, square: &[u8]) -> bool {
         let side = square.len().isqrt();
         // SAFETY: the function answers -1 for a place outside.
         let module = |i: usize| unsafe { (self.module)(self.symbol, int(i / side), int(i % side)) };
-        square.iter().enumerate().all(|(i, &b)| module(i) == c_int::from(b) || open.contains(&i))
+        square.iter().enumerate().all(|(i, &b)| module(i) == c_int::from(b))
     }
 }
 

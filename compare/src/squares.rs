@@ -4,6 +4,7 @@
 mod bad;
 mod instructions;
 mod kinds;
+mod outside;
 mod plan;
 mod record;
 mod speed;
@@ -14,6 +15,7 @@ use crate::han_xin::{Read, decode_data, decode_matrix, nearest_info};
 use crate::tools::{MARK, ROOM, Random, differs, hex, same};
 use crate::written::Written;
 pub use kinds::compare;
+pub use outside::zint;
 use plan::Plan;
 pub use record::record;
 pub use instructions::instructions;
@@ -37,12 +39,12 @@ unsafe extern "C" {
 
 /// Which reading, with the numbers that it is given.
 #[derive(Clone, Copy, Debug)]
-enum Reading {
+pub enum Reading {
     Side(usize),
     Known(usize, usize, usize),
 }
 
-fn read(square: &[u8], how: Reading, payload: &mut [u8], script: &mut [u8], receipt: &mut [u8]) -> usize {
+pub fn read(square: &[u8], how: Reading, payload: &mut [u8], script: &mut [u8], receipt: &mut [u8]) -> usize {
     let (q, qn) = (square.as_ptr(), square.len());
     let (p, pn) = (payload.as_mut_ptr(), payload.len());
     let (s, sn) = (script.as_mut_ptr(), script.len());
@@ -56,7 +58,7 @@ fn read(square: &[u8], how: Reading, payload: &mut [u8], script: &mut [u8], rece
     }
 }
 
-fn write(version: usize, level: usize, mask: usize, script: &[u8], payload: &[u8], square: &mut [u8]) -> usize {
+pub fn write(version: usize, level: usize, mask: usize, script: &[u8], payload: &[u8], square: &mut [u8]) -> usize {
     let (s, sn) = (script.as_ptr(), script.len());
     let (p, pn) = (payload.as_ptr(), payload.len());
     // SAFETY: each slice is passed with its own length, and the mutable one overlaps no other.
@@ -182,16 +184,22 @@ impl Both {
 
     /// One square that may be read as anything. What is read is written again, and must then be read as it was.
     fn as_any(&mut self, square: &[u8], how: Reading) -> Answer {
+        self.and_again(square, how).0
+    }
+
+    /// The same, with the script and the square that was written again; both are empty where the answer is a refusal.
+    fn and_again(&mut self, square: &[u8], how: Reading) -> (Answer, Vec<u8>, Vec<u8>) {
         let (answer, script) = self.one(square, how);
         self.numbers[answer.number] += 1;
-        if answer.number == 0 {
-            let again = self.write(answer.version, answer.level, answer.mask, &script, &answer.payload);
-            let expected = Answer { corrected: 0, distance: 0, ..answer.clone() };
-            let how = Reading::Known(answer.version, answer.level, answer.mask);
-            same("a mark written again", &hex(&packed(square)), self.one(&again, how), (expected, script));
-            self.again += 1;
+        if answer.number > 0 {
+            return (answer, script, Vec::new());
         }
-        answer
+        let again = self.write(answer.version, answer.level, answer.mask, &script, &answer.payload);
+        let expected = Answer { corrected: 0, distance: 0, ..answer.clone() };
+        let how = Reading::Known(answer.version, answer.level, answer.mask);
+        same("a mark written again", &hex(&packed(square)), self.one(&again, how), (expected, script.clone()));
+        self.again += 1;
+        (answer, script, again)
     }
 
     /// A mark of a script that has room.

@@ -56,10 +56,22 @@ pub fn hex(bytes: &[u8]) -> String {
     bytes.iter().map(|b| format!("{b:02X}")).collect()
 }
 
+/// The bytes of a hexadecimal text, or nothing where it is none.
+pub fn unhex(text: &str) -> Option<Vec<u8>> {
+    let digits: Vec<u8> = text.chars().map(|c| Some(c.to_digit(16)? as u8)).collect::<Option<_>>()?;
+    let (pairs, rest) = digits.as_chunks::<2>();
+    rest.is_empty().then(|| pairs.iter().map(|[high, low]| high << 4 | low).collect())
+}
+
+/// The end of a comparison that cannot go on.
+pub fn fail(message: &str) -> ! {
+    eprintln!("compare: {message}");
+    std::process::exit(1);
+}
+
 /// The end of a comparison at its first difference.
 pub fn differs(what: &str, input: &str, ours: &str, theirs: &str) -> ! {
-    eprintln!("compare: {what} differs\n  input: {input}\n  ours:  {ours}\n  Rust:  {theirs}");
-    std::process::exit(1);
+    fail(&format!("{what} differs\n  input:  {input}\n  ours:   {ours}\n  theirs: {theirs}"));
 }
 
 /// Ends at a difference between two answers.

@@ -1,6 +1,6 @@
 //! The kinds of squares that are compared.
 use super::plan::{Block, Plan};
-use super::{Both, Mark, Reading, bad, record, writing};
+use super::{Both, Mark, Reading, bad, outside, writing};
 use crate::blocks::our_parity;
 use crate::han_xin::{info_bits, nearest_info};
 use crate::tools::{Random, hex, same};
@@ -26,7 +26,7 @@ const KINDS: [Kind; 6] = [
 pub fn compare() {
     let mut both = Both::new();
     let mut random = Random::new(11);
-    outside(&mut both);
+    outside::compare(&mut both);
     bad::compare(&mut both);
     nine(&mut both, &mut random);
     plain(&mut both);
@@ -253,17 +253,4 @@ fn plain(both: &mut Both) {
         }
     }
     both.report("all light and all dark squares, each version, level and mask", "read");
-}
-
-/// The marks of another writer, read as what it was given.
-fn outside(both: &mut Both) {
-    for (name, square, payload) in record::vectors() {
-        let side = square.len().isqrt();
-        let answer = both.as_any(&square, Reading::Side(side));
-        same("the mark of another writer", &name, (answer.number, answer.corrected, hex(&answer.payload)), (0, 0, hex(&payload)));
-        // The name says which level and mask were asked for.
-        let told = format!("level {}, mask {},", answer.level, answer.mask);
-        same("the level and mask of another writer", &name, name.contains(&told) || name.contains("mask any"), true);
-    }
-    both.report("marks of another writer", "read");
 }

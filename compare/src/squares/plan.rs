@@ -82,13 +82,16 @@ impl Plan {
         stream
     }
 
-    /// A mark of a stream: leftover data modules are light.
+    /// A mark of a stream. The leftover data modules are zeros, which the mask inverts like every other.
     pub fn square(&self, level: usize, mask: usize, stream: &[u8]) -> Vec<u8> {
         let mut square = self.blank.clone();
         for (modules, &codeword) in self.codewords.iter().zip(stream) {
             for (bit, &i) in modules.iter().enumerate() {
                 square[i] = (codeword >> (7 - bit) & 1) ^ self.masks[mask][i];
             }
+        }
+        for &i in &self.leftover {
+            square[i] = self.masks[mask][i];
         }
         self.inform(&mut square, info_bits(self.version, level, mask));
         square

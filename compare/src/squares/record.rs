@@ -1,27 +1,10 @@
-//! The list of `replay_squares`, and the marks of another writer that scripts/zint_vectors has recorded.
+//! The list of `replay_squares`.
 use super::kinds::{beyond, damage_all, misinform, toward};
+use super::outside::{Given, recorded};
 use super::{Both, packed};
 use crate::han_xin::{decode_matrix, info_bits};
 use crate::tools::{Random, hex};
 use crate::written::Written;
-
-const ZINT: &str = include_str!("../../../crates/replay_squares/zint.txt");
-
-fn unhex(text: &str) -> Vec<u8> {
-    (0..text.len() / 2).map(|i| u8::from_str_radix(&text[2 * i..2 * i + 2], 16).unwrap()).collect()
-}
-
-/// Name, square and payload of each recorded mark.
-pub fn vectors() -> Vec<(String, Vec<u8>, Vec<u8>)> {
-    let one = |line: &str| {
-        let [name, side, modules, payload] = line.split('\t').collect::<Vec<_>>().try_into().unwrap();
-        let side: usize = side.parse().unwrap();
-        let modules = unhex(modules);
-        let square = (0..side * side).map(|i| modules[i / 8] >> (7 - i % 8) & 1).collect();
-        (name.to_owned(), square, unhex(payload))
-    };
-    ZINT.lines().map(one).collect()
-}
 
 /// The original's line: the payload in hexadecimal and the count of corrections, or `-`.
 fn answer(square: &[u8]) -> String {
@@ -63,7 +46,7 @@ pub fn record() -> (Vec<u8>, String) {
         squares.extend(kinds(&both, &mut random, version, level, mask));
     }
     squares.push(both.random_mark(&mut random, 84, 3, 3).square);
-    for (name, square, payload) in vectors() {
+    for Given { name, square, payload } in recorded() {
         assert_eq!(answer(&square), format!("{} 0", hex(&payload)), "{name}");
         squares.push(square);
     }
