@@ -147,7 +147,7 @@ known-accepted-passes sq v l k p s r e = any.begins r p s (knownRefusal v l k sq
 
 -- ---- 3. Leftover modules (11.15)
 
--- Each leftover module of a mark is a zero bit under the mask: dark exactly where the mask inverts.
+-- Each leftover module of a mark, whose script is a list of bytes, is a zero bit under the mask: dark exactly where the mask inverts.
 pub leftover-is-masked : (v level mask : ℕ) (script payload before mark : List ℕ) (bytes : (i : ℕ) → getD script i 0 < 256)
     → writeOf v level mask script payload before ≡ record { number = 0; square = mark }
     → (i : ℕ) → Leftover v i → getD mark i 0 ≡ maskBit (sideOf v) mask i
