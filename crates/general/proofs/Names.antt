@@ -13,7 +13,7 @@ pub use lib.ListN.{drop-of-length-le, length-replicate, List·getD-append, getD-
 pub use lib.Seq.{length-take-le, take-at, getD-drop, sets, drop-drop, drop-cons, drop-at, getD-set-same, getD-set-other, ext-getD, getD-take}
 pub use lib.Seq.{take-all, getD-append-add, sets-eq, take-suc, take-append-le, paste, take-suc-set, drop-nil, set-at, append-snoc, take-add}
 pub use lib.Seq.{set-append-left, set-getD, take-take, drop-append-le, paste-suc, paste-zero, take-set-lt, drop-set-lt, take-length, length-sets}
-pub use lib.Seq.{drop-append-add, take-nil, getD-append-seam, drop-append-seam, take-append-seam, set-out, getD-at}
+pub use lib.Seq.{take-nil, getD-append-seam, drop-append-seam, take-append-seam, set-out, getD-at}
 pub use lib.Bits.{bitXor, xor-zero-r, xor-self, xor-lt, xor-block, xor-zero-l, xor-shr, xor-mod, bitAnd, xor-comm, and-le-r, and-mask, differ}
 pub use lib.Bits.{xor-step, and-zero-r, xor-shifted, bitOr, or-shr, and-shr, or-mod, and-mod, and-block}
 pub use native.Mathlib.Nat.{add-zero, mod-lt, mul-le-mul, le-of-suc-le-suc, suc-mul, add-assoc, zero-add, add-mul, zero-mul, mod-eq-of-lt, zero-div}
