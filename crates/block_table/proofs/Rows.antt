@@ -4,21 +4,23 @@ use Rattle.general.proofs.Names.{add-zero, le-of-suc-le-suc, not-suc-le-zero, a
 use Rattle.general.proofs.Names.{length-drop, drop-drop, getD-take, getD-drop, getD-set-same, getD-set-other, ext-getD, length-take-le, ℕ-discrete}
 use Rattle.general.proofs.Finite.{and-left, and-right, upTo, every}
 use Rattle.block_table.specs.Table.{blocks, totals}
-use Rattle.block_table.specs.Blocks.{totalOf, rowOf, Shape, size, batch, shapes, shapesOf, totalSize, blockHolds, rowHolds}
-use Rattle.block_table.specs.Inner.{Sound, none, more}
+use Rattle.block_table.specs.Blocks.{totalOf, rowOf, Shape, size, batch, shapes, shapesOf, totalSize, totalData, blockHolds, rowHolds}
+use Rattle.general.proofs.Lowest.{lowest-alike}
+use Rattle.general.specs.Lists.{lowest}
+use Rattle.block_table.specs.Inner.{Sound, none, more, enough}
 
 -- f holds of n rows of nine, counted from i
 everyRow : (ℕ → List ℕ → Bool) → ℕ → ℕ → List ℕ → Bool
 everyRow f zero i xs = true
 everyRow f (suc n) i xs = f i (take 9 xs) && everyRow f n (suc i) (drop 9 xs)
 
-from : (f : ℕ → List ℕ → Bool) (n i : ℕ) (xs : List ℕ) → T (everyRow f n i xs) → (k : ℕ) → k < n → T (f (i + k) (take 9 (drop (9 * k) xs)))
+rows-from : (f : ℕ → List ℕ → Bool) (n i : ℕ) (xs : List ℕ) → T (everyRow f n i xs) → (k : ℕ) → k < n → T (f (i + k) (take 9 (drop (9 * k) xs)))
 unfolding everyRow
-from f zero i xs t k h = absurd (not-suc-le-zero h)
-from f (suc n) i xs t zero h = subst (λ (m : ℕ). T (f m (take 9 xs))) (sym (add-zero i)) (and-left (f i (take 9 xs)) (everyRow f n (suc i) (drop 9 xs)) t)
-from f (suc n) i xs t (suc k) h =
+rows-from f zero i xs t k h = absurd (not-suc-le-zero h)
+rows-from f (suc n) i xs t zero h = subst (λ (m : ℕ). T (f m (take 9 xs))) (sym (add-zero i)) (and-left (f i (take 9 xs)) (everyRow f n (suc i) (drop 9 xs)) t)
+rows-from f (suc n) i xs t (suc k) h =
     let ih : T (f (suc i + k) (take 9 (drop (9 * k) (drop 9 xs)))) =
-    from f n (suc i) (drop 9 xs) (and-right (f i (take 9 xs)) (everyRow f n (suc i) (drop 9 xs)) t) k (le-of-suc-le-suc h) in
+    rows-from f n (suc i) (drop 9 xs) (and-right (f i (take 9 xs)) (everyRow f n (suc i) (drop 9 xs)) t) k (le-of-suc-le-suc h) in
     let n9 : 9 + 9 * k ≡ 9 * suc k = omega arith in
     let e : drop (9 * k) (drop 9 xs) ≡ drop (9 * suc k) xs = drop-drop (9 * k) 9 xs ∙ ap (λ (m : ℕ). drop m xs) n9 in
     let g : suc i + k ≡ i + suc k = omega arith in
@@ -36,7 +38,7 @@ unfolding shapesOf rowOf totalOf test
 row-holds v l lo hi le =
     let h : 4 * (v - 1) + l < 336 = omega arith in
     let q : (0 + (4 * (v - 1) + l)) / 4 ≡ v - 1 = omega arith in
-    subst (λ (m : ℕ). T (rowHolds (shapes (take 9 (drop (9 * (4 * (v - 1) + l)) blocks))) (getD totals m 0))) q (from test 336 0 blocks passes (4 * (v - 1) + l) h)
+    subst (λ (m : ℕ). T (rowHolds (shapes (take 9 (drop (9 * (4 * (v - 1) + l)) blocks))) (getD totals m 0))) q (rows-from test 336 0 blocks passes (4 * (v - 1) + l) h)
 
 -- totals are small, those of the first versions still more so: tests that antt computes
 total-below : (n b : ℕ) → T (upTo (λ k. leb (getD totals k 0) b) n) → (v : ℕ) → 1 ≤ v → v ≤ n → totalOf v ≤ b
@@ -117,3 +119,25 @@ module _ (v level : ℕ) (lo : 1 ≤ v) (hi : v ≤ 84) (le : level ≤ 3) where
 
   pub shapes-sound : Sound (shapesOf v level)
   shapes-sound = row-sound (shapesOf v level) (totalOf v) (row-holds v level lo hi le)
+
+-- ---- the data codewords of all rows, one after the other
+
+unfoldable pub roomsFrom : ℕ → List ℕ → List ℕ
+roomsFrom zero xs = []
+roomsFrom (suc n) xs = totalData (shapes (take 9 xs)) ∷ roomsFrom n (drop 9 xs)
+
+room-from : (n : ℕ) (xs : List ℕ) (k : ℕ) → k < n → getD (roomsFrom n xs) k 0 ≡ totalData (shapes (take 9 (drop (9 * k) xs)))
+unfolding roomsFrom
+room-from zero xs k h = absurd (not-suc-le-zero h)
+room-from (suc n) xs zero h = refl
+room-from (suc n) xs (suc k) h =
+    let n9 : 9 + 9 * k ≡ 9 * suc k = omega arith in
+    room-from n (drop 9 xs) k (le-of-suc-le-suc h) ∙ rw (drop-drop (9 * k) 9 xs, n9)
+
+-- a search by them is one by the data codewords of each version and level
+pub search-alike : (level bits from : ℕ) → level ≤ 3 → 1 ≤ from → from ≤ 85
+    → lowest (enough (roomsFrom 336 blocks) level bits) (85 - from) from ≡ lowest (λ v. leb bits (8 * totalData (shapesOf v level))) (85 - from) from
+unfolding shapesOf rowOf
+search-alike level bits from le lo hi =
+    lowest-alike (enough (roomsFrom 336 blocks) level bits) (λ v. leb bits (8 * totalData (shapesOf v level))) (85 - from) from
+    (λ v a b. ap (λ (n : ℕ). leb bits (8 * n)) (room-from 336 blocks (4 * (v - 1) + level) (omega arith)))

@@ -1,12 +1,16 @@
 // SPECIFICATION 7.1: the block table (han_xin.rs: `TOTAL_CODEWORDS`, `BLOCKS`).
 ghost use mathlib.Core.Path.{_≡_};
-ghost use Prim.Native.Nat.{ℕ, _+_, _<_, _≤_};
+ghost use Prim.Native.Nat.{ℕ, _+_, _-_, _*_, _<_, _≤_};
+ghost use lib.Dec.{leb};
 ghost use lib.ListN.{length, getD};
-ghost use Rattle.block_table.specs.Blocks.{totalOf, rowOf};
+ghost use Rattle.general.specs.Lists.{lowest};
+ghost use Rattle.block_table.specs.Blocks.{totalOf, rowOf, shapesOf, totalData};
+ghost use Rattle.block_table.specs.Inner.{enough};
 
 pub mod table;
 
 use table::BLOCKS;
+use table::DATA_CODEWORDS;
 use table::FIRST_BLOCKS;
 use table::TOTAL_CODEWORDS;
 
@@ -48,4 +52,28 @@ pub fn block_row(version: usize, level: usize) -> [u8; 9]
     }
     let table = BLOCKS;
     nine(&table, at)
+}
+
+// The lowest version from `from` on that has as many data codewords at a level as so many bits take, by a lent table of them; 85 if none has.
+fn lowest_in(table: &[u16], level: usize, bits: usize, from: usize) -> usize
+    requires { ⌜ (length (now table) ≡ 336) × (level ≤ 3) × (1 ≤ from) × (from ≤ 85) ⌝ }
+    ensures { λ r. ⌜ r ≡ lowest (enough (now (table .entry)) level bits) (85 - from) from ⌝ }
+{
+    let mut version = from;
+    while version < 85 {
+        if bits <= 8 * table[4 * (version - 1) + level] as usize {
+            return version;
+        }
+        version += 1;
+    }
+    version
+}
+
+// The same by the table of all versions and levels.
+pub fn lowest_version(level: usize, bits: usize, from: usize) -> usize
+    requires { ⌜ (level ≤ 3) × (1 ≤ from) × (from ≤ 85) ⌝ }
+    ensures { λ r. ⌜ r ≡ lowest (λ v. leb bits (8 * totalData (shapesOf v level))) (85 - from) from ⌝ }
+{
+    let table = DATA_CODEWORDS;
+    lowest_in(&table, level, bits, from)
 }

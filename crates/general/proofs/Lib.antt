@@ -5,3 +5,4 @@ pub mod Xor
 pub mod Choices
 pub mod Lists
 pub mod Each
+pub mod Lowest

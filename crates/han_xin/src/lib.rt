@@ -3,6 +3,14 @@
 ghost use mathlib.Core.Path.{_≡_};
 ghost use Rattle.marks.specs.Read.{readingOf, readOf, readKnownOf};
 ghost use Rattle.marks.specs.Write.{writingOf, writeOf};
+ghost use Rattle.marks.specs.Smallest.{smallest, smallestOf};
+
+// What an operation gives that answers a number beside the refusal number: both, and the second is 0 after a refusal.
+#[repr(C)]
+pub struct Answer {
+    pub number: usize,
+    pub value: usize,
+}
 
 // SPECIFICATION 10.9: Read a square.
 #[no_mangle]
@@ -49,4 +57,23 @@ pub extern "C" fn hx_write_square(
     ensures { λ r. ⌜ writingOf r (now (square .exit)) ≡ writeOf version level mask (now (script .entry)) (now (payload .entry)) (now (square .entry)) ⌝ }
 {
     writer::write_square(version, level, mask, script, payload, square)
+}
+
+// SPECIFICATION 10.12: Write the smallest mark. The value is the version found.
+#[no_mangle]
+pub extern "C" fn hx_write_smallest(
+    level: usize,
+    mask: usize,
+    script: &[u8],
+    payload: &[u8],
+    square: &mut [u8],
+) -> Answer
+    ensures { λ r. ⌜ smallest (r .number) (r .value) (now (square .exit))
+        ≡ smallestOf level mask (now (script .entry)) (now (payload .entry)) (now (square .entry)) ⌝ }
+{
+    let found = writer::smallest::write_smallest(level, mask, script, payload, square);
+    Answer {
+        number: found.number,
+        value: found.version,
+    }
 }

@@ -13,10 +13,11 @@ use Rattle.script.specs.Writer.{isDigit, modeHas, numericWords, modeBits, encod
 use Rattle.script.specs.Check.{allowed, segmentAt, commands, commandsOf}
 use Rattle.corrector.proofs.Repairs.{distance-self}
 use Rattle.marks.specs.Read.{Reading, firstRefusal, unless, readOf, readKnownOf}
-use Rattle.marks.specs.Write.{roomOf, markOf, scriptRefusals, writeRefusal, writeOf}
+use Rattle.marks.specs.Write.{markOf, segmentsRefusal, fits, writeRefusal, writeOf}
+use Rattle.marks.specs.Smallest.{smallestOf}
 use Rattle.marks.specs.Promise.{blockIn, Leftover}
 use Rattle.marks.proofs.Marks.{Ranges, mark-below}
-use Rattle.marks.proofs.Theorems.{mark-is-read, mark-is-read-known}
+use Rattle.marks.proofs.Theorems.{mark-is-read, mark-is-read-known, written-is-found}
 use Rattle.general.specs.Lists.{each}
 
 -- one command, numeric with a length of 1, and its digit
@@ -37,10 +38,10 @@ unfolding hasBlocks rowHolds blockHolds shapesOf shapes batch totalSize rowOf to
 blocked = refl
 
 accepted : writeRefusal 1 0 0 script payload before ≡ 0
-unfolding writeRefusal firstRefusal isInfo isVersion commands bind segmentAt allowed modeHas isDigit encodings flatMap modeBits numericWords wordBits lowBits shapesOf shapes rowOf blocks batch totalData
+unfolding writeRefusal firstRefusal fits isInfo isVersion commands bind segmentAt allowed modeHas isDigit encodings flatMap modeBits numericWords wordBits lowBits shapesOf shapes rowOf blocks batch totalData
 accepted =
     ap
-    (λ (b : Bool). firstRefusal (0 ∷ unless b 1 ∷ 0 ∷ scriptRefusals (commandsOf script payload) payload (roomOf 1 0)))
+    (λ (b : Bool). firstRefusal (0 ∷ unless b 1 ∷ 0 ∷ segmentsRefusal (commandsOf script payload) payload ∷ unless (fits 1 0 script payload) 13 ∷ []))
     blocked
 
 made : writeOf 1 0 0 script payload before ≡ record { number = 0; square = mark }
@@ -88,3 +89,7 @@ some-leftover =
     let before-it : dataModules (take 519 (layoutOf 1)) ≡ 204 = refl in
     let total : totalOf 1 ≡ 25 = refl in
     (omega arith, refl, omega arith)
+
+-- The digit is written as the smallest mark, too.
+pub some-smallest-is-written : smallestOf 0 0 script payload before .number ≡ 0
+some-smallest-is-written = written-is-found 0 0 script payload before 1 before mark made (omega arith)

@@ -4,6 +4,7 @@ pub mod Modules
 pub mod Data
 pub mod Marks
 pub mod ReadBack
+pub mod Smallest
 pub mod Starts
 pub mod Leftovers
 pub mod AnySquare

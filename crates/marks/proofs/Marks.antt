@@ -1,6 +1,7 @@
 -- A mark made by the writer: what its making says, and what is read of its information. Assumes nothing.
 use Rattle.general.proofs.Names.{_≡_, refl, sym, ap, ap₂, _∙_, Bool, true, false, _&&_, Option, none, some, List, [], _∷_, ℕ, _+_, _*_, _/_, leb-true, eqb-true}
-use Rattle.general.proofs.Names.{_%_, _^_, _-_, _<_, _≤_, arith, ℕ-discrete, eq-eqb, ne-eqb, le-leb, ltb-true, eqb, ltb, leb, length}
+use Rattle.general.proofs.Names.{_%_, _^_, _-_, _<_, _≤_, arith, ℕ-discrete, eq-eqb, ne-eqb, le-leb, lt-ltb, ltb-true, eqb, ltb, leb, length}
+use mathlib.Core.Option.{Option·getD}
 use Rattle.symbol.specs.Version.{sideOf, isVersion, isSide, sideVersion}
 use Rattle.symbol.specs.Layout.{layoutOf}
 use Rattle.symbol.proofs.Theorems.{layout-length}
@@ -16,8 +17,8 @@ use Rattle.script.specs.Writer.{encodings}
 use Rattle.script.specs.Check.{commandsOf}
 use Rattle.script.specs.Inner.{Fits, allHave, scriptData}
 use Rattle.marks.specs.Read.{firstRefusal, unless, nearestIn}
-use Rattle.marks.specs.Write.{Writing, roomOf, scriptRefusals, writeRefusal, markOf, writeOf}
-use Rattle.marks.proofs.Refusals.{true-unless, first-none, first-one, both-true}
+use Rattle.marks.specs.Write.{Writing, roomOf, segmentsRefusal, fits, writeRefusal, markOf, writeOf}
+use Rattle.marks.proofs.Refusals.{true-unless, first-none, both-true}
 use Rattle.marks.proofs.Modules.{nearest-bits}
 use Rattle.codewords.proofs.Masks.{mask-bit-lt}
 use Rattle.codewords.proofs.Small.{Below, square-below}
@@ -65,29 +66,42 @@ pub record Written (v l k : ℕ) (s p sq : List ℕ) : Type 0 where
   pub size : length sq ≡ sideOf v * sideOf v
   pub fits : Fits s p (roomOf v l)
 
--- no refusal of script and payload
-script-fits : (s p : List ℕ) (n : ℕ) (z : Option (List Segment)) → commandsOf s p ≡ z → firstRefusal (scriptRefusals z p n) ≡ 0 → Fits s p n
-script-fits s p n none q e = absurd (omega (arith, first-one 11))
-script-fits s p n (some gs) q e =
-    let room = leb (length (encodings gs)) (8 * n) in
-    let bits = unless room 13 in
-    let a = first-none (unless (allHave gs) 12) (unless (ltb 0 (length p)) 8 ∷ bits ∷ []) e in
-    let b = first-none (unless (ltb 0 (length p)) 8) (bits ∷ []) (a .1) in
-    let c = first-none bits [] (b .1) in
+-- ---- script and payload are accepted and fit: as numbers and tests, and as facts
+
+accepted-fits : (s p : List ℕ) (n : ℕ) (z : Option (List Segment)) → commandsOf s p ≡ z → segmentsRefusal z p ≡ 0
+    → leb (length (encodings (Option·getD z []))) (8 * n) ≡ true → Fits s p n
+accepted-fits s p n none q e h = absurd (omega arith)
+accepted-fits s p n (some gs) q e h =
+    let a = first-none (unless (allHave gs) 12) (unless (ltb 0 (length p)) 8 ∷ []) e in
+    let b = first-none (unless (ltb 0 (length p)) 8) [] (a .1) in
     record {
       segments = gs;
       are = q;
       have = true-unless (allHave gs) 11 (a .0);
       filled = ltb-true 0 (length p) (true-unless (ltb 0 (length p)) 7 (b .0));
-      room = leb-true (length (encodings gs)) (8 * n) (true-unless room 12 (c .0));
+      room = leb-true (length (encodings gs)) (8 * n) h;
     }
 
-module _ (v l k : ℕ) (s p sq : List ℕ) where
-  abbrev texts : List ℕ
-  texts = scriptRefusals (commandsOf s p) p (roomOf v l)
+module _ (v l : ℕ) (s p : List ℕ) where
+  pub script-fits : segmentsRefusal (commandsOf s p) p ≡ 0 → fits v l s p ≡ true → Fits s p (roomOf v l)
+  unfolding fits
+  script-fits e h = accepted-fits s p (roomOf v l) (commandsOf s p) refl e h
 
+  module _ (F : Fits s p (roomOf v l)) where
+    pub fits-accepted : segmentsRefusal (commandsOf s p) p ≡ 0
+    unfolding firstRefusal
+    fits-accepted = rw (F .are) (rw (F .have, lt-ltb 0 (length p) (F .filled)))
+
+    pub fits-true : fits v l s p ≡ true
+    unfolding fits
+    fits-true = rw (F .are) (le-leb (length (encodings (F .segments))) (8 * roomOf v l) (F .room))
+
+module _ (v l k : ℕ) (s p sq : List ℕ) where
   abbrev sized : Bool
   sized = eqb (length sq) (sideOf v * sideOf v)
+
+  abbrev texts : List ℕ
+  texts = segmentsRefusal (commandsOf s p) p ∷ unless (fits v l s p) 13 ∷ []
 
   pub no-refusal : writeRefusal v l k s p sq ≡ 0 → Written v l k s p sq
   unfolding writeRefusal
@@ -95,12 +109,19 @@ module _ (v l k : ℕ) (s p sq : List ℕ) where
       let a = first-none (unless (isInfo v l k) 1) (unless (hasBlocks v l) 1 ∷ unless sized 2 ∷ texts) e in
       let b = first-none (unless (hasBlocks v l) 1) (unless sized 2 ∷ texts) (a .1) in
       let c = first-none (unless sized 2) texts (b .1) in
+      let d = first-none (segmentsRefusal (commandsOf s p) p) (unless (fits v l s p) 13 ∷ []) (c .1) in
+      let f = first-none (unless (fits v l s p) 13) [] (d .1) in
       record {
         ranged = ranges v l k (true-unless (isInfo v l k) 0 (a .0));
         blocked = true-unless (hasBlocks v l) 0 (b .0);
         size = eqb-true (length sq) (sideOf v * sideOf v) (true-unless sized 1 (c .0));
-        fits = script-fits s p (roomOf v l) (commandsOf s p) refl (c .1);
+        fits = script-fits v l s p (d .0) (true-unless (fits v l s p) 12 (f .0));
       }
+
+  pub refused-not : Written v l k s p sq → writeRefusal v l k s p sq ≡ 0
+  unfolding writeRefusal firstRefusal
+  refused-not W =
+      rw (info-is v l k (W .ranged), W .blocked, eq-eqb (length sq) (sideOf v * sideOf v) (W .size), fits-accepted v l s p (W .fits), fits-true v l s p (W .fits))
 
   pub written : (m : List ℕ) → writeOf v l k s p sq ≡ record { number = 0; square = m } → Written v l k s p sq × (m ≡ markOf v l k s p)
   unfolding writeOf

@@ -1,22 +1,25 @@
 -- A WRITTEN MARK IS READ BACK (SPECIFICATION 11), by Read a square and by Read with known version, level, mask, over the definitions that
 -- the contracts cite; its words are those of specs/Promise.antt. First: a mark made by the writer is read as it was written, whichever
 -- modules flip within reach. Second: what a reading answers for any square at all that passes its first refusals. Third: leftover modules.
--- Assumes nothing.
-use Rattle.general.proofs.Names.{_≡_, sym, ap, _∙_, _≢_, List, _++_, ℕ, _/_, _≤_, _<_, length, getD, drop}
+-- Fourth: the smallest mark. Assumes nothing.
+use Rattle.general.proofs.Names.{_≡_, sym, ap, _∙_, _≢_, List, _++_, ℕ, _*_, _/_, _≤_, _<_, arith, length, getD, take, drop}
 use Rattle.symbol.specs.Version.{sideOf, sideVersion}
 use Rattle.symbol.specs.Layout.{layoutOf}
 use Rattle.information.specs.Information.{infoFlips}
 use Rattle.codewords.specs.Codewords.{maskBit}
+use Rattle.script.specs.Check.{commandsOf}
 use Rattle.marks.specs.Receipt.{receiptOf}
 use Rattle.marks.specs.Read.{Reading, refused, nearestIn, readRefusal, knownRefusal, bodyOf, readOf, readKnownOf}
-use Rattle.marks.specs.Write.{writeOf}
-use Rattle.marks.specs.Promise.{blockCount, blockIn, parityIn, changedAt, changed, InReach, EachInReach, setTo, correctionsAt, Leftover}
+use Rattle.marks.specs.Write.{segmentsRefusal, writeOf}
+use Rattle.marks.specs.Smallest.{smallestOf}
+use Rattle.marks.specs.Promise.{blockCount, blockIn, parityIn, changedAt, changed, InReach, EachInReach, setTo, correctionsAt, Leftover, Holds}
 use Rattle.reed_solomon.specs.Block.{distance}
 use Rattle.marks.proofs.Marks.{Ranges}
 use Rattle.marks.proofs.Starts.{level-range}
 use Rattle.marks.proofs.ReadBack as back
 use Rattle.marks.proofs.Leftovers as leftovers
 use Rattle.marks.proofs.AnySquare as any
+use Rattle.marks.proofs.Smallest as small
 
 -- ---- 1. Marks made by the writer (11.1 to 11.8)
 
@@ -163,3 +166,47 @@ module _ (a b : List ℕ) (size : length a ≡ length b) (modules-a : (i : ℕ) 
   pub known-leftovers-are-ignored : (v : ℕ) → ((i : ℕ) → (Leftover v i → ⊥) → getD a i 0 ≡ getD b i 0)
       → (level mask : ℕ) (p s r : List ℕ) → readKnownOf a v level mask p s r ≡ readKnownOf b v level mask p s r
   known-leftovers-are-ignored = leftovers.known-alike a b size modules-a modules-b
+
+-- ---- 4. The smallest mark (11.16 to 11.18)
+
+-- Write the smallest mark has answered 0 and version v for a level, mask, script and payload; the square was `before` and is `after`.
+module _ (level mask : ℕ) (script payload before after : List ℕ) (v : ℕ)
+    (made : smallestOf level mask script payload before ≡ record { number = 0; version = v; square = after }) where
+  -- This version holds script and payload ..
+  pub smallest-holds : Holds level script payload v
+  smallest-holds = small.version-holds level mask script payload before v after made
+
+  -- .. and no lower one does.
+  pub no-lower-holds : (u : ℕ) → u < v → Holds level script payload u → ⊥
+  no-lower-holds u h = small.none-before level script payload u (omega (arith, small.is-found level mask script payload before v after made))
+
+  -- The first s × s bytes are exactly those that Write a square makes at v, so that all that is said above of marks holds of them ..
+  pub smallest-is-written : (square : List ℕ) → length square ≡ sideOf v * sideOf v
+      → writeOf v level mask script payload square ≡ record { number = 0; square = take (sideOf v * sideOf v) after }
+  smallest-is-written = small.written-there level mask script payload before v after made
+
+  -- .. and the bytes beyond them stay.
+  pub beyond-stays : drop (sideOf v * sideOf v) after ≡ drop (sideOf v * sideOf v) before
+  beyond-stays = small.beyond-is level mask script payload before v after made
+
+module _ (level mask : ℕ) (script payload before : List ℕ) where
+  -- 14 means that no version holds script and payload.
+  pub fourteen-is-none : smallestOf level mask script payload before .number ≡ 14 → (v : ℕ) → Holds level script payload v → ⊥
+  fourteen-is-none = small.fourteen level mask script payload before
+
+  -- Level and mask in their ranges, and neither 11 nor 12 nor 8 for script and payload.
+  module _ (level-in : level ≤ 3) (mask-in : mask ≤ 3) (accepted : segmentsRefusal (commandsOf script payload) payload ≡ 0) where
+    -- Then 14 is answered where no version holds them ..
+    pub none-is-fourteen : ((v : ℕ) → Holds level script payload v → ⊥)
+        → smallestOf level mask script payload before ≡ record { number = 14; version = 0; square = before }
+    none-is-fourteen = small.none-fourteen level mask script payload before level-in mask-in accepted
+
+    -- .. and 0 where some version does, and the square is long enough for it.
+    pub some-is-found : (v : ℕ) → Holds level script payload v → sideOf v * sideOf v ≤ length before
+        → smallestOf level mask script payload before .number ≡ 0
+    some-is-found = small.some-found level mask script payload before level-in mask-in accepted
+
+  -- So whatever Write a square writes at some version is written, into any square that is no shorter.
+  pub written-is-found : (v : ℕ) (square mark : List ℕ) → writeOf v level mask script payload square ≡ record { number = 0; square = mark }
+      → length square ≤ length before → smallestOf level mask script payload before .number ≡ 0
+  written-is-found = small.written-found level mask script payload before

@@ -1,5 +1,6 @@
 -- SPECIFICATION 11, "A written mark is read back": the words in which the theorem (proofs/Theorems.antt) is stated.
 use mathlib.Core.Path.{_≡_}
+use mathlib.Core.Bool.{true}
 use mathlib.Core.List.{List, [], map}
 use Prim.Native.Nat.{ℕ, _*_, _<_, _≤_}
 use lib.Dec.{T}
@@ -7,10 +8,12 @@ use lib.ListN.{length, getD, take}
 use Rattle.symbol.specs.Layout.{layoutOf, data-kind, dataModules}
 use Rattle.reed_solomon.specs.Block.{distance, inReach}
 use Rattle.corrector.specs.Correct.{correctOf}
-use Rattle.block_table.specs.Blocks.{totalOf, shapesOf, dataParts}
+use Rattle.block_table.specs.Blocks.{totalOf, shapesOf, hasBlocks, dataParts}
 use Rattle.blocks.specs.Blockwise.{differences}
 use Rattle.segments.specs.FromData.{fromData}
+use Rattle.script.specs.Writer.{encodings}
 use Rattle.marks.specs.Read.{Reading, blocksIn, outcomeReading}
+use Rattle.marks.specs.Write.{roomOf, segmentsOf}
 
 -- how many blocks a version and level have
 abbrev pub blockCount : ℕ → ℕ → ℕ
@@ -52,3 +55,10 @@ correctionsAt v level mask sq j = correctOf 0x163 1 (parityIn v level j) (blockI
 -- SPECIFICATION 6.3: place i of a square of version v is a leftover module, a data module with 8 T or more data modules before it
 abbrev pub Leftover : ℕ → ℕ → Type 0
 Leftover v i = (i < length (layoutOf v)) × (getD (layoutOf v) i 0 ≡ data-kind) × (8 * totalOf v ≤ dataModules (take i (layoutOf v)))
+
+-- SPECIFICATION 10.12: version v holds a script and payload at a level: 7.4 does not refuse it, and their bits are at most 8 × its data codewords
+pub record Holds (level : ℕ) (s p : List ℕ) (v : ℕ) : Type 0 where
+  pub low : 1 ≤ v
+  pub high : v ≤ 84
+  pub blocks : hasBlocks v level ≡ true
+  pub room : length (encodings (segmentsOf s p)) ≤ 8 * roomOf v level

@@ -1,5 +1,5 @@
 -- SPECIFICATION 10.11: Write a square.
-use mathlib.Core.Bool.{cond}
+use mathlib.Core.Bool.{Bool, cond}
 use mathlib.Core.Option.{Option, none, some, Option·getD}
 use mathlib.Core.List.{List, [], _∷_}
 use Prim.Native.Nat.{ℕ, _*_}
@@ -31,23 +31,31 @@ writingOf n sq = record { number = n; square = sq }
 abbrev pub roomOf : ℕ → ℕ → ℕ
 roomOf v level = totalData (shapesOf v level)
 
--- the tests of the segments that a script makes of the payload p, for so many data codewords: 11 the commands make none; 12 a segment has
--- a byte, pair or four bytes that its mode lacks; 8 payload empty; 13 more bits than 8 × data codewords
-abbrev pub scriptRefusals : Option (List Segment) → List ℕ → ℕ → List ℕ
-scriptRefusals none p room = 11 ∷ []
-scriptRefusals (some gs) p room = unless (all has gs) 12 ∷ unless (ltb 0 (length p)) 8 ∷ unless (leb (length (encodings gs)) (8 * room)) 13 ∷ []
+-- the segments that a script makes of a payload
+abbrev pub segmentsOf : List ℕ → List ℕ → List Segment
+segmentsOf s p = Option·getD (commandsOf s p) []
 
--- 1 version, level or mask outside its range, or by SPECIFICATION 7.4; 2 square not s × s; then script and payload
+-- SPECIFICATION 10.8, for the segments that a script makes of the payload p: 11 the commands make none; 12 a segment has a byte, pair or
+-- four bytes that its mode lacks; 8 payload empty
+abbrev pub segmentsRefusal : Option (List Segment) → List ℕ → ℕ
+segmentsRefusal none p = 11
+segmentsRefusal (some gs) p = firstRefusal (unless (all has gs) 12 ∷ unless (ltb 0 (length p)) 8 ∷ [])
+
+-- the bits of a script and payload are no more than 8 × the data codewords of a version and level
+unfoldable pub fits : ℕ → ℕ → List ℕ → List ℕ → Bool
+fits v level s p = leb (length (encodings (segmentsOf s p))) (8 * roomOf v level)
+
+-- 1 version, level or mask outside its range, or by SPECIFICATION 7.4; 2 square not s × s; 11, 12 and 8; 13 more bits than fit
 unfoldable pub writeRefusal : ℕ → ℕ → ℕ → List ℕ → List ℕ → List ℕ → ℕ
 writeRefusal v level mask s p sq =
     firstRefusal
     (unless (isInfo v level mask) 1 ∷ unless (hasBlocks v level) 1 ∷ unless (eqb (length sq) (sideOf v * sideOf v)) 2
-    ∷ scriptRefusals (commandsOf s p) p (roomOf v level))
+    ∷ segmentsRefusal (commandsOf s p) p ∷ unless (fits v level s p) 13 ∷ [])
 
 -- the mark: the bits of the script in the data codewords, blocks with their parity, the stream in the masked data modules, and the word
 unfoldable pub markOf : ℕ → ℕ → ℕ → List ℕ → List ℕ → List ℕ
 markOf v level mask s p =
-    let stream = streamOf (shapesOf v level) (dataBytes (roomOf v level) (Option·getD (commandsOf s p) [])) in
+    let stream = streamOf (shapesOf v level) (dataBytes (roomOf v level) (segmentsOf s p)) in
     infoWritten (sideOf v) (infoBits v level mask) (placed (maskBit (sideOf v) mask) 0 (layoutOf v) (bitsOf (fromStream stream)))
 
 -- a refusal leaves the square

@@ -21,9 +21,9 @@ room-is {m} R r is n e = (
 )
 
 -- and the data codewords of a version and level are at most 3,886
-pub room-small : {m : Mark} → ValidMark m → roomOf (m .version) (m .level) ≤ 3886
+pub room-small : (v level : ℕ) → 1 ≤ v → v ≤ 84 → level ≤ 3 → roomOf v level ≤ 3886
 unfolding shapesOf
-room-small {m} R = row-data (m .version) (m .level) (R .low) (R .high) (R .level) (rowOf (m .version) (m .level)) refl
+room-small v level low high l = row-data v level low high l (rowOf v level) refl
 
 -- script and payload that fit, where the first n bytes of a buffer are lent for the data codewords
 pub fits-lent : (s p xs : List ℕ) (n room : ℕ) → n ≡ room → n ≤ 3886 → n ≤ length xs → Fits s p room

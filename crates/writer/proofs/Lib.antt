@@ -2,4 +2,5 @@
 pub mod Starts
 pub mod DataRoom
 pub mod Refusals
+pub mod Fronts
 pub mod StreamToMark

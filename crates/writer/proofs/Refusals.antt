@@ -1,6 +1,7 @@
 -- The refusals of writing, part by part: each function's number is the one that writing gives. Assumes nothing.
 use Rattle.general.proofs.Names.{_≡_, refl, sym, ap, _∙_, _≢_, Bool, true, false, cond, Option, none, some, List, [], _∷_, _++_, ℕ, _*_, _≤_, _<_, arith}
 use Rattle.general.proofs.Names.{eq-eqb, ne-eqb, le-leb, lt-leb, eqb-true, eqb-false, lt-ltb, eqb, ltb, leb, length, take}
+use mathlib.Core.Option.{Option·getD}
 use Rattle.symbol.specs.Version.{sideOf}
 use Rattle.symbol.specs.Layout.{layoutOf}
 use Rattle.information.specs.Information.{isInfo}
@@ -16,7 +17,7 @@ use Rattle.script.specs.Inner.{capped, checkedOf, checkOf, allHave}
 use Rattle.script.proofs.Scripts.{positive}
 use Rattle.script.proofs.Theorems.{bits-by-formulas, capped-fits}
 use Rattle.marks.specs.Read.{firstRefusal, unless}
-use Rattle.marks.specs.Write.{roomOf, writingOf, scriptRefusals, writeRefusal, markOf, writeOf}
+use Rattle.marks.specs.Write.{roomOf, writingOf, segmentsRefusal, fits, writeRefusal, markOf, writeOf}
 use Rattle.marks.proofs.Marks.{info-is}
 use Rattle.marks.proofs.Refusals.{unless-true, unless-false, first-skips, first-takes, first-left, first-right, first-one}
 use Rattle.marks.proofs.Starts.{has-blocks, no-blocks}
@@ -35,37 +36,68 @@ module _ (v l bits n : ℕ) (e : n ≡ roomOf v l) where
 
 -- ---- 11, 12, 8, 13: script and payload, by the case c of the check's answer
 
--- the number of an answer, where there is room for so many data codewords
-abbrev pub answered : ℕ → Check → ℕ
-answered room Malformed = 11
-answered room Lacking = 12
-answered room Empty = 8
-answered room (Bits n) = unless (leb n (8 * room)) 13
+-- the number of an answer, 0 for a number of bits
+abbrev pub answered : Check → ℕ
+answered Malformed = 11
+answered Lacking = 12
+answered Empty = 8
+answered (Bits n) = 0
 
--- it is that of the segments, though the number of bits stops at some
-checked : (room : ℕ) (p : List ℕ) (z : Option (List Segment)) → room ≤ 3886
-    → answered room (checkedOf z p) ≡ firstRefusal (scriptRefusals z p room)
+-- it is that of the segments
+checked : (p : List ℕ) (z : Option (List Segment)) → answered (checkedOf z p) ≡ segmentsRefusal z p
 unfolding firstRefusal
-checked room p none small = refl
-checked room p (some gs) small = go (allHave gs) refl (eqb (length p) 0) refl
+checked p none = refl
+checked p (some gs) = go (allHave gs) (eqb (length p) 0) refl
   where
-    go : (x : Bool) → allHave gs ≡ x → (y : Bool) → eqb (length p) 0 ≡ y
-        → answered room (cond x (cond y Empty (Bits (capped (bitsOfSegments gs)))) Lacking)
-        ≡ firstRefusal (unless x 12 ∷ unless (ltb 0 (length p)) 8 ∷ unless (leb (length (encodings gs)) (8 * room)) 13 ∷ [])
-    go false h y e = refl
-    go true h true e = rw (eqb-true (length p) 0 e)
-    go true h false e =
-        rw (lt-ltb 0 (length p) (positive (length p) (eqb-false (length p) 0 e)), bits-by-formulas gs h, capped-fits (bitsOfSegments gs) room small)
-        (sym (first-one (unless (leb (bitsOfSegments gs) (8 * room)) 13)))
+    go : (x y : Bool) → eqb (length p) 0 ≡ y
+        → answered (cond x (cond y Empty (Bits (capped (bitsOfSegments gs)))) Lacking) ≡ firstRefusal (unless x 12 ∷ unless (ltb 0 (length p)) 8 ∷ [])
+    go false y e = refl
+    go true true e = rw (eqb-true (length p) 0 e)
+    go true false e = rw (lt-ltb 0 (length p) (positive (length p) (eqb-false (length p) 0 e)))
 
-module _ (v l : ℕ) (s p : List ℕ) (small : roomOf v l ≤ 3886) where
-  pub script-bits : (c : Check) (n x : ℕ) → c ≡ Bits n → c ≡ checkOf s p → x ≡ unless (leb n (8 * roomOf v l)) 13 → x ≡ scriptRefusal v l s p
-  unfolding scriptRefusal
-  script-bits c n x e f h = h ∙ ap (answered (roomOf v l)) (sym e ∙ f) ∙ checked (roomOf v l) p (commandsOf s p) small
+-- and the number of bits fits where the bits of the segments do, though it stops at some
+fitting : (room n : ℕ) (p : List ℕ) (z : Option (List Segment)) → room ≤ 3886 → Bits n ≡ checkedOf z p
+    → leb n (8 * room) ≡ leb (length (encodings (Option·getD z []))) (8 * room)
+fitting room n p none small e = absurd (omega (arith, ap answered e))
+fitting room n p (some gs) small e = go (allHave gs) refl (eqb (length p) 0) e
+  where
+    bits : Check → ℕ
+    bits (Bits m) = m
+    bits Malformed = 0
+    bits Lacking = 0
+    bits Empty = 0
 
-  pub script-other : (c k : Check) → c ≡ k → c ≡ checkOf s p → answered (roomOf v l) k ≡ scriptRefusal v l s p
-  unfolding scriptRefusal
-  script-other c k e f = ap (answered (roomOf v l)) (sym e ∙ f) ∙ checked (roomOf v l) p (commandsOf s p) small
+    go : (x : Bool) → allHave gs ≡ x → (y : Bool) → Bits n ≡ cond x (cond y Empty (Bits (capped (bitsOfSegments gs)))) Lacking
+        → leb n (8 * room) ≡ leb (length (encodings gs)) (8 * room)
+    go false h y e = absurd (omega (arith, ap answered e))
+    go true h true e = absurd (omega (arith, ap answered e))
+    go true h false e = rw (ap bits e, bits-by-formulas gs h) (capped-fits (bitsOfSegments gs) room small)
+
+module _ (s p : List ℕ) where
+  -- script and payload are refused ..
+  pub check-other : (c k : Check) → c ≡ k → c ≡ checkOf s p → answered k ≡ segmentsRefusal (commandsOf s p) p
+  check-other c k e f = ap answered (sym e ∙ f) ∙ checked p (commandsOf s p)
+
+  -- .. or accepted with a number of bits
+  pub check-bits : (n : ℕ) → Bits n ≡ checkOf s p → segmentsRefusal (commandsOf s p) p ≡ 0
+  check-bits n e = sym (check-other (Bits n) (Bits n) refl e)
+
+  module _ (v l : ℕ) where
+    pub check-fits : (n : ℕ) → roomOf v l ≤ 3886 → Bits n ≡ checkOf s p → leb n (8 * roomOf v l) ≡ fits v l s p
+    unfolding fits
+    check-fits n small e = fitting (roomOf v l) n p (commandsOf s p) small e
+
+    pub script-bits : (c : Check) (n x : ℕ) → roomOf v l ≤ 3886 → c ≡ Bits n → c ≡ checkOf s p → x ≡ unless (leb n (8 * roomOf v l)) 13 → x ≡ scriptRefusal v l s p
+    unfolding scriptRefusal
+    script-bits c n x small e f h =
+        h ∙ ap (λ (b : Bool). unless b 13) (check-fits n small (sym e ∙ f))
+        ∙ sym (first-skips (segmentsRefusal (commandsOf s p) p) (unless (fits v l s p) 13 ∷ []) (check-bits n (sym e ∙ f)) ∙ first-one (unless (fits v l s p) 13))
+
+    pub script-other : (c k : Check) → answered k ≢ 0 → c ≡ k → c ≡ checkOf s p → answered k ≡ scriptRefusal v l s p
+    unfolding scriptRefusal
+    script-other c k d e f =
+        let n = check-other c k e f in
+        n ∙ sym (first-takes (segmentsRefusal (commandsOf s p) p) (unless (fits v l s p) 13 ∷ []) (λ z. d (n ∙ z)))
 
 -- ---- 1 and 2: the version's data modules, and the size of the square
 
@@ -120,7 +152,7 @@ module _ (v l k : ℕ) (s p sq : List ℕ) where
   places = unless (hasBlocks v l) 1 ∷ unless (eqb (length sq) (sideOf v * sideOf v)) 2 ∷ []
 
   abbrev texts : List ℕ
-  texts = scriptRefusals (commandsOf s p) p (roomOf v l)
+  texts = segmentsRefusal (commandsOf s p) p ∷ unless (fits v l s p) 13 ∷ []
 
   -- version, level or mask outside its range
   pub answers-one : isInfo v l k ≡ false → writingOf 1 sq ≡ writeOf v l k s p sq

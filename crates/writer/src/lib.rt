@@ -1,4 +1,4 @@
-// SPECIFICATION 10.11: Write a square (an addition to the original, which reads only).
+// SPECIFICATION 10.11: Write a square (an addition to the original, which reads only). 10.12 stands in `smallest`.
 use information::InfoBits;
 use script::Check;
 ghost use mathlib.Core.Path.{_≡_};
@@ -17,6 +17,8 @@ ghost use Rattle.marks.specs.Write.{roomOf, writeRefusal, markOf, writingOf, wr
 ghost use Rattle.writer.specs.Inner.{ValidMark, Row, MarkWithLayout, placeRefusal, scriptRefusal};
 ghost use Rattle.codewords.specs.Inner.{squareOf};
 use symbol::Version;
+
+pub mod smallest;
 
 // What a mark is written with: its version, level and mask, and the word of these three.
 pub struct Mark {

@@ -2,29 +2,26 @@
 use Rattle.script.specs.declared.Check.the-variants.{Malformed, Lacking, Empty}
 use Rattle.writer.proofs.DataRoom.{room-small}
 use Rattle.writer.proofs.Refusals.{script-bits, script-other}
-use borrow.Author.Needs.{needs}
+use Rattle.general.proofs.Names.{arith, needs}
 use Rattle.writer.proofs.script_refusal.Tie as tie
 
 returns : tie.Need-returns
 returns c =
-    let start = c .before .before .before .before .before .before .before .before in
-    script-bits _ _ _ _ (room-small (start .pre .0)) _ _ _ (c .before .before .n .given .1) (c .before .before .before .before .check-script .ensures)
+    let R = c .before .before .before .before .before .before .before .before .pre .0 in
+    script-bits _ _ _ _ _ _ _ (room-small _ _ (R .low) (R .high) (R .level)) (c .before .before .n .given .1) (c .before .before .before .before .check-script .ensures)
     (c .bits-refusal .ensures)
 
 returns-2 : tie.Need-returns-2
 returns-2 c =
-    let start = c .before .before .before .before .before .before in
-    script-other _ _ _ _ (room-small (start .pre .0)) _ Malformed (c .enum-told .given .1) (c .before .before .check-script .ensures)
+    script-other _ _ _ _ _ Malformed (λ z. omega arith) (c .enum-told .given .1) (c .before .before .check-script .ensures)
 
 returns-3 : tie.Need-returns-3
 returns-3 c =
-    let start = c .before .before .before .before .before .before in
-    script-other _ _ _ _ (room-small (start .pre .0)) _ Lacking (c .enum-told2 .given .1) (c .before .before .check-script .ensures)
+    script-other _ _ _ _ _ Lacking (λ z. omega arith) (c .enum-told2 .given .1) (c .before .before .check-script .ensures)
 
 returns-4 : tie.Need-returns-4
 returns-4 c =
-    let start = c .before .before .before .before .before .before in
-    script-other _ _ _ _ (room-small (start .pre .0)) _ Empty (c .enum-told3 .given .1) (c .before .before .check-script .ensures)
+    script-other _ _ _ _ _ Empty (λ z. omega arith) (c .enum-told3 .given .1) (c .before .before .check-script .ensures)
 
 pub script-refusal-spec : {M : Type 1} → Rattle.writer.proofs.script_refusal.Statement.statement M
 script-refusal-spec =
