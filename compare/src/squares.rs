@@ -53,6 +53,12 @@ pub struct Found {
     pub version: usize,
 }
 
+impl Found {
+    fn refused(number: usize) -> Self {
+        Self { number, version: 0 }
+    }
+}
+
 /// Which reading, with the numbers that it is given.
 #[derive(Clone, Copy, Debug)]
 pub enum Reading {

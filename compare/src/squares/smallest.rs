@@ -1,7 +1,7 @@
 //! The smallest mark, which the original lacks: against Write a square at each version from 1 up, and against the version that follows from
 //! the bits of the second writer (written.rs) and the original's block table. Every byte of the lent square is compared.
 use super::writing::changed;
-use super::{Both, Found, NUMBERS, kinds, write, write_smallest};
+use super::{Both, Found, kinds, write, write_smallest};
 use crate::segments::SCRIPTS;
 use crate::tools::{Random, differs, hex, same};
 use crate::written::{Written, encode};
@@ -21,10 +21,9 @@ struct Asked<'a> {
     length: usize,
 }
 
-impl Found {
-    fn refused(number: usize) -> Self {
-        Self { number, version: 0 }
-    }
+/// How many modules a version has.
+fn area(version: usize) -> usize {
+    (2 * version + 21).pow(2)
 }
 
 impl Asked<'_> {
@@ -43,15 +42,16 @@ impl Asked<'_> {
     fn by_trying(&self) -> (Found, Vec<u8>) {
         let (mut square, mut tried) = (vec![LENT; self.length], vec![LENT; LARGEST]);
         for version in 1..=84 {
-            let side = 2 * version + 21;
-            let mark = &mut tried[..side * side];
+            let mark = &mut tried[..area(version)];
             match write(version, self.level, self.mask, self.script, self.payload, mark) {
-                13 => continue,
+                13 => {}
                 0 if mark.len() > self.length => return (Found::refused(2), square),
-                0 => square[..mark.len()].copy_from_slice(mark),
+                0 => {
+                    square[..mark.len()].copy_from_slice(mark);
+                    return (Found { number: 0, version }, square);
+                }
                 number => return (Found::refused(number), square),
             }
-            return (Found { number: 0, version }, square);
         }
         (Found::refused(14), square)
     }
@@ -67,7 +67,7 @@ impl Asked<'_> {
         };
         match both.plans.iter().find(|plan| 8 * plan.room(self.level) >= bits) {
             None => Found::refused(14),
-            Some(plan) if plan.side * plan.side > self.length => Found::refused(2),
+            Some(plan) if area(plan.version) > self.length => Found::refused(2),
             Some(plan) => Found { number: 0, version: plan.version },
         }
     }
@@ -104,19 +104,21 @@ pub fn compare(both: &mut Both) {
         }
     }
     both.report("smallest marks, of scripts exactly full and one bit over, each version, level and mask", "found");
-    let mut versions = [0; 85];
+    let mut versions = [false; 85];
     for _ in 0..3000 {
-        versions[any(both, &mut random).version] += 1;
+        versions[any(both, &mut random).version] = true;
     }
-    same("the versions found", "random scripts", versions.iter().filter(|&&n| n > 0).count(), 84);
+    // Every version, and the 0 of a refusal by 14.
+    same("the versions found", "random scripts", versions, [true; 85]);
     both.report("smallest marks of random scripts, all versions, in squares of any length", "found");
     for _ in 0..6000 {
         any_changed(both, &mut random);
     }
     both.report("smallest marks of scripts and payloads, as they are and changed", "found");
-    let count: usize = (0..4).map(|level| bad(both, level)).sum();
-    both.numbers = [0; NUMBERS];
-    println!("squares: {count:9} smallest marks of bad input, and of two faults at once");
+    for level in 0..4 {
+        bad(both, level);
+    }
+    both.report("smallest marks of bad input, and of two faults at once", "found");
 }
 
 /// A script that takes so many data codewords to the last bit: an ECI of 12, 20 or 28 bits, and text, 10 bits and 6 for each character.
@@ -141,28 +143,30 @@ fn boundary(both: &mut Both, random: &mut Random, version: usize, level: usize, 
     let cases = [(full(random, room), 8 * room, Found { number: 0, version }), (over(random, room), 8 * room + 1, next)];
     for ((script, payload), bits, expected) in cases {
         same("bits", &hex(&script), encode(&script, &payload).unwrap().0.len(), bits);
-        let side = 2 * expected.version + 21;
-        let mut asked = Asked { level, mask, script: &script, payload: &payload, length: side * side + [0, 1, 1000, LARGEST][mask] };
+        let exact = area(expected.version);
+        let asked = Asked { level, mask, script: &script, payload: &payload, length: exact + [0, 1, 1000, LARGEST][mask] };
         asked.answers(both, expected);
-        if expected.number == 0 {
-            asked.length = side * side - 1;
-            asked.answers(both, Found::refused(2));
-        }
+        let short = if expected.number == 0 { Found::refused(2) } else { expected };
+        Asked { length: exact - 1, ..asked }.answers(both, short);
     }
 }
 
-/// The length of a lent square: that of a version's square, one byte less or more, any below it, and the largest.
+/// The length of a lent square: a version's, one byte less or more, any that is shorter or longer, and the largest.
 fn length(random: &mut Random, version: usize) -> usize {
-    let side = 2 * version + 21;
-    let area = side * side;
-    [area, area - 1, area + 1, random.below(area), area + random.below(5000), LARGEST, LARGEST][random.below(7)]
+    let exact = area(version);
+    [exact, exact - 1, exact + 1, random.below(exact), exact + random.below(5000), LARGEST][random.below(6)]
 }
 
-/// Random segments of about as many bits as a version has and the one below has not, in the largest square and in one of any length.
+/// Random segments of about as many bits as a version has and the one below has not, or of more than the last one has; in the largest
+/// square, and in one of any length.
 fn any(both: &mut Both, random: &mut Random) -> Found {
-    let (version, level, mask) = (1 + random.below(84), random.below(4), random.below(4));
-    let [below, room] = [version - 1, version].map(|v| if v == 0 { 0 } else { 8 * both.plan(v).room(level) });
-    // Each mode with a character has to fit.
+    let (version, level, mask) = (1 + random.below(85), random.below(4), random.below(4));
+    let [below, room] = [version - 1, version].map(|v| match v {
+        0 => 0,
+        1..=84 => 8 * both.plan(v).room(level),
+        _ => 8 * both.plan(84).room(level) + 1000,
+    });
+    // At least 64, so that each mode with a character fits.
     let limit = (below + 1 + random.below(room - below)).max(64);
     let (first, most) = (1 + random.below(8), [3, 12, 24][random.below(3)]);
     let Written { script, payload, .. } = Written::starting(random, first, 4000, most, limit);
@@ -181,7 +185,7 @@ fn any_changed(both: &mut Both, random: &mut Random) {
 
 /// Scripts, levels, masks and squares that are turned away; and two faults at once, in the order 1, 11, 12, 8, 14, 2. An empty payload has
 /// no byte that a mode lacks, so 12 and 8 do not meet.
-fn bad(both: &mut Both, level: usize) -> usize {
+fn bad(both: &mut Both, level: usize) {
     let n = both.plan(84).room(level) - 2;
     let (long, lacking) = (vec![7; n], [vec![7; n], vec![0x1C]].concat());
     let bytes = [3, (n >> 8) as u8, n as u8];
@@ -198,21 +202,19 @@ fn bad(both: &mut Both, level: usize) -> usize {
         (&empty, &[], 8),
         (&bytes, &long, 14),
     ];
-    let mut count = 0;
     for (script, payload, number) in cases.into_iter().chain(SCRIPTS) {
-        for length in [LARGEST, 528, 0] {
+        for length in [LARGEST, 529, 528, 0] {
             let asked = Asked { level, mask: level, script, payload, length };
-            asked.answers(both, match number {
+            let expected = match number {
                 0 if length < 529 => Found::refused(2),
                 0 => Found { number, version: 1 },
                 _ => Found::refused(number),
-            });
+            };
+            asked.answers(both, expected);
             for wrong in [4, 256, 1 << 63, usize::MAX] {
                 Asked { level: wrong, ..asked }.answers(both, Found::refused(1));
                 Asked { mask: wrong, ..asked }.answers(both, Found::refused(1));
             }
-            count += 9;
         }
     }
-    count
 }
