@@ -112,6 +112,28 @@ How by_known(size_t version, size_t level, size_t mask)
     return how;
 }
 
+size_t area(size_t version) { return (size_t)HX_SIDE(version) * HX_SIDE(version); }
+
+Mark mark_of(size_t version, size_t level, size_t mask, const uint8_t *script, size_t script_length, const void *payload,
+             size_t payload_length)
+{
+    Mark m;
+    m.version = version;
+    m.level = level;
+    m.mask = mask;
+    m.script = script;
+    m.script_length = script_length;
+    m.payload = payload;
+    m.payload_length = payload_length;
+    return m;
+}
+
+Mark serial_mark(size_t version, size_t level, size_t mask)
+{
+    static const uint8_t numeric[] = {HX_MODE_NUMERIC, 0, 8};
+    return mark_of(version, level, mask, numeric, sizeof numeric, "00471100", 8);
+}
+
 /* What holds of every reading (SPECIFICATION 10.1, 2.6): what a refusal leaves and what its receipt has, and what is written after a 0. */
 static void check_reading(int line, const uint8_t *square, size_t length, Lent lent, hx_status number)
 {
@@ -178,27 +200,56 @@ void reads_at(int line, How how, const uint8_t *square, size_t length, Lent lent
     check(memcmp(lent_part(SCRIPT, lent.script), mark->script, mark->script_length) == 0, line, "the script");
 }
 
+/* What holds of every writing: script and payload are as they were, and so is the square but for its first bytes, as many as were
+ * written, which are modules. */
+static void check_writing(int line, const Mark *mark, size_t length, size_t written)
+{
+    const uint8_t *s = lent_part(SCRIPT, mark->script_length), *p = lent_part(PAYLOAD, mark->payload_length);
+    const uint8_t *q = lent_part(SQUARE, length);
+    size_t i;
+    check(untouched(SQUARE, length, 0, written), line, "nothing beside the square, and no refused square");
+    check(untouched(SCRIPT, mark->script_length, 0, mark->script_length), line, "nothing beside the script");
+    check(untouched(PAYLOAD, mark->payload_length, 0, mark->payload_length), line, "nothing beside the payload");
+    check(mark->script_length == 0 || memcmp(s, mark->script, mark->script_length) == 0, line, "the script is as it was");
+    check(mark->payload_length == 0 || memcmp(p, mark->payload, mark->payload_length) == 0, line, "the payload is as it was");
+    for (i = 0; i < written && q[i] <= 1; i++)
+        ;
+    check(i == written, line, "every module is 0 or 1");
+}
+
 void writes_at(int line, const Mark *mark, size_t length, hx_status number, uint8_t *square)
 {
     const uint8_t *s = lend(SCRIPT, mark->script, mark->script_length), *p = lend(PAYLOAD, mark->payload, mark->payload_length);
     uint8_t *q = lend(SQUARE, NULL, length);
     hx_status answer;
-    size_t i;
     char text[64];
     calling = line;
     answer = hx_write_square(mark->version, mark->level, mark->mask, s, mark->script_length, p, mark->payload_length, q, length);
     sprintf(text, "writing answers %zu, not %zu", number, answer);
     check(answer == number, line, text);
-    check(untouched(SQUARE, length, 0, answer == 0 ? length : 0), line, "nothing beside the square, and no refused square");
-    check(untouched(SCRIPT, mark->script_length, 0, mark->script_length), line, "nothing beside the script");
-    check(untouched(PAYLOAD, mark->payload_length, 0, mark->payload_length), line, "nothing beside the payload");
-    check(mark->script_length == 0 || memcmp(s, mark->script, mark->script_length) == 0, line, "the script is as it was");
-    check(mark->payload_length == 0 || memcmp(p, mark->payload, mark->payload_length) == 0, line, "the payload is as it was");
-    if (answer != 0)
-        return;
-    for (i = 0; i < length && q[i] <= 1; i++)
-        ;
-    check(i == length, line, "every module is 0 or 1");
-    if (square != NULL)
+    check_writing(line, mark, length, answer == HX_OK ? length : 0);
+    if (answer == HX_OK && square != NULL)
         memcpy(square, q, length);
+}
+
+void smallest_at(int line, const Mark *mark, size_t length, hx_status number, uint8_t *square)
+{
+    static uint8_t same[HX_SIZE_SQUARE];
+    const uint8_t *s = lend(SCRIPT, mark->script, mark->script_length), *p = lend(PAYLOAD, mark->payload, mark->payload_length);
+    uint8_t *q = lend(SQUARE, NULL, length);
+    size_t version = number == HX_OK ? mark->version : 0, n = area(mark->version);
+    hx_answer answer;
+    hx_status known;
+    char text[128];
+    calling = line;
+    answer = hx_write_smallest(mark->level, mark->mask, s, mark->script_length, p, mark->payload_length, q, length);
+    sprintf(text, "the smallest mark: %zu and version %zu, not %zu and %zu", number, version, answer.status, answer.value);
+    check(answer.status == number && answer.value == version, line, text);
+    check_writing(line, mark, length, number == HX_OK ? n : 0);
+    if (number != HX_OK)
+        return;
+    known = hx_write_square(version, mark->level, mark->mask, s, mark->script_length, p, mark->payload_length, same, n);
+    check(known == HX_OK && memcmp(q, same, n) == 0, line, "the square is the one that hx_write_square writes");
+    if (square != NULL)
+        memcpy(square, q, n);
 }

@@ -1,4 +1,4 @@
-/* Calls of the three functions on lent buffers that are watched. Each buffer lies at a page that must not be touched, so that a byte
+/* Calls of the four functions on lent buffers that are watched. Each buffer lies at a page that must not be touched, so that a byte
  * read or written beyond it ends the program, and what every call must keep is checked after it. */
 #ifndef CALLS_H
 #define CALLS_H
@@ -47,6 +47,15 @@ typedef struct {
     size_t payload_length;
 } Mark;
 
+/* How many modules a version has. */
+size_t area(size_t version);
+
+Mark mark_of(size_t version, size_t level, size_t mask, const uint8_t *script, size_t script_length, const void *payload,
+             size_t payload_length);
+
+/* One numeric segment, the digits 00471100. */
+Mark serial_mark(size_t version, size_t level, size_t mask);
+
 /* Reads, and checks that the answer is this refusal. */
 void refuses_at(int line, How how, const uint8_t *square, size_t length, Lent lent, hx_status number);
 #define REFUSES(how, square, length, lent, number) refuses_at(__LINE__, how, square, length, lent, number)
@@ -62,7 +71,12 @@ hx_status read_any(int line, How how, const uint8_t *square, size_t length, Lent
 
 /* Writes into a lent square of so many bytes, checks the answer, and copies what was written. */
 void writes_at(int line, const Mark *mark, size_t length, hx_status number, uint8_t *square);
-#define WRITES(mark, square) writes_at(__LINE__, mark, (size_t)HX_SIDE((mark)->version) * HX_SIDE((mark)->version), 0, square)
+#define WRITES(mark, square) writes_at(__LINE__, mark, area((mark)->version), 0, square)
 #define WRITE_REFUSES(mark, length, number) writes_at(__LINE__, mark, length, number, NULL)
+
+/* The same with hx_write_smallest. What is written must be the square of the mark's version, as hx_write_square writes it. */
+void smallest_at(int line, const Mark *mark, size_t length, hx_status number, uint8_t *square);
+#define SMALLEST(mark, length, square) smallest_at(__LINE__, mark, length, HX_OK, square)
+#define SMALLEST_REFUSES(mark, length, number) smallest_at(__LINE__, mark, length, number, NULL)
 
 #endif

@@ -71,31 +71,26 @@ static void segment(hx_script *script, unsigned mode, size_t length)
     script->bytes[2] = (uint8_t)(length % 256);
 }
 
-/* The first mode that has all bytes, and the smallest version that fits: the writer itself is asked. */
+/* The first mode that has all bytes and fits a version, and the smallest such version: the writer itself is asked. */
 static hx_status write_mark(const Wish *w, Square *q)
 {
     static hx_payload payload;
     static hx_script script;
-    unsigned mode, version;
-    hx_status status = HX_REFUSED_TOO_LONG;
+    unsigned mode;
+    hx_answer answer = {HX_REFUSED_NO_VERSION, 0};
     payload.length = strlen(w->serial);
     if (payload.length > 8191)
-        return HX_REFUSED_TOO_LONG; /* the largest mark has room for 7,827 digits, and for less of all else */
+        return HX_REFUSED_NO_VERSION; /* the largest mark has room for 7,827 digits, and for less of all else */
     memcpy(payload.bytes, w->serial, payload.length);
-    for (mode = HX_MODE_NUMERIC; mode <= HX_MODE_BYTES; mode++)
-        for (version = HX_VERSION_MIN; version <= HX_VERSION_MAX; version++) {
-            q->side = HX_SIDE(version);
-            q->length = q->side * q->side;
-            segment(&script, mode, payload.length);
-            status = hx_write(version, w->level, w->mask, &script, &payload, q->modules, q->length);
-            if (status == HX_OK)
-                return status;
-            if (status == HX_REFUSED_PAYLOAD || status == HX_REFUSED_SCRIPT)
-                break; /* another mode */
-            if (status != HX_REFUSED_TOO_LONG)
-                return status;
-        }
-    return status;
+    for (mode = HX_MODE_NUMERIC; mode <= HX_MODE_BYTES; mode++) {
+        segment(&script, mode, payload.length);
+        answer = hx_write_fit(w->level, w->mask, &script, &payload, q->modules, HX_SIZE_SQUARE);
+        if (answer.status != HX_REFUSED_PAYLOAD && answer.status != HX_REFUSED_SCRIPT && answer.status != HX_REFUSED_NO_VERSION)
+            break;
+    }
+    q->side = HX_SIDE(answer.value);
+    q->length = q->side * q->side;
+    return answer.status;
 }
 
 /* A number of modules, or a part of the square in percent. */

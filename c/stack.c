@@ -37,6 +37,12 @@ static void *writes_square(void *unused)
     return unused;
 }
 
+static void *writes_smallest(void *unused)
+{
+    answer = hx_write_smallest(0, 0, script, script_length, payload, payload_length, square, HX_SIZE_SQUARE).status;
+    return unused;
+}
+
 /* Runs it in a thread with a painted stack and answers how many bytes of the stack were touched. */
 static size_t touched(void *(*run)(void *))
 {
@@ -120,6 +126,7 @@ int main(void)
     failed |= measure("hx_read_square, the same with 299 codewords to repair", reads_square, HX_REFUSED_DATA);
     script_of_switches();
     failed |= measure("hx_write_square, 1,087 switches of region", writes_square, HX_OK);
+    failed |= measure("hx_write_smallest, the same", writes_smallest, HX_OK);
     failed |= measure("hx_read_square, what was written", reads_square, HX_OK);
     return failed;
 }

@@ -1,4 +1,4 @@
-/* The test of what the header adds to the three functions: the fields of a receipt, and the calls with structs. */
+/* The test of what the header adds to the four functions: the fields of a receipt, and the calls with structs. */
 #include "calls.h"
 #include "marks.h"
 
@@ -120,6 +120,51 @@ static void test_lengths(void)
     CHECK(i == sizeof other);
 }
 
+static void check_fit(int line, hx_answer answer, hx_status status, size_t version)
+{
+    check(answer.status == status && answer.value == version, line, "hx_write_fit's status and version");
+}
+#define FITS(answer, version) check_fit(__LINE__, answer, HX_OK, version)
+#define FITS_NOT(answer, status) check_fit(__LINE__, answer, status, 0)
+
+/* hx_write_fit writes the mark that hx_write writes at the version that it answers, and no byte beyond it. */
+static void test_fit(void)
+{
+    about(1, 1, 2, 0);
+    set_content("\1\0\10\2\0\1", 6, "00471100a", 9);
+    memset(other, UNTOUCHED, sizeof other);
+    FITS_NOT(hx_write_fit(1, 2, &script, &payload, other, 528), HX_REFUSED_LENGTH);
+    CHECK(memcmp(other, like, 528) == 0);
+    FITS(hx_write_fit(1, 2, &script, &payload, other, sizeof other), 1);
+    CHECK(hx_write(1, 1, 2, &script, &payload, square, 529) == HX_OK && memcmp(square, other, 529) == 0);
+    CHECK(memcmp(other + 529, like, sizeof like) == 0);
+    about(84, 0, 3, 0);
+    set_content("\3\x0C\xBD", 3, (const char *)like, 3261);
+    FITS(hx_write_fit(0, 3, &script, &payload, other, sizeof other), 84);
+    CHECK(hx_write(84, 0, 3, &script, &payload, square, sizeof square) == HX_OK && memcmp(square, other, sizeof other) == 0);
+}
+
+/* Lengths that the structs cannot have, as above; behind a refusal the version is 0. */
+static void test_fit_lengths(void)
+{
+    about(1, 0, 0, 2);
+    memset(other, UNTOUCHED, sizeof other);
+    set_content("\1\0\2", 3, "47", 2);
+    payload.length = HX_SIZE_BUFFER + 1;
+    FITS_NOT(hx_write_fit(4, 0, &script, &payload, other, 529), HX_REFUSED_PAYLOAD_FULL);
+    script.length = SIZE_MAX;
+    FITS_NOT(hx_write_fit(4, 0, &script, &payload, other, 529), HX_REFUSED_PAYLOAD_FULL);
+    payload.length = 2;
+    FITS_NOT(hx_write_fit(4, 0, &script, &payload, other, 529), HX_REFUSED_SCRIPT_FULL);
+    script.length = 3;
+    FITS_NOT(hx_write_fit(4, 0, &script, &payload, other, 529), HX_REFUSED_RANGE);
+    payload.length = HX_SIZE_BUFFER;
+    FITS_NOT(hx_write_fit(0, 0, &script, &payload, other, 529), HX_REFUSED_SCRIPT);
+    script.length = HX_SIZE_BUFFER;
+    FITS_NOT(hx_write_fit(0, 0, &script, &payload, other, 529), HX_REFUSED_SCRIPT);
+    CHECK(memcmp(other, like, 529) == 0);
+}
+
 int main(void)
 {
     memset(like, UNTOUCHED, sizeof like);
@@ -127,6 +172,8 @@ int main(void)
     test_content();
     test_refusals();
     test_lengths();
+    test_fit();
+    test_fit_lengths();
     printf("receipts and calls with structs: %zu checks, %zu failed\n", checks_made(), checks_failed());
     return checks_failed() != 0;
 }

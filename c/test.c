@@ -9,29 +9,6 @@
 static uint8_t square[HX_SIZE_SQUARE], other[HX_SIZE_SQUARE];
 static size_t places[HX_SIZE_SQUARE];
 
-static const uint8_t SERIAL[] = "00471100", NUMERIC8[] = {HX_MODE_NUMERIC, 0, 8};
-
-static size_t area(size_t version) { return (size_t)HX_SIDE(version) * HX_SIDE(version); }
-
-static Mark mark_of(size_t version, size_t level, size_t mask, const uint8_t *script, size_t script_length, const void *payload,
-                    size_t payload_length)
-{
-    Mark m;
-    m.version = version;
-    m.level = level;
-    m.mask = mask;
-    m.script = script;
-    m.script_length = script_length;
-    m.payload = payload;
-    m.payload_length = payload_length;
-    return m;
-}
-
-static Mark serial_mark(size_t version, size_t level, size_t mask)
-{
-    return mark_of(version, level, mask, NUMERIC8, sizeof NUMERIC8, SERIAL, 8);
-}
-
 static Lent lent(size_t payload, size_t script, size_t receipt)
 {
     Lent l;
@@ -635,13 +612,16 @@ static void test_write_ranges(void)
     WRITE_REFUSES(&m, HX_SIZE_SQUARE + 1, HX_REFUSED_LENGTH);
 }
 
-/* Writes version 1, level 0 with this script and payload; what was written is read. */
+/* Writes version 1, level 0 with this script and payload; what was written is read. The smallest mark is this one too, or has the
+ * same refusal, unless version 1 is too small. */
 static void gives(int line, const char *script, size_t script_length, const void *payload, size_t length, size_t number)
 {
     Mark m = mark_of(1, 0, 3, (const uint8_t *)script, script_length, payload, length);
     writes_at(line, &m, 529, number, square);
     if (number == 0)
         reads_at(line, by_side(23), square, 529, ENOUGH, &m, 0, 0);
+    if (number != HX_REFUSED_TOO_LONG)
+        smallest_at(line, &m, 529, number, NULL);
 }
 #define GIVES(script, payload, number) gives(__LINE__, script, sizeof script - 1, payload, sizeof payload - 1, number)
 
@@ -766,8 +746,10 @@ static void test_largest(void)
     WRITES(&m, square);
     READS(by_side(189), square, HX_SIZE_SQUARE, lent(7827, 3, 12), &m, 0, 0);
     REFUSES(by_side(189), square, HX_SIZE_SQUARE, lent(7826, 3, 12), HX_REFUSED_PAYLOAD_FULL);
+    SMALLEST(&m, HX_SIZE_SQUARE, NULL);            /* version 83 has 25,520 bits */
     m = mark_of(84, 0, 0, over, 3, payload, 7828); /* 14 + 10 x 2,610 = 26,114 */
     WRITE_REFUSES(&m, HX_SIZE_SQUARE, HX_REFUSED_TOO_LONG);
+    SMALLEST_REFUSES(&m, HX_SIZE_SQUARE, HX_REFUSED_NO_VERSION);
     m = mark_of(84, 0, 0, bytes, 3, payload, 3261); /* 17 + 8 x 3,261 = 26,105 */
     WRITES(&m, square);
     READS(by_known(84, 0, 0), square, HX_SIZE_SQUARE, ENOUGH, &m, 0, 0);
@@ -792,11 +774,13 @@ static void test_long_script(void)
     READS(by_side(189), square, HX_SIZE_SQUARE, ENOUGH, &m, 0, 0);
     READS(by_known(84, 0, 1), square, HX_SIZE_SQUARE, lent(1, m.script_length, 12), &m, 0, 0);
     REFUSES(by_side(189), square, HX_SIZE_SQUARE, lent(1, m.script_length - 1, 12), HX_REFUSED_SCRIPT_FULL);
+    SMALLEST(&m, HX_SIZE_SQUARE, NULL);
     script[4 * 2174] = HX_MODE_ECI;
     memset(script + 4 * 2174 + 1, 0, 3);
     memcpy(script + 4 * 2175, "\2\0\1", 3);
     m.script_length += 4;
     WRITE_REFUSES(&m, HX_SIZE_SQUARE, HX_REFUSED_TOO_LONG);
+    SMALLEST_REFUSES(&m, HX_SIZE_SQUARE, HX_REFUSED_NO_VERSION);
 }
 
 /* All eight modes in one script: 417 bits by the formulas, so 53 codewords. Level 0 has 46 in version 4 and 57 in version 5. */
@@ -829,6 +813,8 @@ static void test_all_modes(void)
             WRITE_REFUSES(&m, area(v), HX_REFUSED_TOO_LONG);
             continue;
         }
+        if (v == 5)
+            SMALLEST(&m, HX_SIZE_SQUARE, NULL);
         WRITES(&m, square);
         READS(by_side(HX_SIDE(v)), square, area(v), ENOUGH, &m, 0, 0);
         READS(by_known(v, 0, v % 4), square, area(v), ENOUGH, &m, 0, 0);

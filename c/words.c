@@ -7,7 +7,7 @@ const char *hx_refusal_words(hx_status status)
     switch (status) {
     case HX_OK: return "no refusal";
     case HX_REFUSED_RANGE: return "side, version, level or mask is out of range";
-    case HX_REFUSED_LENGTH: return "the receipt is not 12 bytes long, or the square is not side x side bytes long";
+    case HX_REFUSED_LENGTH: return "the receipt is not 12 bytes long, or the square not side x side, or too short for the mark";
     case HX_REFUSED_MODULE: return "a byte of the square is neither 0 nor 1";
     case HX_REFUSED_INFORMATION: return "more than 10 information modules differ from those of every level and mask";
     case HX_REFUSED_BLOCK: return "a block has more wrong codewords than can be repaired";
@@ -18,6 +18,7 @@ const char *hx_refusal_words(hx_status status)
     case HX_REFUSED_SCRIPT: return "the script has an unknown command or a bad operand, or does not match the payload's length";
     case HX_REFUSED_PAYLOAD: return "part of the payload cannot be encoded in this mode";
     case HX_REFUSED_TOO_LONG: return "script and payload do not fit this version and level";
+    case HX_REFUSED_NO_VERSION: return "script and payload do not fit any version at this level";
     default: return "unknown refusal number";
     }
 }

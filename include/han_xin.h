@@ -1,4 +1,4 @@
-/* Han Xin marks (ISO/IEC 20830) for C: three functions on numbers and byte buffers. C99, and C++ too.
+/* Han Xin marks (ISO/IEC 20830) for C: four functions on numbers and byte buffers. C99, and C++ too.
  *
  * Link with target/lib/libhan_xin.a, which c/library writes (Linux on x86-64). Of the C library it needs memcpy and memset.
  *
@@ -56,15 +56,17 @@
  *   bytes 4, 5  corrected: how many codewords of      byte 11       0
  *               the blocks were wrong and repaired
  *
- * WHAT IS WRITTEN. A function returns 0 or a refusal number. After a refusal payload, script and square are as they were, and the
- * receipt has the number and eleven zeros; if the receipt is not 12 bytes long, nothing at all is written. After 0, payload and
- * script hold what the receipt's lengths say, and their bytes beyond that are as they were; the square is written whole.
+ * WHAT IS WRITTEN. A function returns 0 or a refusal number, alone or in an hx_answer. After a refusal payload, script and square
+ * are as they were, and the receipt has the number and eleven zeros; if the receipt is not 12 bytes long, nothing at all is
+ * written. After 0, payload and script hold what the receipt's lengths say, and their bytes beyond that are as they were.
+ * hx_write_square writes the square whole; hx_write_smallest writes as many of its first bytes as the mark has, and the bytes
+ * beyond are as they were.
  *
  * BUFFERS. Each is a pointer with its number of bytes. A buffer that is written (payload, script and receipt of a reading, square
- * of hx_write_square) must not overlap any other buffer of the call, and no other thread may use it meanwhile; nor may another
- * thread write to one that is read. The pointer must be valid for as many bytes as are given. A buffer of 0 bytes is allowed, and
- * nothing is read or written through its pointer: the test passes NULL with 0 for every buffer. The language's documents do not
- * promise that for NULL; the address of any byte is safe.
+ * of a writing) must not overlap any other buffer of the call, and no other thread may use it meanwhile; nor may another thread
+ * write to one that is read. The pointer must be valid for as many bytes as are given. A buffer of 0 bytes is allowed, and nothing
+ * is read or written through its pointer: the test passes NULL with 0 for every buffer. The language's documents do not promise
+ * that for NULL; the address of any byte is safe.
  *
  * THREADS, MEMORY. There is no state between calls, no heap, no input or output: threads may call at the same time, each with its
  * own buffers. A call needs at most HX_SIZE_STACK bytes of stack.
@@ -99,13 +101,20 @@ extern "C" {
 /* What the functions return: HX_OK or a refusal. It is printed by "%zu". */
 typedef size_t hx_status;
 
+/* What a function returns that answers a number beside the refusal: both, by value. Every such function, also one that is added
+ * later, returns this struct, says in its comment what the number is, and answers 0 for it after a refusal. */
+typedef struct {
+    hx_status status; /* HX_OK or a refusal */
+    size_t value;     /* what the function answers beside it, 0 after a refusal */
+} hx_answer;
+
 /* The refusals, with what hx_refusal_words says of each. Those that apply to a function are tested in the order that stands
  * there, each over the whole input, and the first that applies is given. HX_REFUSED_RANGE is also for a version and level without
  * blocks, of which there are none today. The number 5 belongs to an operation that is not in this interface. */
 enum hx_refusal {
     HX_OK = 0,                   /* no refusal */
     HX_REFUSED_RANGE = 1,        /* side, version, level or mask is out of range */
-    HX_REFUSED_LENGTH = 2,       /* the receipt is not 12 bytes long, or the square is not side x side bytes long */
+    HX_REFUSED_LENGTH = 2,       /* the receipt is not 12 bytes long, or the square not side x side, or too short for the mark */
     HX_REFUSED_MODULE = 3,       /* a byte of the square is neither 0 nor 1 */
     HX_REFUSED_INFORMATION = 4,  /* more than 10 information modules differ from those of every level and mask */
     HX_REFUSED_BLOCK = 6,        /* a block has more wrong codewords than can be repaired */
@@ -115,7 +124,8 @@ enum hx_refusal {
     HX_REFUSED_SCRIPT_FULL = 10, /* the script is longer than its buffer */
     HX_REFUSED_SCRIPT = 11,      /* the script has an unknown command or a bad operand, or does not match the payload's length */
     HX_REFUSED_PAYLOAD = 12,     /* part of the payload cannot be encoded in this mode */
-    HX_REFUSED_TOO_LONG = 13     /* script and payload do not fit this version and level */
+    HX_REFUSED_TOO_LONG = 13,    /* script and payload do not fit this version and level */
+    HX_REFUSED_NO_VERSION = 14   /* script and payload do not fit any version at this level */
 };
 
 /* The commands of a script. */
@@ -157,6 +167,18 @@ hx_status hx_read_known(const uint8_t *square, size_t square_length, size_t vers
 hx_status hx_write_square(size_t version, size_t level, size_t mask, const uint8_t *script, size_t script_length,
                           const uint8_t *payload, size_t payload_length, uint8_t *square, size_t square_length);
 
+/* Writes the smallest mark: at the lowest version that holds script and payload at this level, the mark that hx_write_square
+ * writes there. The value beside HX_OK is this version.
+ *   level, mask               0 to 3, 0 to 3
+ *   script, script_length     the commands
+ *   payload, payload_length   the bytes that the commands take
+ *   square, square_length     where the modules are written, in the first HX_SIDE(version) x HX_SIDE(version) bytes; those beyond
+ *                             are as they were; HX_SIZE_SQUARE bytes are always enough
+ * Refusals, in this order: 1 level or mask out of range; 11; 12; 8; 14; 2 square shorter than the mark. A version without blocks
+ * for this level would hold nothing. */
+hx_answer hx_write_smallest(size_t level, size_t mask, const uint8_t *script, size_t script_length, const uint8_t *payload,
+                            size_t payload_length, uint8_t *square, size_t square_length);
+
 /* The words that stand beside the refusal in this header, or "unknown refusal number". They last as long as the program. */
 const char *hx_refusal_words(hx_status status);
 
@@ -174,8 +196,8 @@ static inline size_t hx_receipt_distance(const uint8_t *receipt) { return receip
 static inline size_t hx_receipt_payload_length(const uint8_t *receipt) { return hx_receipt_pair(receipt, 7); }
 static inline size_t hx_receipt_script_length(const uint8_t *receipt) { return hx_receipt_pair(receipt, 9); }
 
-/* THE SAME WITH STRUCTS. hx_read, hx_read_as and hx_write call the three functions with buffers that are always long enough.
- * Payload and script are of different types, so a call in which they are swapped does not compile. */
+/* THE SAME WITH STRUCTS. hx_read, hx_read_as, hx_write and hx_write_fit call the four functions. The buffers of payload and script
+ * are always long enough, and of different types, so a call in which they are swapped does not compile. */
 typedef struct {
     size_t length; /* how many of the bytes are the payload */
     uint8_t bytes[HX_SIZE_BUFFER];
@@ -244,6 +266,21 @@ static inline hx_status hx_write(size_t version, size_t level, size_t mask, cons
                            square_length);
 }
 
+/* hx_write_smallest. A length above HX_SIZE_BUFFER is refused as above. */
+static inline hx_answer hx_write_fit(size_t level, size_t mask, const hx_script *script, const hx_payload *payload,
+                                     uint8_t *square, size_t square_length)
+{
+    hx_answer answer = {HX_OK, 0};
+    if (payload->length > HX_SIZE_BUFFER)
+        answer.status = HX_REFUSED_PAYLOAD_FULL;
+    else if (script->length > HX_SIZE_BUFFER)
+        answer.status = HX_REFUSED_SCRIPT_FULL;
+    else
+        answer =
+            hx_write_smallest(level, mask, script->bytes, script->length, payload->bytes, payload->length, square, square_length);
+    return answer;
+}
+
 /* A pointer to another struct is an error in C++, but only a warning in some C compilers (gcc before 14). Two structs as the ends
  * of a conditional expression are an error in all of them, so each pointer is tried so; sizeof evaluates nothing. */
 #ifndef __cplusplus
@@ -255,6 +292,8 @@ static inline hx_status hx_write(size_t version, size_t level, size_t mask, cons
                receipt)
 #define hx_write(version, level, mask, script, payload, square, square_length) \
     hx_write(version, level, mask, HX_OF_TYPE(hx_script, script), HX_OF_TYPE(hx_payload, payload), square, square_length)
+#define hx_write_fit(level, mask, script, payload, square, square_length) \
+    hx_write_fit(level, mask, HX_OF_TYPE(hx_script, script), HX_OF_TYPE(hx_payload, payload), square, square_length)
 #endif
 
 #ifdef __cplusplus

@@ -6,7 +6,7 @@
 //! the same way, or as bytes under its name with `hex` behind it. A name with `_room` behind it, and `receipt` before the arrow, is the
 //! length of a lent buffer. Every lent byte is EE before the call; after it, a buffer begins with what stands behind the arrow, and all
 //! other bytes are still EE.
-use crate::squares::{Reading, read, write};
+use crate::squares::{Found, Reading, read, write, write_smallest};
 use crate::tools::{fail, unhex};
 use std::collections::BTreeMap;
 
@@ -14,7 +14,8 @@ const FOLDER: &str = "compare/requests";
 const LENT: u8 = 0xEE;
 
 /// The operations: each makes the call of a case, holds every answer to what stands behind the arrow, and gives back the number.
-const OPERATIONS: [(&str, fn(&mut Case) -> usize); 3] = [("write", write_square), ("read", read_square), ("read_known", read_known)];
+const OPERATIONS: [(&str, fn(&mut Case) -> usize); 4] =
+    [("write", write_square), ("smallest", smallest), ("read", read_square), ("read_known", read_known)];
 
 /// The values on one side of the arrow that are not yet taken.
 struct Values<'a> {
@@ -95,11 +96,11 @@ struct Case<'a> {
 }
 
 impl Case<'_> {
-    /// The number that was answered.
-    fn answered(&mut self, number: usize) {
-        let expected = self.expected.number("number");
-        if number != expected {
-            fail(&format!("{}: answered {number}, not {expected}", self.place));
+    /// A number that was answered.
+    fn answered(&mut self, name: &str, answer: usize) {
+        let expected = self.expected.number(name);
+        if answer != expected {
+            fail(&format!("{}: answered {name} {answer}, not {expected}", self.place));
         }
     }
 
@@ -123,7 +124,19 @@ fn write_square(case: &mut Case) -> usize {
     let (script, payload) = (case.given.bytes("script"), case.given.bytes("payload"));
     let mut square = case.given.lent("square_room");
     let number = write(version, level, mask, &script, &payload, &mut square);
-    case.answered(number);
+    case.answered("number", number);
+    let expected = case.expected.square("square");
+    case.holds("square", &expected, &square);
+    number
+}
+
+fn smallest(case: &mut Case) -> usize {
+    let [level, mask] = case.given.numbers(["level", "mask"]);
+    let (script, payload) = (case.given.bytes("script"), case.given.bytes("payload"));
+    let mut square = case.given.lent("square_room");
+    let Found { number, version } = write_smallest(level, mask, &script, &payload, &mut square);
+    case.answered("number", number);
+    case.answered("version", version);
     let expected = case.expected.square("square");
     case.holds("square", &expected, &square);
     number
@@ -143,7 +156,7 @@ fn reading(case: &mut Case, how: Reading) -> usize {
     let square = case.given.square("square");
     let [mut payload, mut script, mut receipt] = ["payload_room", "script_room", "receipt"].map(|name| case.given.lent(name));
     let number = read(&square, how, &mut payload, &mut script, &mut receipt);
-    case.answered(number);
+    case.answered("number", number);
     for (name, buffer) in [("receipt", receipt), ("payload", payload), ("script", script)] {
         let expected = case.expected.bytes(name);
         case.holds(name, &expected, &buffer);

@@ -7,6 +7,7 @@ mod kinds;
 mod outside;
 mod plan;
 mod record;
+mod smallest;
 mod speed;
 mod stack;
 mod writing;
@@ -35,6 +36,27 @@ unsafe extern "C" {
         version: usize, level: usize, mask: usize,
         script: *const u8, script_len: usize, payload: *const u8, payload_len: usize, square: *mut u8, square_len: usize,
     ) -> usize;
+    fn hx_write_smallest(
+        level: usize, mask: usize,
+        script: *const u8, script_len: usize, payload: *const u8, payload_len: usize, square: *mut u8, square_len: usize,
+    ) -> Found;
+}
+
+/// One more than the greatest refusal number.
+const NUMBERS: usize = 15;
+
+/// What the smallest mark answers: a refusal number, and the version that was found.
+#[repr(C)]
+#[derive(Clone, Copy, PartialEq, Eq, Debug)]
+pub struct Found {
+    pub number: usize,
+    pub version: usize,
+}
+
+impl Found {
+    fn refused(number: usize) -> Self {
+        Self { number, version: 0 }
+    }
 }
 
 /// Which reading, with the numbers that it is given.
@@ -63,6 +85,13 @@ pub fn write(version: usize, level: usize, mask: usize, script: &[u8], payload: 
     let (p, pn) = (payload.as_ptr(), payload.len());
     // SAFETY: each slice is passed with its own length, and the mutable one overlaps no other.
     unsafe { hx_write_square(version, level, mask, s, sn, p, pn, square.as_mut_ptr(), square.len()) }
+}
+
+pub fn write_smallest(level: usize, mask: usize, script: &[u8], payload: &[u8], square: &mut [u8]) -> Found {
+    let (s, sn) = (script.as_ptr(), script.len());
+    let (p, pn) = (payload.as_ptr(), payload.len());
+    // SAFETY: each slice is passed with its own length, and the mutable one overlaps no other.
+    unsafe { hx_write_smallest(level, mask, s, sn, p, pn, square.as_mut_ptr(), square.len()) }
 }
 
 /// Eight modules to a byte, to show and to record a square.
@@ -113,7 +142,7 @@ struct Both {
     payload: Vec<u8>,
     script: Vec<u8>,
     untouched: Vec<u8>,
-    numbers: [usize; 14],
+    numbers: [usize; NUMBERS],
     again: usize,
     distances: [usize; 69],
 }
@@ -123,7 +152,7 @@ impl Both {
         let lent = vec![MARK; ROOM];
         let plans = (1..=84).map(Plan::new).collect();
         let (payload, script) = (lent.clone(), lent.clone());
-        Self { plans, payload, script, untouched: lent, numbers: [0; 14], again: 0, distances: [0; 69] }
+        Self { plans, payload, script, untouched: lent, numbers: [0; NUMBERS], again: 0, distances: [0; 69] }
     }
 
     fn plan(&self, version: usize) -> &Plan {
@@ -236,7 +265,7 @@ impl Both {
     fn report(&mut self, kind: &str, done: &str) {
         let tried: usize = self.numbers.iter().sum();
         let mut line = format!("squares: {tried:9} {kind}: {} {done}", self.numbers[0]);
-        for number in (1..14).filter(|&n| self.numbers[n] > 0) {
+        for number in (1..NUMBERS).filter(|&n| self.numbers[n] > 0) {
             line += &format!(", {} answered {number}", self.numbers[number]);
         }
         if self.again > 0 {
@@ -246,6 +275,6 @@ impl Both {
             line += &format!("; {} at distance 10, {} at 11", self.distances[10], self.distances[11]);
         }
         println!("{line}");
-        (self.numbers, self.again, self.distances) = ([0; 14], 0, [0; 69]);
+        (self.numbers, self.again, self.distances) = ([0; NUMBERS], 0, [0; 69]);
     }
 }

@@ -1,6 +1,6 @@
 //! What `bench/instructions` counts under callgrind: some operations of both sides, once each.
-use super::speed::{digits, filled, full_reach, original};
-use super::{Both, Mark, Reading, read, write};
+use super::speed::{digits, digits_beyond, filled, full_reach, original};
+use super::{Both, Mark, Reading, read, write, write_smallest};
 use crate::han_xin::layout;
 use crate::others::Zint;
 use crate::symbol::our_layout;
@@ -33,6 +33,7 @@ pub fn instructions() {
             reading(&format!("read {name}, clean"), &mark.square);
             reading(&format!("read {name}, full reach"), &full_reach(&both, &mut random, &mark));
             writing(&format!("write {name}"), &digits(&both, &mut random, version, level, mask));
+            smallest(&format!("smallest {name}"), &digits_beyond(&both, &mut random, version, level, mask));
         }
         let name = format!("layout v{version}");
         counted(&name, "ours", &mut || {
@@ -66,4 +67,15 @@ fn writing(name: &str, mark: &Mark) {
             black_box(zint.write());
         });
     }
+}
+
+/// Beside Write a square at the version that it finds.
+fn smallest(name: &str, mark: &Mark) {
+    let mut square = mark.square.clone();
+    counted(name, "ours", &mut || {
+        black_box(write_smallest(mark.level, mark.mask, &mark.script, &mark.payload, &mut square));
+    });
+    counted(name, "write", &mut || {
+        black_box(write(mark.version, mark.level, mark.mask, &mark.script, &mark.payload, &mut square));
+    });
 }

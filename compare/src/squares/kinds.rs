@@ -1,6 +1,6 @@
 //! The kinds of squares that are compared.
 use super::plan::{Block, Plan};
-use super::{Both, Mark, Reading, bad, outside, writing};
+use super::{Both, Mark, Reading, bad, outside, smallest, writing};
 use crate::blocks::our_parity;
 use crate::han_xin::{info_bits, nearest_info};
 use crate::tools::{Random, hex, same};
@@ -32,6 +32,7 @@ pub fn compare() {
     plain(&mut both);
     clean(&mut both, &mut random);
     writing::compare(&mut both);
+    smallest::compare(&mut both);
     for (count, one, name) in KINDS {
         for _ in 0..count {
             one(&mut both, &mut random);

@@ -1,6 +1,6 @@
-//! Times of whole squares: both readings beside the original, and writing beside zint's library.
+//! Times of whole squares: both readings beside the original, writing beside zint's library, and the smallest mark beside writing.
 use super::kinds::{damage, damage_full};
-use super::{Both, Mark, Reading, read, write};
+use super::{Both, Found, Mark, Reading, read, write, write_smallest};
 use crate::han_xin::{decode_data, decode_matrix};
 use crate::others::Zint;
 use crate::sheet::{Line, Sheet, Times, time};
@@ -102,7 +102,18 @@ pub fn original(modules: &[bool], how: Reading) -> bool {
 
 /// A mark of one segment of digits that takes nine tenths of the room.
 pub fn digits(both: &Both, random: &mut Random, version: usize, level: usize, mask: usize) -> Mark {
-    let bits = 8 * both.plan(version).room(level) * 9 / 10;
+    digits_of(both, random, [version, level, mask], 8 * both.plan(version).room(level) * 9 / 10)
+}
+
+/// A mark of digits whose smallest version this is: of the room beyond that of the version below, they take nine tenths.
+pub fn digits_beyond(both: &Both, random: &mut Random, version: usize, level: usize, mask: usize) -> Mark {
+    let below = if version == 1 { 0 } else { 8 * both.plan(version - 1).room(level) };
+    let room = 8 * both.plan(version).room(level);
+    digits_of(both, random, [version, level, mask], below + (room - below) * 9 / 10)
+}
+
+/// A mark of one segment of digits in at most so many bits.
+fn digits_of(both: &Both, random: &mut Random, [version, level, mask]: [usize; 3], bits: usize) -> Mark {
     let payload: Vec<u8> = (0..3 * ((bits - 14) / 10)).map(|_| b'0' + random.byte() % 10).collect();
     let [high, low] = u16::try_from(payload.len()).unwrap().to_be_bytes();
     let script = vec![1, high, low];
@@ -126,6 +137,36 @@ pub fn writing(sheet: &mut Sheet) {
         let (cases, side) = (cases.collect(), 2 * version + 21);
         sheet.line("write", Line { name: format!("v{version}"), modules: side * side, cases });
     }
+    smallest(sheet, &both, &mut random);
+}
+
+/// The smallest mark beside Write a square at the version that it finds, both ours, a line for each version over all levels and masks.
+fn smallest(sheet: &mut Sheet, both: &Both, random: &mut Random) {
+    sheet.part("the smallest mark of digits", "write");
+    for version in [1, 3, 10, 11, 20, 40, 60, 84] {
+        let cases = (0..16).map(|k| {
+            let mark = digits_beyond(both, random, version, k / 4, k % 4);
+            (format!("level {}, mask {}", mark.level, mark.mask), find_and_write(&mark))
+        });
+        let (cases, side) = (cases.collect(), 2 * version + 21);
+        sheet.line("smallest", Line { name: format!("v{version}"), modules: side * side, cases });
+    }
+}
+
+/// Both must write the mark.
+fn find_and_write(mark: &Mark) -> Times {
+    let Mark { version, level, mask, ref script, ref payload, .. } = *mark;
+    let [mut found, mut written] = [(); 2].map(|()| vec![0; mark.square.len()]);
+    let answers = (write_smallest(level, mask, script, payload, &mut found), write(version, level, mask, script, payload, &mut written));
+    assert_eq!(answers, (Found { number: 0, version }, 0));
+    assert!(found == mark.square && written == mark.square);
+    let mut ours = || {
+        black_box(write_smallest(level, mask, black_box(script), payload, &mut found));
+    };
+    let mut theirs = || {
+        black_box(write(version, level, mask, black_box(script), payload, &mut written));
+    };
+    time(&mut ours, Some(&mut theirs))
 }
 
 /// zint must write the same square.

@@ -1,6 +1,6 @@
 //! How much stack our calls take.
 use super::speed::filled;
-use super::{Both, Reading, read, write};
+use super::{Both, Reading, read, write, write_smallest};
 use crate::tools::{ROOM, Random};
 
 /// How far below a call's caller the stack is written.
@@ -41,7 +41,7 @@ fn switches(both: &Both) -> Vec<u8> {
     plan.square(0, 0, &plan.stream(0, &bits.bytes()))
 }
 
-/// The three calls, on full squares and on the deepest reading.
+/// The four calls, on full squares and on the deepest reading.
 pub fn stack() {
     let both = Both::new();
     let mut random = Random::new(14);
@@ -64,5 +64,9 @@ pub fn stack() {
             write(version, 0, 3, &mark.script, &mark.payload, &mut mark.square);
         });
         println!("stack of hx_write_square, version {version}: {bytes} bytes");
+        let bytes = stack_of(|| {
+            write_smallest(0, 3, &mark.script, &mark.payload, &mut mark.square);
+        });
+        println!("stack of hx_write_smallest, version {version}: {bytes} bytes");
     }
 }

@@ -1,13 +1,13 @@
 //! Write a square, which the original lacks: against the second writer (written.rs, plan.rs) on any script and payload, refusals too. A
 //! square that is refused keeps every byte.
-use super::{Both, write};
+use super::{Both, NUMBERS, write};
 use crate::segments::SCRIPTS;
 use crate::tools::{MARK, Random, hex, same};
 use crate::written::{Written, encode};
 
 pub fn compare(both: &mut Both) {
     let mut random = Random::new(16);
-    let mut numbers = [0; 14];
+    let mut numbers = [0; NUMBERS];
     for _ in 0..60_000 {
         let (version, level, mask) = (super::kinds::version(&mut random), random.below(4), random.below(4));
         let (script, payload) = changed(both, &mut random, version, level);
@@ -28,7 +28,7 @@ pub fn compare(both: &mut Both) {
     }
     println!("squares: {count:9} writings of bad input, of scripts exactly full and one bit over, and of two faults at once");
     // The full marks were read as well: they count as writings, above.
-    both.numbers = [0; 14];
+    both.numbers = [0; NUMBERS];
 }
 
 /// One writing on both sides: its number.
@@ -48,7 +48,7 @@ fn one(both: &Both, numbers: [usize; 3], script: &[u8], payload: &[u8]) -> usize
 }
 
 /// Random segments that may be too long, with some bytes of script and payload changed, added or taken off.
-fn changed(both: &Both, random: &mut Random, version: usize, level: usize) -> (Vec<u8>, Vec<u8>) {
+pub fn changed(both: &Both, random: &mut Random, version: usize, level: usize) -> (Vec<u8>, Vec<u8>) {
     let room = 8 * both.plan(version).room(level);
     let count = 1 + random.below(8);
     let Written { mut script, mut payload, .. } = Written::random(random, count, 12, room + 60);
