@@ -1,5 +1,5 @@
 -- The lowest number that passes a test. Assumes nothing.
-use Rattle.general.proofs.Names.{_≡_, refl, sym, _∙_, Bool, true, false, cond, ℕ, zero, suc, _+_, _-_, _<_, _≤_, arith, ℕ-discrete}
+use Rattle.general.proofs.Names.{_≡_, refl, _∙_, Bool, true, false, ℕ, zero, suc, _+_, _-_, _<_, _≤_, arith, ℕ-discrete}
 use Rattle.general.proofs.Choices.{tested}
 use Rattle.general.specs.Lists.{lowest}
 

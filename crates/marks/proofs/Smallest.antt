@@ -10,7 +10,7 @@ use Rattle.script.specs.Writer.{encodings}
 use Rattle.script.specs.Check.{commandsOf}
 use Rattle.script.specs.Inner.{allHave}
 use Rattle.marks.specs.Read.{firstRefusal, unless}
-use Rattle.marks.specs.Write.{roomOf, segmentsOf, segmentsRefusal, fits, writeRefusal, markOf, writeOf}
+use Rattle.marks.specs.Write.{roomOf, scriptSegments, segmentsRefusal, fits, writeRefusal, markOf, writeOf}
 use Rattle.marks.specs.Smallest.{Smallest, smallest, holds, lowestVersion, smallestRefusal, smallestOf}
 use Rattle.marks.specs.Promise.{Holds}
 use Rattle.marks.proofs.Refusals.{true-unless, first-none, first-skips, first-takes, both-true}
@@ -24,7 +24,7 @@ module _ (level : ℕ) (s p : List ℕ) where
 
   pub holds-fits : (v : ℕ) → Holds level s p v → fits v level s p ≡ true
   unfolding fits
-  holds-fits v H = le-leb (length (encodings (segmentsOf s p))) (8 * roomOf v level) (H .room)
+  holds-fits v H = le-leb (length (encodings (scriptSegments s p))) (8 * roomOf v level) (H .room)
 
   holds-true : (v : ℕ) → Holds level s p v → holds level s p v ≡ true
   unfolding holds
@@ -34,7 +34,7 @@ module _ (level : ℕ) (s p : List ℕ) where
   unfolding holds fits
   true-holds v low high e =
       let b = both-true (hasBlocks v level) (fits v level s p) e in
-      record { low = low; high = high; blocks = b .0; room = leb-true (length (encodings (segmentsOf s p))) (8 * roomOf v level) (b .1) }
+      record { low = low; high = high; blocks = b .0; room = leb-true (length (encodings (scriptSegments s p))) (8 * roomOf v level) (b .1) }
 
   pub found-holds : found ≤ 84 → Holds level s p found
   unfolding lowestVersion
@@ -180,7 +180,7 @@ module _ (level mask : ℕ) (s p sq : List ℕ) where
       let W = written u level mask s p b m e .0 in
       let R = W .ranged in
       some-found (R .level) (R .mask) (fits-accepted u level s p (W .fits)) u
-      (record { low = R .low; high = R .high; blocks = W .blocked; room = leb-true (length (encodings (segmentsOf s p))) (8 * roomOf u level) (fits-true u level s p (W .fits)) })
+      (record { low = R .low; high = R .high; blocks = W .blocked; room = leb-true (length (encodings (scriptSegments s p))) (8 * roomOf u level) (fits-true u level s p (W .fits)) })
       (omega (arith, W .size, n))
 
   -- an accepted writing: the version found, and the square

@@ -13,7 +13,7 @@ use Rattle.blocks.specs.Blockwise.{differences}
 use Rattle.segments.specs.FromData.{fromData}
 use Rattle.script.specs.Writer.{encodings}
 use Rattle.marks.specs.Read.{Reading, blocksIn, outcomeReading}
-use Rattle.marks.specs.Write.{roomOf, segmentsOf}
+use Rattle.marks.specs.Write.{roomOf, scriptSegments}
 
 -- how many blocks a version and level have
 abbrev pub blockCount : ℕ → ℕ → ℕ
@@ -61,4 +61,4 @@ pub record Holds (level : ℕ) (s p : List ℕ) (v : ℕ) : Type 0 where
   pub low : 1 ≤ v
   pub high : v ≤ 84
   pub blocks : hasBlocks v level ≡ true
-  pub room : length (encodings (segmentsOf s p)) ≤ 8 * roomOf v level
+  pub room : length (encodings (scriptSegments s p)) ≤ 8 * roomOf v level

@@ -32,8 +32,8 @@ abbrev pub roomOf : ℕ → ℕ → ℕ
 roomOf v level = totalData (shapesOf v level)
 
 -- the segments that a script makes of a payload
-abbrev pub segmentsOf : List ℕ → List ℕ → List Segment
-segmentsOf s p = Option·getD (commandsOf s p) []
+abbrev pub scriptSegments : List ℕ → List ℕ → List Segment
+scriptSegments s p = Option·getD (commandsOf s p) []
 
 -- SPECIFICATION 10.8, for the segments that a script makes of the payload p: 11 the commands make none; 12 a segment has a byte, pair or
 -- four bytes that its mode lacks; 8 payload empty
@@ -43,7 +43,7 @@ segmentsRefusal (some gs) p = firstRefusal (unless (all has gs) 12 ∷ unless (l
 
 -- the bits of a script and payload are no more than 8 × the data codewords of a version and level
 unfoldable pub fits : ℕ → ℕ → List ℕ → List ℕ → Bool
-fits v level s p = leb (length (encodings (segmentsOf s p))) (8 * roomOf v level)
+fits v level s p = leb (length (encodings (scriptSegments s p))) (8 * roomOf v level)
 
 -- 1 version, level or mask outside its range, or by SPECIFICATION 7.4; 2 square not s × s; 11, 12 and 8; 13 more bits than fit
 unfoldable pub writeRefusal : ℕ → ℕ → ℕ → List ℕ → List ℕ → List ℕ → ℕ
@@ -55,7 +55,7 @@ writeRefusal v level mask s p sq =
 -- the mark: the bits of the script in the data codewords, blocks with their parity, the stream in the masked data modules, and the word
 unfoldable pub markOf : ℕ → ℕ → ℕ → List ℕ → List ℕ → List ℕ
 markOf v level mask s p =
-    let stream = streamOf (shapesOf v level) (dataBytes (roomOf v level) (segmentsOf s p)) in
+    let stream = streamOf (shapesOf v level) (dataBytes (roomOf v level) (scriptSegments s p)) in
     infoWritten (sideOf v) (infoBits v level mask) (placed (maskBit (sideOf v) mask) 0 (layoutOf v) (bitsOf (fromStream stream)))
 
 -- a refusal leaves the square

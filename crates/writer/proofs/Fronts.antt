@@ -1,6 +1,6 @@
 -- A mark in front of a square, at a version for which a script and payload fit, and the search for the lowest. Assumes nothing.
-use Rattle.general.proofs.Names.{_≡_, refl, sym, ap, _∙_, _≢_, Bool, true, false, _&&_, List, [], _∷_, _++_, ℕ, _+_, _-_, _*_, _≤_, _<_, arith, ℕ-discrete}
-use Rattle.general.proofs.Names.{eq-eqb, ne-eqb, le-leb, lt-leb, leb-true, leb-false, eqb, leb, length, take, drop, length-take-le}
+use Rattle.general.proofs.Names.{_≡_, refl, sym, ap, _∙_, _≢_, Bool, true, false, List, [], _∷_, _++_, ℕ, _+_, _-_, _*_, _≤_, _<_, arith}
+use Rattle.general.proofs.Names.{eq-eqb, ne-eqb, le-leb, lt-leb, leb-true, leb-false, leb, length, take, drop, length-take-le}
 use Rattle.general.proofs.Choices.{tested}
 use Rattle.general.proofs.Lowest.{lowest-from, lowest-to, lowest-passes, search-stops, search-goes-on, search-ends, search-begins}
 use Rattle.general.specs.Lists.{lowest}
@@ -10,16 +10,15 @@ use Rattle.block_table.specs.Blocks.{hasBlocks}
 use Rattle.script.specs.declared.Check.{Check}
 use Rattle.script.specs.declared.Check.the-variants.{Bits}
 use Rattle.script.specs.Inner.{Fits, checkOf}
-use Rattle.script.specs.Check.{commandsOf}
 use Rattle.marks.specs.Read.{firstRefusal, unless}
-use Rattle.marks.specs.Write.{Writing, roomOf, writingOf, segmentsRefusal, fits, writeRefusal, markOf}
-use Rattle.marks.specs.Smallest.{Smallest, smallest, holds, lowestVersion, smallestOf}
+use Rattle.marks.specs.Write.{Writing, roomOf, writingOf, fits, writeRefusal, markOf}
+use Rattle.marks.specs.Smallest.{smallest, holds, lowestVersion, smallestOf}
 use Rattle.marks.proofs.Marks.{Ranges, info-is, refused-not, script-fits}
-use Rattle.marks.proofs.Refusals.{true-unless, unless-true, unless-false, first-skips, first-takes, first-one, first-none}
+use Rattle.marks.proofs.Refusals.{true-unless, first-skips, first-takes, first-one}
 use Rattle.marks.proofs.Smallest as small
 use Rattle.marks.proofs.Starts.{and-false}
 use Rattle.writer.specs.declared.Mark.{Mark}
-use Rattle.writer.specs.Inner.{ValidMark, MarkWithLayout, placeRefusal, frontRefusal, frontOf}
+use Rattle.writer.specs.Inner.{ValidMark, placeRefusal, frontRefusal, frontOf}
 use Rattle.writer.proofs.DataRoom.{room-small}
 use Rattle.writer.proofs.Refusals.{answered, check-other, check-bits, check-fits}
 

@@ -13,8 +13,9 @@ returns c =
 
 front-with-layout-requires : tie.Need-front-with-layout-requires
 front-with-layout-requires c κs =
-    let start = c .before .before .before .before .before .before .before .before .before .before .before .before .before .before in
-    let R = valid _ _ _ _ (c .before .before .before .before .before .before .before .before .before .info-bits .ensures) _ (c .before .before .before .before .before .before .before .word .given .1) in
+    let told = c .before .before .before .before .before .before .before in
+    let start = told .before .before .before .before .before .before .before in
+    let R = valid _ _ _ _ (told .before .before .info-bits .ensures) _ (told .word .given .1) in
     (mark-with-layout _ (start .args .kinds .now) _ R (start .pre .0 (R .high)) (c .before .before .before .before .layout .ensures .1), start .pre .1)
 
 pub front-in-spec : {M : Type 1} → Rattle.writer.proofs.smallest.front_in.Statement.statement M

@@ -15,27 +15,32 @@ returns c =
 
 returns-2 : tie.Need-returns-2
 returns-2 c =
-    let o = c .before .before .before .before .before .before .before .before in
+    let sided = c .before .before .before in
+    let o = sided .before .before .before .before .before in
     front-short _ (o .pre .0 .valid) (o .args .script .now) (o .args .payload .now) (o .args .square .now) _ _
-    (ap (λ (n : ℕ). n * n) (c .before .before .before .side .ensures)) (c .before .before .place-refusal .ensures) (c .before .if1 .left) (c .if2 .taken)
+    (ap (λ (n : ℕ). n * n) (sided .side .ensures)) (c .before .before .place-refusal .ensures) (c .before .if1 .left) (c .if2 .taken)
 
 slice-aggregate-write-mark : tie.Need-slice-aggregate-write-mark
 slice-aggregate-write-mark c = sym (length-take-le _ _ (c .before .before .if2 .left))
 
 write-mark-requires : tie.Need-write-mark-requires
 write-mark-requires c κs =
-    let o = c .before .before .before .before .before .before .before .before .before .before .before in (
+    let long = c .before .before .before in
+    let sided = long .before .before .before in
+    let o = sided .before .before .before .before .before in (
       o .pre .0,
       front-open _ (o .pre .0 .valid) (o .args .script .now) (o .args .payload .now) (o .args .square .now) _ _
-          (ap (λ (n : ℕ). n * n) (c .before .before .before .before .before .before .side .ensures)) (c .before .before .before .before .before .place-refusal .ensures) (c .before .before .before .before .if1 .left) (c .before .before .before .if2 .left) (o .pre .1),
+          (ap (λ (n : ℕ). n * n) (sided .side .ensures)) (long .before .before .place-refusal .ensures) (long .before .if1 .left) (long .if2 .left) (o .pre .1),
       record { nine = search needs; is = c .before .before .block-row .ensures },
     )
 
 returns-3 : tie.Need-returns-3
 returns-3 c =
-    let o = c .before .before .before .before .before .before .before .before .before .before .before .before .before .before in
+    let long = c .before .before .before .before .before .before in
+    let sided = long .before .before .before in
+    let o = sided .before .before .before .before .before in
     front-written _ (o .pre .0 .valid) (o .args .script .now) (o .args .payload .now) (o .args .square .now) _ _
-    (ap (λ (n : ℕ). n * n) (c .before .before .before .before .before .before .before .before .before .side .ensures)) (c .before .before .before .before .before .before .before .before .place-refusal .ensures) (c .before .before .before .before .before .before .before .if1 .left) (c .before .before .before .before .before .before .if2 .left)
+    (ap (λ (n : ℕ). n * n) (sided .side .ensures)) (long .before .before .place-refusal .ensures) (long .before .if1 .left) (long .if2 .left)
     _ (c .before .before .write-mark .ensures)
 
 pub front-with-layout-spec : {M : Type 1} → Rattle.writer.proofs.smallest.front_with_layout.Statement.statement M
