@@ -24,6 +24,7 @@ fn counted(name: &str, side: &str, call: &mut dyn FnMut()) {
 
 pub fn instructions() {
     let both = Both::new();
+    // The smallest mark has a sequence of its own, so that the inputs of the others are the same with and without it.
     let (mut random, mut other) = (Random::new(17), Random::new(18));
     let (level, mut kinds) = (1, vec![0; 189 * 189]);
     for version in [1, 20, 84] {
