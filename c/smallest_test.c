@@ -1,4 +1,5 @@
-/* The test of hx_write_smallest. What is expected comes from the writer's formulas, the block table and the order of refusals. */
+/* The test of hx_write_smallest. What is expected comes from docs/SPECIFICATION.md: the formulas of the writer, the block table, and
+ * the refusals and their order. */
 #include "calls.h"
 
 #include <stdio.h>
@@ -16,8 +17,8 @@ static const struct {
 /* A script that takes all bits of a version, 25 + 22 + 17 + 8 x (room - 8), gets this version; the one below refuses it. */
 static void test_exactly_full(size_t version, size_t level, size_t mask, size_t room)
 {
-    static uint8_t payload[4096] = "\x81\x30\x81\x30"
-                                   "aa";
+    static const uint8_t payload[4096] = "\x81\x30\x81\x30"
+                                         "aa";
     uint8_t script[7] = {HX_MODE_FOUR_BYTE, HX_MODE_TEXT, 0, 2, HX_MODE_BYTES, 0, 0};
     Mark m = mark_of(version, level, mask, script, sizeof script, payload, room - 2);
     script[5] = (uint8_t)((room - 8) / 256);
@@ -29,10 +30,10 @@ static void test_exactly_full(size_t version, size_t level, size_t mask, size_t 
         WRITE_REFUSES(&m, area(m.version), HX_REFUSED_TOO_LONG);
 }
 
-/* A script that takes one bit more, 17 + 8 x (room - 2), gets the next version; behind the last one it gets 14. */
+/* A script that takes one bit more, 17 + 8 x (room - 2), gets the next version; at the last version it gets 14. */
 static void test_one_bit_over(size_t version, size_t level, size_t mask, size_t room)
 {
-    static uint8_t payload[4096];
+    static const uint8_t payload[4096];
     uint8_t script[3] = {HX_MODE_BYTES, 0, 0};
     Mark m = mark_of(version + 1, level, mask, script, sizeof script, payload, room - 2);
     script[1] = (uint8_t)((room - 2) / 256);
@@ -66,7 +67,7 @@ static void test_squares(void)
 {
     static const uint8_t three[3] = {HX_MODE_BYTES, 0, 23}, largest[3] = {HX_MODE_BYTES, 3261 / 256, 3261 % 256};
     static const size_t enough[] = {729, 730, 841, HX_SIZE_SQUARE, HX_SIZE_SQUARE + 1000}, less[] = {728, 625, 529, 1, 0};
-    static uint8_t payload[3261];
+    static const uint8_t payload[3261];
     size_t i;
     Mark m = mark_of(3, 1, 2, three, 3, payload, 23); /* 201 bits, of which version 2 has 200 and version 3 has 272 */
     for (i = 0; i < 5; i++) {

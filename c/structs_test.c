@@ -144,7 +144,7 @@ static void test_fit(void)
     CHECK(hx_write(84, 0, 3, &script, &payload, square, sizeof square) == HX_OK && memcmp(square, other, sizeof other) == 0);
 }
 
-/* Lengths that the structs cannot have, as above; behind a refusal the version is 0. */
+/* Lengths that the structs cannot have, as above; after a refusal the version is 0. */
 static void test_fit_lengths(void)
 {
     about(1, 0, 0, 2);

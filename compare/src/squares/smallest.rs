@@ -183,8 +183,8 @@ fn any_changed(both: &mut Both, random: &mut Random) {
     Asked { level, mask, script: &script, payload: &payload, length: length(random, version) }.compare(both);
 }
 
-/// Scripts, levels, masks and squares that are turned away; and two faults at once, in the order 1, 11, 12, 8, 14, 2. An empty payload has
-/// no byte that a mode lacks, so 12 and 8 do not meet.
+/// Scripts, levels, masks and squares that are turned away; and two faults at once, in the order of SPECIFICATION 10.12. An empty payload
+/// has no byte that a mode lacks, so 12 and 8 do not meet.
 fn bad(both: &mut Both, level: usize) {
     let n = both.plan(84).room(level) - 2;
     let (long, lacking) = (vec![7; n], [vec![7; n], vec![0x1C]].concat());
