@@ -1,6 +1,6 @@
 -- A mark in front of a square, at a version for which a script and payload fit, and the search for the lowest. Assumes nothing.
-use Rattle.general.proofs.Names.{_≡_, refl, sym, ap, _∙_, _≢_, Bool, true, false, List, [], _∷_, _++_, ℕ, _+_, _-_, _*_, _≤_, _<_, arith}
-use Rattle.general.proofs.Names.{eq-eqb, ne-eqb, le-leb, lt-leb, leb-true, leb-false, leb, length, take, drop, length-take-le}
+use Rattle.general.proofs.Names.{_≡_, refl, sym, ap, _∙_, _≢_, Bool, true, false, false≢true, List, [], _∷_, _++_, ℕ, _+_, _-_, _*_, _≤_, _<_, arith, ℕ-discrete}
+use Rattle.general.proofs.Names.{eq-eqb, ne-eqb, le-leb, lt-leb, leb-true, leb-false, eqb, leb, length, take, drop, length-take-le, take-append-drop}
 use Rattle.general.proofs.Choices.{tested}
 use Rattle.general.proofs.Lowest.{lowest-from, lowest-to, lowest-passes, search-stops, search-goes-on, search-ends, search-begins}
 use Rattle.general.specs.Lists.{lowest}
@@ -11,18 +11,22 @@ use Rattle.script.specs.declared.Check.{Check}
 use Rattle.script.specs.declared.Check.the-variants.{Bits}
 use Rattle.script.specs.Inner.{Fits, checkOf}
 use Rattle.marks.specs.Read.{firstRefusal, unless}
-use Rattle.marks.specs.Write.{Writing, roomOf, writingOf, fits, writeRefusal, markOf}
+use Rattle.marks.specs.Write.{Writing, roomOf, writingOf, fits, writeRefusal, markOf, writeOf}
 use Rattle.marks.specs.Smallest.{smallest, holds, lowestVersion, smallestOf}
-use Rattle.marks.proofs.Marks.{Ranges, info-is, refused-not, script-fits}
-use Rattle.marks.proofs.Refusals.{true-unless, first-skips, first-takes, first-one}
+use Rattle.marks.proofs.Marks.{Ranges, info-is, script-fits, fits-accepted, fits-true}
+use Rattle.marks.proofs.Refusals.{true-unless, first-none}
 use Rattle.marks.proofs.Smallest as small
 use Rattle.marks.proofs.Starts.{and-false}
-use Rattle.writer.specs.declared.Mark.{Mark}
-use Rattle.writer.specs.Inner.{ValidMark, placeRefusal, frontRefusal, frontOf}
+use Rattle.writer.specs.Inner.{scriptRefusal, frontRefusal, frontOf}
 use Rattle.writer.proofs.DataRoom.{room-small}
 use Rattle.writer.proofs.Refusals.{answered, check-other, check-bits, check-fits}
 
--- ---- what is answered for a version
+-- script and payload that fit are not refused
+pub fits-open : (v l : ℕ) (s p : List ℕ) → Fits s p (roomOf v l) → 0 ≡ scriptRefusal v l s p
+unfolding scriptRefusal firstRefusal
+fits-open v l s p F = rw (fits-accepted v l s p F, fits-true v l s p F)
+
+-- ---- what is answered for a version: what Write a square answers for the part of the square that is lent to it
 
 module _ (v l k : ℕ) (s p sq : List ℕ) where
   abbrev size : ℕ
@@ -31,67 +35,46 @@ module _ (v l k : ℕ) (s p sq : List ℕ) where
   abbrev long : Bool
   long = leb size (length sq)
 
-  answers-refusal : (n : ℕ) → n ≢ 0 → frontRefusal v l k sq ≡ n → writingOf n sq ≡ frontOf v l k s p sq
-  unfolding frontOf
-  answers-refusal n d e = rw (e, ne-eqb n 0 d)
-
   -- no word for the three
   pub front-no-word : isInfo v l k ≡ false → writingOf 1 sq ≡ frontOf v l k s p sq
-  unfolding frontRefusal firstRefusal
-  front-no-word e = answers-refusal 1 (λ z. omega arith) (rw e)
+  unfolding frontOf frontRefusal firstRefusal
+  front-no-word e = rw e
 
--- version, level and mask in their ranges; x is the number of their place, in a square of the right size
-module _ (m : Mark) (R : ValidMark m) (s p sq : List ℕ) (n x : ℕ) (en : n ≡ sideOf (m .version) * sideOf (m .version))
-    (e : x ≡ placeRefusal (m .version) (m .level) n) where
-  abbrev blocks : Bool
-  blocks = hasBlocks (m .version) (m .level)
+  -- the first n bytes are lent
+  lent : (n x : ℕ) (g : List ℕ) → writeRefusal v l k s p (take n sq) ≡ frontRefusal v l k sq → (frontRefusal v l k sq ≡ 0 → n ≡ size)
+      → writingOf x g ≡ writeOf v l k s p (take n sq) → writingOf x (g ++ drop n sq) ≡ frontOf v l k s p sq
+  unfolding writeOf frontOf
+  lent n x g e f w =
+      ap (λ (y : Writing). writingOf (y .number) (y .square ++ drop n sq)) w
+      ∙ elim (ℕ-discrete (frontRefusal v l k sq) 0) [
+        | yes z ↦ rw (e, z, f z)
+        | no d ↦ rw (e, ne-eqb (frontRefusal v l k sq) 0 d, take-append-drop n sq)
+      ]
 
-  abbrev enough : Bool
-  enough = long (m .version) (m .level) (m .mask) s p sq
-
-  abbrev ranged : Ranges (m .version) (m .level) (m .mask)
-  ranged = record { low = R .low; high = R .high; level = R .level; mask = R .mask }
-
-  place-is : x ≡ unless blocks 1
-  unfolding placeRefusal firstRefusal
-  place-is = e ∙ rw (eq-eqb n (sideOf (m .version) * sideOf (m .version)) en) (first-one (unless blocks 1))
-
-  number-is : frontRefusal (m .version) (m .level) (m .mask) sq ≡ firstRefusal (x ∷ unless enough 2 ∷ [])
+  zero-long : frontRefusal v l k sq ≡ 0 → long ≡ true
   unfolding frontRefusal
-  number-is = rw (info-is (m .version) (m .level) (m .mask) ranged, place-is) (first-skips 0 (unless blocks 1 ∷ unless enough 2 ∷ []) refl)
+  zero-long z =
+      let a = first-none (unless (isInfo v l k) 1) (unless (hasBlocks v l) 1 ∷ unless long 2 ∷ []) z in
+      let b = first-none (unless (hasBlocks v l) 1) (unless long 2 ∷ []) (a .1) in
+      true-unless long 1 (first-none (unless long 2) [] (b .1) .0)
 
-  -- 1: too few data modules
-  pub front-no-blocks : x ≢ 0 → writingOf 1 sq ≡ frontOf (m .version) (m .level) (m .mask) s p sq
-  front-no-blocks d =
-      let one : x ≡ 1 = tested blocks (λ t. absurd (d (place-is ∙ rw t))) (λ f. place-is ∙ rw f) in
-      answers-refusal (m .version) (m .level) (m .mask) s p sq 1 (λ z. omega arith) (number-is ∙ first-takes x (unless enough 2 ∷ []) d ∙ one)
+  module _ (R : Ranges v l k) (F : Fits s p (roomOf v l)) where
+    same-number : (q : List ℕ) → eqb (length q) size ≡ long → writeRefusal v l k s p q ≡ frontRefusal v l k sq
+    unfolding writeRefusal frontRefusal firstRefusal
+    same-number q e = rw (info-is v l k R, fits-accepted v l s p F, fits-true v l s p F, e)
 
-  module _ (z : x ≡ 0) where
-    has : blocks ≡ true
-    has = true-unless blocks 0 (sym place-is ∙ z)
+    -- as many as the mark has ..
+    pub front-lent : (n x : ℕ) (g : List ℕ) → n ≡ size → n ≤ length sq → writingOf x g ≡ writeOf v l k s p (take n sq)
+        → writingOf x (g ++ drop n sq) ≡ frontOf v l k s p sq
+    front-lent n x g e h =
+        lent n x g (same-number (take n sq) (eq-eqb (length (take n sq)) size (length-take-le n sq h ∙ e) ∙ sym (le-leb size (length sq) (omega arith))))
+        (λ z. e)
 
-    second : frontRefusal (m .version) (m .level) (m .mask) sq ≡ unless enough 2
-    second = number-is ∙ first-skips x (unless enough 2 ∷ []) z ∙ first-one (unless enough 2)
-
-    -- 2: a shorter square
-    pub front-short : length sq < n → writingOf 2 sq ≡ frontOf (m .version) (m .level) (m .mask) s p sq
-    front-short h =
-        answers-refusal (m .version) (m .level) (m .mask) s p sq 2 (λ y. omega arith)
-        (second ∙ rw (lt-leb (sideOf (m .version) * sideOf (m .version)) (length sq) (omega arith)))
-
-    -- else the mark is written into the front of the square
-    module _ (h : n ≤ length sq) where
-      pub front-open : Fits s p (roomOf (m .version) (m .level)) → writeRefusal (m .version) (m .level) (m .mask) s p (take n sq) ≡ 0
-      front-open F =
-          refused-not (m .version) (m .level) (m .mask) s p (take n sq)
-          (record { ranged = ranged; blocked = has; size = length-take-le n sq h ∙ en; fits = F })
-
-      pub front-written : (g : List ℕ) → g ≡ markOf (m .version) (m .level) (m .mask) s p
-          → writingOf 0 (g ++ drop n sq) ≡ frontOf (m .version) (m .level) (m .mask) s p sq
-      unfolding frontOf
-      front-written g eg =
-          let z : frontRefusal (m .version) (m .level) (m .mask) sq ≡ 0 = second ∙ rw (le-leb (sideOf (m .version) * sideOf (m .version)) (length sq) (omega arith)) in
-          rw (z, eg, en)
+    -- .. or none, where the square is shorter
+    pub front-short : (x : ℕ) (g : List ℕ) → length sq < size → writingOf x g ≡ writeOf v l k s p [] → writingOf x (g ++ sq) ≡ frontOf v l k s p sq
+    front-short x g h =
+        let short : long ≡ false = lt-leb size (length sq) h in
+        lent 0 x g (same-number [] (ne-eqb 0 size (λ z. omega arith) ∙ sym short)) (λ z. absurd (false≢true (sym short ∙ zero-long z)))
 
 -- ---- the search
 

@@ -22,7 +22,8 @@ use Rattle.marks.proofs.Marks.{info-is}
 use Rattle.marks.proofs.Refusals.{unless-true, unless-false, first-skips, first-takes, first-left, first-right, first-one}
 use Rattle.marks.proofs.Starts.{has-blocks, no-blocks}
 use Rattle.writer.specs.declared.Mark.{Mark}
-use Rattle.writer.specs.Inner.{MarkWithLayout, placeRefusal, scriptRefusal}
+use Rattle.writer.proofs.Starts.{in-ranges}
+use Rattle.writer.specs.Inner.{ValidMark, MarkWithLayout, placeRefusal, scriptRefusal}
 
 -- ---- 13: more bits than there is room for
 
@@ -162,7 +163,7 @@ module _ (v l k : ℕ) (s p sq : List ℕ) where
       answers-refusal 1 (λ z. omega arith) (sym (first-takes (unless (isInfo v l k) 1) (places ++ texts) (λ z. omega arith) ∙ u))
 
 -- the three in their ranges, and x the number of the place
-module _ (m : Mark) (ks : List ℕ) (R : MarkWithLayout m ks) (s p sq : List ℕ) (x : ℕ) (e : x ≡ placeRefusal (m .version) (m .level) (length sq)) where
+module _ (m : Mark) (R : ValidMark m) (s p sq : List ℕ) (x : ℕ) (e : x ≡ placeRefusal (m .version) (m .level) (length sq)) where
   abbrev number : ℕ
   number = writeRefusal (m .version) (m .level) (m .mask) s p sq
 
@@ -175,7 +176,7 @@ module _ (m : Mark) (ks : List ℕ) (R : MarkWithLayout m ks) (s p sq : List ℕ
   behind : number ≡ firstRefusal (first ++ second)
   unfolding writeRefusal
   behind =
-      let i = info-is (m .version) (m .level) (m .mask) (record { low = R .valid .low; high = R .valid .high; level = R .valid .level; mask = R .valid .mask }) in
+      let i = info-is (m .version) (m .level) (m .mask) (in-ranges R) in
       first-skips (unless (isInfo (m .version) (m .level) (m .mask)) 1) (first ++ second) (unless-true (isInfo (m .version) (m .level) (m .mask)) 1 i)
 
   -- where it is not 0, it is the answer

@@ -6,7 +6,7 @@ use Rattle.symbol.proofs.Coordinates.{square-le}
 use Rattle.information.specs.declared.InfoBits.{InfoBits}
 use Rattle.information.specs.declared.InfoBits.the-variants.{Word}
 use Rattle.information.specs.Information.{isInfo, infoBits, InfoAnswer, infoOf, infoAnswer}
-use Rattle.marks.proofs.Marks.{ranges}
+use Rattle.marks.proofs.Marks.{Ranges, ranges}
 use Rattle.marks.proofs.Starts.{layout-front, has-word}
 use Rattle.writer.specs.Inner.{ValidMark, MarkWithLayout}
 use Rattle.writer.specs.declared.Mark.{Mark}
@@ -31,6 +31,9 @@ module _ (v l k : ℕ) (b : InfoBits) (er : infoAnswer b ≡ infoOf v l k) (w : 
 
   pub valid : ValidMark (record { version = v; level = l; mask = k; word = w })
   valid = let R = ranges v l k has in record { low = R .low; high = R .high; level = R .level; mask = R .mask; word = word-is }
+
+pub in-ranges : {m : Mark} → ValidMark m → Ranges (m .version) (m .level) (m .mask)
+in-ranges R = record { low = R .low; high = R .high; level = R .level; mask = R .mask }
 
 -- with the layout in a buffer
 pub mark-with-layout : (m : Mark) (out g : List ℕ) → ValidMark m → sideOf (m .version) * sideOf (m .version) ≤ length out → g ≡ layoutWritten (m .version) out → MarkWithLayout m g

@@ -150,59 +150,56 @@ fn write_mark(square: &mut [u8], kinds: &[u8], m: Mark, row: &[u8], script: &[u8
     );
 }
 
-// The mark and 0, or the first refusal behind that of version, level and mask.
-fn write_with_layout(
-    square: &mut [u8],
-    kinds: &[u8],
+// The mark and 0, or the first refusal behind that of version, level and mask; `text` is that of script and payload. The layout is drawn
+// into a lent buffer.
+fn write_in(
+    kinds: &mut [u8],
     m: Mark,
+    row: &[u8],
+    text: usize,
     script: &[u8],
     payload: &[u8],
+    square: &mut [u8],
 ) -> usize
-    requires { ⌜ MarkWithLayout m (now kinds) ⌝ }
+    requires { ⌜ ValidMark m × Row m (now row) × (sideOf (m .version) * sideOf (m .version) ≤ length (now kinds))
+        × (text ≡ scriptRefusal (m .version) (m .level) (now script) (now payload)) ⌝ }
     ensures { λ r. ⌜ writingOf r (now (square .exit)) ≡ writeOf (m .version) (m .level) (m .mask) (now (script .entry)) (now (payload .entry))
         (now (square .entry)) ⌝ }
 {
+    symbol::layout(m.version, kinds);
     let place = place_refusal(m, kinds, square.len());
     if place != 0 {
         return place;
     }
-    let row = block_table::block_row(m.version, m.level);
-    let text = script_refusal(m, &row, script, payload);
     if text != 0 {
         return text;
     }
-    write_mark(square, kinds, m, &row, script, payload);
+    write_mark(square, kinds, m, row, script, payload);
     0
 }
 
-// Write a square, its layout drawn into a lent buffer.
-fn write_in(
-    kinds: &mut [u8],
-    version: usize,
-    level: usize,
-    mask: usize,
+// The same. A small mark has a small buffer for its layout: to clear one for any layout takes longer than to write a small mark.
+fn write_checked(
+    m: Mark,
+    row: &[u8],
+    text: usize,
     script: &[u8],
     payload: &[u8],
     square: &mut [u8],
 ) -> usize
-    requires { ⌜ (version ≤ 84 → sideOf version * sideOf version ≤ length (now kinds)) ⌝ }
-    ensures { λ r. ⌜ writingOf r (now (square .exit)) ≡ writeOf version level mask (now (script .entry)) (now (payload .entry)) (now (square .entry)) ⌝ }
+    requires { ⌜ ValidMark m × Row m (now row) × (text ≡ scriptRefusal (m .version) (m .level) (now script) (now payload)) ⌝ }
+    ensures { λ r. ⌜ writingOf r (now (square .exit)) ≡ writeOf (m .version) (m .level) (m .mask) (now (script .entry)) (now (payload .entry))
+        (now (square .entry)) ⌝ }
 {
-    let InfoBits::Word(word) = information::info_bits(version, level, mask) else {
-        return 1;
-    };
-    symbol::layout(version, kinds);
-    let m = Mark {
-        version: version,
-        level: level,
-        mask: mask,
-        word: word,
-    };
-    write_with_layout(square, kinds, m, script, payload)
+    if m.version <= 10 {
+        let mut kinds = [0u8; 1681];
+        return write_in(&mut kinds, m, row, text, script, payload, square);
+    }
+    let mut kinds = [0u8; Version::MAX_SQUARE];
+    write_in(&mut kinds, m, row, text, script, payload, square)
 }
 
-// Write a square. A small mark has a small buffer for its layout: to clear one for any layout takes longer than to write a small mark. The
-// buffer stands before all refusals, so that no path through this function does without it.
+// Write a square.
 pub fn write_square(
     version: usize,
     level: usize,
@@ -213,10 +210,16 @@ pub fn write_square(
 ) -> usize
     ensures { λ r. ⌜ writingOf r (now (square .exit)) ≡ writeOf version level mask (now (script .entry)) (now (payload .entry)) (now (square .entry)) ⌝ }
 {
-    if version <= 10 {
-        let mut kinds = [0u8; 1681];
-        return write_in(&mut kinds, version, level, mask, script, payload, square);
-    }
-    let mut kinds = [0u8; Version::MAX_SQUARE];
-    write_in(&mut kinds, version, level, mask, script, payload, square)
+    let InfoBits::Word(word) = information::info_bits(version, level, mask) else {
+        return 1;
+    };
+    let m = Mark {
+        version: version,
+        level: level,
+        mask: mask,
+        word: word,
+    };
+    let row = block_table::block_row(version, level);
+    let text = script_refusal(m, &row, script, payload);
+    write_checked(m, &row, text, script, payload, square)
 }

@@ -2,17 +2,14 @@
 use information::InfoBits;
 use script::Check;
 ghost use mathlib.Core.Path.{_≡_};
-ghost use Prim.Native.Nat.{_*_, _≤_};
-ghost use lib.ListN.{length};
-ghost use Rattle.symbol.specs.Version.{sideOf};
+ghost use Prim.Native.Nat.{_≤_};
 ghost use Rattle.script.specs.declared.Check.the-variants.{Bits};
 ghost use Rattle.script.specs.Inner.{Fits, checkOf};
 ghost use Rattle.marks.specs.Write.{roomOf, writingOf};
 ghost use Rattle.marks.specs.Smallest.{smallest, smallestOf};
-ghost use Rattle.writer.specs.Inner.{MarkWithLayout, frontOf};
+ghost use Rattle.writer.specs.Inner.{frontOf};
 use crate::Mark;
-use crate::place_refusal;
-use crate::write_mark;
+use crate::write_checked;
 use symbol::Version;
 
 // The refusal number or 0, and the version found, 0 after a refusal.
@@ -31,58 +28,8 @@ fn refused(number: usize) -> Found
     }
 }
 
-// The mark in front of a square and 0; 1 for a version with too few data modules, 2 if the square is shorter than the mark.
-fn front_with_layout(
-    square: &mut [u8],
-    kinds: &[u8],
-    m: Mark,
-    script: &[u8],
-    payload: &[u8],
-) -> usize
-    requires { ⌜ MarkWithLayout m (now kinds) × Fits (now script) (now payload) (roomOf (m .version) (m .level)) ⌝ }
-    ensures { λ r. ⌜ writingOf r (now (square .exit)) ≡ frontOf (m .version) (m .level) (m .mask) (now (script .entry)) (now (payload .entry))
-        (now (square .entry)) ⌝ }
-{
-    let side = Version { number: m.version }.side();
-    let size = side * side;
-    if place_refusal(m, kinds, size) != 0 {
-        return 1;
-    }
-    if square.len() < size {
-        return 2;
-    }
-    let row = block_table::block_row(m.version, m.level);
-    write_mark(&mut square[..size], kinds, m, &row, script, payload);
-    0
-}
-
-// The same, the layout drawn into a lent buffer.
-fn front_in(
-    kinds: &mut [u8],
-    version: usize,
-    level: usize,
-    mask: usize,
-    script: &[u8],
-    payload: &[u8],
-    square: &mut [u8],
-) -> usize
-    requires { ⌜ (version ≤ 84 → sideOf version * sideOf version ≤ length (now kinds)) × Fits (now script) (now payload) (roomOf version level) ⌝ }
-    ensures { λ r. ⌜ writingOf r (now (square .exit)) ≡ frontOf version level mask (now (script .entry)) (now (payload .entry)) (now (square .entry)) ⌝ }
-{
-    let InfoBits::Word(word) = information::info_bits(version, level, mask) else {
-        return 1;
-    };
-    symbol::layout(version, kinds);
-    let m = Mark {
-        version: version,
-        level: level,
-        mask: mask,
-        word: word,
-    };
-    front_with_layout(square, kinds, m, script, payload)
-}
-
-// The same. As in `write_square`, a small mark has a small buffer for its layout.
+// The mark in front of a square and 0; 1 for a version with too few data modules, 2 if the square is shorter than the mark. A shorter square
+// is lent as none, which has no version's size, so that 1 comes before 2.
 fn write_front(
     version: usize,
     level: usize,
@@ -94,12 +41,21 @@ fn write_front(
     requires { ⌜ Fits (now script) (now payload) (roomOf version level) ⌝ }
     ensures { λ r. ⌜ writingOf r (now (square .exit)) ≡ frontOf version level mask (now (script .entry)) (now (payload .entry)) (now (square .entry)) ⌝ }
 {
-    if version <= 10 {
-        let mut kinds = [0u8; 1681];
-        return front_in(&mut kinds, version, level, mask, script, payload, square);
+    let InfoBits::Word(word) = information::info_bits(version, level, mask) else {
+        return 1;
+    };
+    let m = Mark {
+        version: version,
+        level: level,
+        mask: mask,
+        word: word,
+    };
+    let row = block_table::block_row(version, level);
+    let side = Version { number: version }.side();
+    if square.len() < side * side {
+        return write_checked(m, &row, 0, script, payload, &mut square[..0]);
     }
-    let mut kinds = [0u8; Version::MAX_SQUARE];
-    front_in(&mut kinds, version, level, mask, script, payload, square)
+    write_checked(m, &row, 0, script, payload, &mut square[..side * side])
 }
 
 // A script and payload that take so many bits, at the lowest version that holds them. A version with room for them but too few data modules,
