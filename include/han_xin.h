@@ -101,8 +101,7 @@ extern "C" {
 /* What the functions return: HX_OK or a refusal. It is printed by "%zu". */
 typedef size_t hx_status;
 
-/* What a function returns that answers a number beside the refusal: both, by value. Every such function, also one that is added
- * later, returns this struct, says in its comment what the number is, and answers 0 for it after a refusal. */
+/* What a function returns that answers a number beside the refusal. What the number is stands at the function. */
 typedef struct {
     hx_status status; /* HX_OK or a refusal */
     size_t value;     /* what the function answers beside it, 0 after a refusal */

@@ -38,7 +38,8 @@ unfolding shapesOf rowOf totalOf test
 row-holds v l lo hi le =
     let h : 4 * (v - 1) + l < 336 = omega arith in
     let q : (0 + (4 * (v - 1) + l)) / 4 ≡ v - 1 = omega arith in
-    subst (λ (m : ℕ). T (rowHolds (shapes (take 9 (drop (9 * (4 * (v - 1) + l)) blocks))) (getD totals m 0))) q (rows-from test 336 0 blocks passes (4 * (v - 1) + l) h)
+    subst (λ (m : ℕ). T (rowHolds (shapes (take 9 (drop (9 * (4 * (v - 1) + l)) blocks))) (getD totals m 0))) q
+    (rows-from test 336 0 blocks passes (4 * (v - 1) + l) h)
 
 -- totals are small, those of the first versions still more so: tests that antt computes
 total-below : (n b : ℕ) → T (upTo (λ k. leb (getD totals k 0) b) n) → (v : ℕ) → 1 ≤ v → v ≤ n → totalOf v ≤ b

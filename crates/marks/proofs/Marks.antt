@@ -121,7 +121,8 @@ module _ (v l k : ℕ) (s p sq : List ℕ) where
   pub refused-not : Written v l k s p sq → writeRefusal v l k s p sq ≡ 0
   unfolding writeRefusal firstRefusal
   refused-not W =
-      rw (info-is v l k (W .ranged), W .blocked, eq-eqb (length sq) (sideOf v * sideOf v) (W .size), fits-accepted v l s p (W .fits), fits-true v l s p (W .fits))
+      let F = W .fits in
+      rw (info-is v l k (W .ranged), W .blocked, eq-eqb (length sq) (sideOf v * sideOf v) (W .size), fits-accepted v l s p F, fits-true v l s p F)
 
   pub written : (m : List ℕ) → writeOf v l k s p sq ≡ record { number = 0; square = m } → Written v l k s p sq × (m ≡ markOf v l k s p)
   unfolding writeOf

@@ -1,6 +1,7 @@
 -- The lowest version that holds a script and payload, and the mark that is written there. Assumes nothing.
 use Rattle.general.proofs.Names.{_≡_, refl, sym, ap, _∙_, Bool, true, false, _&&_, _≢_, false≢true, Option, none, some, List, [], _∷_, _++_, ℕ, _*_, _≤_, _<_}
-use Rattle.general.proofs.Names.{arith, ℕ-discrete, eq-eqb, ne-eqb, le-leb, lt-leb, leb-true, leb-false, eqb, ltb, leb, length, take, drop, take-at, drop-at, mul-le-mul}
+use Rattle.general.proofs.Names.{arith, ℕ-discrete, eq-eqb, ne-eqb, le-leb, lt-leb, leb-true, leb-false, eqb, ltb, leb, length}
+use Rattle.general.proofs.Names.{take, drop, take-at, drop-at, mul-le-mul}
 use Rattle.general.proofs.Choices.{tested, chosen}
 use Rattle.general.proofs.Lowest.{lowest-from, lowest-passes, lowest-first}
 use Rattle.symbol.specs.Version.{sideOf}
@@ -179,8 +180,9 @@ module _ (level mask : ℕ) (s p sq : List ℕ) where
   written-found u b m e n =
       let W = written u level mask s p b m e .0 in
       let R = W .ranged in
+      let room = leb-true (length (encodings (scriptSegments s p))) (8 * roomOf u level) (fits-true u level s p (W .fits)) in
       some-found (R .level) (R .mask) (fits-accepted u level s p (W .fits)) u
-      (record { low = R .low; high = R .high; blocks = W .blocked; room = leb-true (length (encodings (scriptSegments s p))) (8 * roomOf u level) (fits-true u level s p (W .fits)) })
+      (record { low = R .low; high = R .high; blocks = W .blocked; room = room })
       (omega (arith, W .size, n))
 
   -- an accepted writing: the version found, and the square
@@ -209,11 +211,14 @@ module _ (level mask : ℕ) (s p sq : List ℕ) where
     pub version-holds : Holds level s p u
     version-holds = rw is-found at (found-holds level s p (is-accepted .high))
 
+    whole-length : length (markOf u level mask s p) ≡ sideOf u * sideOf u
+    whole-length = mark-length u level mask s p in-ranges
+
     pub front-is : take (sideOf u * sideOf u) after ≡ markOf u level mask s p
-    front-is = rw (← is-square) (take-at (markOf u level mask s p) (drop (sideOf u * sideOf u) sq) (sideOf u * sideOf u) (mark-length u level mask s p in-ranges))
+    front-is = rw (← is-square) (take-at (markOf u level mask s p) (drop (sideOf u * sideOf u) sq) (sideOf u * sideOf u) whole-length)
 
     pub beyond-is : drop (sideOf u * sideOf u) after ≡ drop (sideOf u * sideOf u) sq
-    beyond-is = rw (← is-square) (drop-at (markOf u level mask s p) (drop (sideOf u * sideOf u) sq) (sideOf u * sideOf u) (mark-length u level mask s p in-ranges))
+    beyond-is = rw (← is-square) (drop-at (markOf u level mask s p) (drop (sideOf u * sideOf u) sq) (sideOf u * sideOf u) whole-length)
 
     pub written-there : (b : List ℕ) → length b ≡ sideOf u * sideOf u
         → writeOf u level mask s p b ≡ record { number = 0; square = take (sideOf u * sideOf u) after }

@@ -1,6 +1,7 @@
 -- A mark in front of a square, at a version for which a script and payload fit, and the search for the lowest. Assumes nothing.
-use Rattle.general.proofs.Names.{_≡_, refl, sym, ap, _∙_, _≢_, Bool, true, false, false≢true, List, [], _∷_, _++_, ℕ, _+_, _-_, _*_, _≤_, _<_, arith, ℕ-discrete}
-use Rattle.general.proofs.Names.{eq-eqb, ne-eqb, le-leb, lt-leb, leb-true, leb-false, eqb, leb, length, take, drop, length-take-le, take-append-drop}
+use Rattle.general.proofs.Names.{_≡_, refl, sym, ap, _∙_, _≢_, Bool, true, false, false≢true, List, [], _∷_, _++_, ℕ, _+_, _-_, _*_, _≤_, _<_, arith}
+use Rattle.general.proofs.Names.{ℕ-discrete, eq-eqb, ne-eqb, le-leb, lt-leb, leb-true, leb-false, eqb, leb, length}
+use Rattle.general.proofs.Names.{take, drop, take-append-drop, length-take-le}
 use Rattle.general.proofs.Choices.{tested}
 use Rattle.general.proofs.Lowest.{lowest-from, lowest-to, lowest-passes, search-stops, search-goes-on, search-ends, search-begins}
 use Rattle.general.specs.Lists.{lowest}
@@ -218,7 +219,8 @@ module _ (level mask : ℕ) (s p sq : List ℕ) where
   ranges-refused b e f = small.answers-refusal level mask s p sq 1 (λ z. omega arith) (sym (small.refusal-one level mask s p sq (sym e ∙ f)))
 
   -- script and payload refused by their check
-  pub check-refused : level ≤ 3 → mask ≤ 3 → (c k : Check) → answered k ≢ 0 → c ≡ k → c ≡ checkOf s p → smallest (answered k) 0 sq ≡ smallestOf level mask s p sq
+  pub check-refused : level ≤ 3 → mask ≤ 3 → (c k : Check) → answered k ≢ 0 → c ≡ k → c ≡ checkOf s p
+      → smallest (answered k) 0 sq ≡ smallestOf level mask s p sq
   check-refused l m c k d e f =
       let n = check-other s p c k e f in
       small.answers-refusal level mask s p sq (answered k) d (n ∙ sym (small.refusal-early level mask s p sq l m (λ z. d (n ∙ z))))

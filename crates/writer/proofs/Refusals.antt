@@ -88,11 +88,13 @@ module _ (s p : List ℕ) where
     unfolding fits
     check-fits n small e = fitting (roomOf v l) n p (commandsOf s p) small e
 
-    pub script-bits : (c : Check) (n x : ℕ) → roomOf v l ≤ 3886 → c ≡ Bits n → c ≡ checkOf s p → x ≡ unless (leb n (8 * roomOf v l)) 13 → x ≡ scriptRefusal v l s p
+    pub script-bits : (c : Check) (n x : ℕ) → roomOf v l ≤ 3886 → c ≡ Bits n → c ≡ checkOf s p → x ≡ unless (leb n (8 * roomOf v l)) 13
+        → x ≡ scriptRefusal v l s p
     unfolding scriptRefusal
     script-bits c n x small e f h =
         h ∙ ap (λ (b : Bool). unless b 13) (check-fits n small (sym e ∙ f))
-        ∙ sym (first-skips (segmentsRefusal (commandsOf s p) p) (unless (fits v l s p) 13 ∷ []) (check-bits n (sym e ∙ f)) ∙ first-one (unless (fits v l s p) 13))
+        ∙ sym (first-skips (segmentsRefusal (commandsOf s p) p) (unless (fits v l s p) 13 ∷ []) (check-bits n (sym e ∙ f))
+        ∙ first-one (unless (fits v l s p) 13))
 
     pub script-other : (c k : Check) → answered k ≢ 0 → c ≡ k → c ≡ checkOf s p → answered k ≡ scriptRefusal v l s p
     unfolding scriptRefusal

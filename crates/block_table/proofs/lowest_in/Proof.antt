@@ -17,7 +17,8 @@ returns c =
     let start = c .before .before .before .before .args in
     let loop = c .before .before .before .loop in
     sym (loop .inv .2
-    ∙ search-stops (enough (start .table .now) (start .level) (start .bits)) (loop .version) 85 (c .before .before .loop-test .taken) (le-leb _ _ (c .if1 .taken)))
+    ∙ search-stops (enough (start .table .now) (start .level) (start .bits)) (loop .version) 85 (c .before .before .loop-test .taken)
+    (le-leb _ _ (c .if1 .taken)))
 
 loop-again : tie.Need-loop-again Inv-loop μ-loop
 loop-again c =
@@ -43,5 +44,6 @@ mul-if1-3 c =
 
 pub lowest-in-spec : {M : Type 1} → Rattle.block_table.proofs.lowest_in.Statement.statement M
 lowest-in-spec =
-    tie.close (tie.spec Inv-loop μ-loop (λ c. (search needs, search needs, refl)) (λ c. search needs) (λ c. search needs) (λ c. search needs) (λ c. search needs)
+    tie.close (tie.spec Inv-loop μ-loop (λ c. (search needs, search needs, refl)) (λ c. search needs) (λ c. search needs) (λ c. search needs)
+    (λ c. search needs)
     (λ c. search needs) cast-if1 mul-if1-3 returns (λ c. search needs) (λ c. search needs) loop-again returns-2)

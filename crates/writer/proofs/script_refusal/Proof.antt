@@ -8,7 +8,8 @@ use Rattle.writer.proofs.script_refusal.Tie as tie
 returns : tie.Need-returns
 returns c =
     let R = c .before .before .before .before .before .before .before .before .pre .0 in
-    script-bits _ _ _ _ _ _ _ (room-small _ _ (R .low) (R .high) (R .level)) (c .before .before .n .given .1) (c .before .before .before .before .check-script .ensures)
+    script-bits _ _ _ _ _ _ _ (room-small _ _ (R .low) (R .high) (R .level)) (c .before .before .n .given .1)
+    (c .before .before .before .before .check-script .ensures)
     (c .bits-refusal .ensures)
 
 returns-2 : tie.Need-returns-2

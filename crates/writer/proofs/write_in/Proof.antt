@@ -22,8 +22,9 @@ returns-2 c =
 
 write-mark-requires : tie.Need-write-mark-requires
 write-mark-requires c κs =
-    let o = c .before .before .before .before .before .before .before .before .before .before .before .before .before .before .before in (
-      mark-with-layout _ (o .args .kinds .now) _ (o .pre .0) (o .pre .2) (c .before .before .before .before .before .before .before .before .layout .ensures .1),
+    let drawn = c .before .before .before .before .before .before .before .before in
+    let o = drawn .before .before .before .before .before .before .before in (
+      mark-with-layout _ (o .args .kinds .now) _ (o .pre .0) (o .pre .2) (drawn .layout .ensures .1),
       none-refused _ (o .pre .0) (o .args .script .now) (o .args .payload .now) (o .args .square .now) _
           (c .before .before .before .before .place-refusal .ensures) (c .before .before .before .if1 .left) _ (o .pre .3) (c .before .before .if2 .left),
       o .pre .1,

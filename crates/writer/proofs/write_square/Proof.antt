@@ -14,7 +14,8 @@ returns c =
 
 -- version, level and mask are in their ranges, and the word is theirs
 made : (c : tie.After-known-told)
-    → let o = c .before .before .before .before .before .before .before .args in ValidMark (record { version = o .version; level = o .level; mask = o .mask; word = c .before .word .given .0 .0 })
+    → let o = c .before .before .before .before .before .before .before .args in
+    ValidMark (record { version = o .version; level = o .level; mask = o .mask; word = c .before .word .given .0 .0 })
 made c = valid _ _ _ _ (c .before .before .before .info-bits .ensures) _ (c .before .word .given .1)
 
 block-row-requires : tie.Need-block-row-requires
@@ -25,7 +26,8 @@ script-refusal-requires c κs = (made (c .before .before), record { nine = searc
 
 write-checked-requires : tie.Need-write-checked-requires
 write-checked-requires c κs =
-    (made (c .before .before .before .before .before), record { nine = search needs; is = c .before .before .before .before .block-row .ensures }, c .before .before .script-refusal .ensures)
+    let rowed = c .before .before .before .before in
+    (made (rowed .before), record { nine = search needs; is = rowed .block-row .ensures }, c .before .before .script-refusal .ensures)
 
 pub write-square-spec : {M : Type 1} → Rattle.writer.proofs.write_square.Statement.statement M
 write-square-spec =

@@ -32,7 +32,9 @@ returns c =
     ∙ ap (smallestOf (o .args .level) (o .args .mask) (o .args .script .now) (o .args .payload .now)) (loop .inv .1)
 
 same-length-2 : tie.Need-same-length-2 Inv-loop μ-loop
-same-length-2 c = c .before .before .before .before .before .write-front .kept .1 .1 .1 .1 .1 .0 ∙ ap length (c .before .before .before .before .before .before .before .before .loop .inv .1)
+same-length-2 c =
+    let wrote = c .before .before .before .before .before in
+    wrote .write-front .kept .1 .1 .1 .1 .1 .0 ∙ ap length (wrote .before .before .before .loop .inv .1)
 
 returns-2 : tie.Need-returns-2 Inv-loop μ-loop
 returns-2 c =
@@ -62,7 +64,8 @@ loop-again c =
     let loop = wrote .before .before .before .loop in
     let o = wrote .before .before .before .before .before .before .before .before in
     let h : loop .version < 85 = omega (arith, wrote .before .before .loop-test .taken) in
-    let e = front-one _ _ _ _ (o .pre .0) (o .pre .2) _ (loop .inv .0) h _ (o .pre .1) (loop .square) _ _ (wrote .write-front .ensures) (c .before .if2 .left) in
+    let e = front-one _ _ _ _ (o .pre .0) (o .pre .2) _ (loop .inv .0) h _ (o .pre .1) (loop .square) _ _ (wrote .write-front .ensures)
+    (c .before .if2 .left) in
     (candidate-next _ _ _ _ (o .pre .0) (o .pre .2) _ (loop .inv .0) h _ (e .0) (c .lowest-version2 .ensures), e .1 ∙ loop .inv .1)
 
 same-length-3 : tie.Need-same-length-3 Inv-loop μ-loop

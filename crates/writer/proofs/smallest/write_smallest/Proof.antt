@@ -8,7 +8,8 @@ returns : tie.Need-returns
 returns c =
     let o = c .before .before .before .before .before .before in
     rw (c .refused .ensures)
-    (ranges-refused _ _ (o .args .script .now) (o .args .payload .now) (o .args .square .now) _ (c .before .before .is-info .ensures .0) (not-true _ (c .before .if1 .taken)))
+    (ranges-refused _ _ (o .args .script .now) (o .args .payload .now) (o .args .square .now) _ (c .before .before .is-info .ensures .0)
+    (not-true _ (c .before .if1 .taken)))
 
 write-lowest-requires : tie.Need-write-lowest-requires
 write-lowest-requires c κs =
