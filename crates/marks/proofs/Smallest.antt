@@ -7,11 +7,10 @@ use Rattle.general.proofs.Lowest.{lowest-from, lowest-passes, lowest-first}
 use Rattle.symbol.specs.Version.{sideOf}
 use Rattle.block_table.specs.Blocks.{hasBlocks}
 use Rattle.segments.specs.Script.{Segment}
-use Rattle.script.specs.Writer.{encodings}
 use Rattle.script.specs.Check.{commandsOf}
 use Rattle.script.specs.Inner.{allHave}
 use Rattle.marks.specs.Read.{firstRefusal, unless}
-use Rattle.marks.specs.Write.{roomOf, scriptSegments, segmentsRefusal, fits, writeRefusal, markOf, writeOf}
+use Rattle.marks.specs.Write.{segmentsRefusal, fits, writeRefusal, markOf, writeOf}
 use Rattle.marks.specs.Smallest.{Smallest, smallest, holds, lowestVersion, smallestRefusal, smallestOf}
 use Rattle.marks.specs.Promise.{Holds}
 use Rattle.marks.proofs.Refusals.{true-unless, first-none, first-skips, first-takes, both-true}
@@ -23,28 +22,18 @@ module _ (level : ℕ) (s p : List ℕ) where
   abbrev found : ℕ
   found = lowestVersion level s p
 
-  pub holds-fits : (v : ℕ) → Holds level s p v → fits v level s p ≡ true
-  unfolding fits
-  holds-fits v H = le-leb (length (encodings (scriptSegments s p))) (8 * roomOf v level) (H .room)
-
-  holds-true : (v : ℕ) → Holds level s p v → holds level s p v ≡ true
+  pub holds-parts : (v : ℕ) → Holds level s p v → (hasBlocks v level ≡ true) × (fits v level s p ≡ true)
   unfolding holds
-  holds-true v H = rw (H .blocks, holds-fits v H)
-
-  true-holds : (v : ℕ) → 1 ≤ v → v ≤ 84 → holds level s p v ≡ true → Holds level s p v
-  unfolding holds fits
-  true-holds v low high e =
-      let b = both-true (hasBlocks v level) (fits v level s p) e in
-      record { low = low; high = high; blocks = b .0; room = leb-true (length (encodings (scriptSegments s p))) (8 * roomOf v level) (b .1) }
+  holds-parts v H = both-true (hasBlocks v level) (fits v level s p) (H .2)
 
   pub found-holds : found ≤ 84 → Holds level s p found
   unfolding lowestVersion
-  found-holds h = true-holds found (lowest-from (holds level s p) 84 1) h (lowest-passes (holds level s p) 84 1 (omega arith))
+  found-holds h = (lowest-from (holds level s p) 84 1, h, lowest-passes (holds level s p) 84 1 (omega arith))
 
   pub none-before : (u : ℕ) → u < found → Holds level s p u → ⊥
   unfolding lowestVersion
   none-before u h H =
-      let e : false ≡ true = sym (lowest-first (holds level s p) 84 1 u (H .low) h) ∙ holds-true u H in
+      let e : false ≡ true = sym (lowest-first (holds level s p) 84 1 u (H .0) h) ∙ H .2 in
       absurd (false≢true e)
 
   pub found-below : (u : ℕ) → Holds level s p u → found ≤ u
@@ -157,7 +146,7 @@ module _ (level mask : ℕ) (s p sq : List ℕ) where
   unfolding smallestRefusal firstRefusal
   fourteen e u H =
       let h : smallestRefusal level mask s p sq ≤ 12 =
-      rw (le-leb v 84 (omega (arith, found-below level s p u H, H .high)))
+      rw (le-leb v 84 (omega (arith, found-below level s p u H, H .1)))
       (first-le 12 (unless ranged 1) (segmentsRefusal (commandsOf s p) p ∷ 0 ∷ unless long 2 ∷ []) (omega (arith, unless-le ranged 1))
       (first-le 12 (segmentsRefusal (commandsOf s p) p) (0 ∷ unless long 2 ∷ []) (segments-le (commandsOf s p) p)
       (first-le 12 (unless long 2) [] (omega (arith, unless-le long 2)) (omega arith)))) in
@@ -173,17 +162,20 @@ module _ (level mask : ℕ) (s p sq : List ℕ) where
     some-found u H n =
         let h = found-below level s p u H in
         let m : sideOf v * sideOf v ≤ sideOf u * sideOf u = mul-le-mul (omega arith) (omega arith) in
-        number-is ∙ refusal-none l k a (omega (arith, h, H .high)) (omega (arith, m, n))
+        number-is ∙ refusal-none l k a (omega (arith, h, H .1)) (omega (arith, m, n))
 
-  pub written-found : (u : ℕ) (b m : List ℕ) → writeOf u level mask s p b ≡ record { number = 0; square = m } → length b ≤ length sq → number ≡ 0
-  unfolding fits
-  written-found u b m e n =
-      let W = written u level mask s p b m e .0 in
-      let R = W .ranged in
-      let room = leb-true (length (encodings (scriptSegments s p))) (8 * roomOf u level) (fits-true u level s p (W .fits)) in
-      some-found (R .level) (R .mask) (fits-accepted u level s p (W .fits)) u
-      (record { low = R .low; high = R .high; blocks = W .blocked; room = room })
-      (omega (arith, W .size, n))
+  -- where Write a square writes, the version holds them
+  module _ (u : ℕ) (b m : List ℕ) (e : writeOf u level mask s p b ≡ record { number = 0; square = m }) where
+    pub written-holds : Holds level s p u
+    unfolding holds
+    written-holds =
+        let W = written u level mask s p b m e .0 in
+        (W .ranged .low, W .ranged .high, rw (W .blocked, fits-true u level s p (W .fits)))
+
+    pub written-found : length b ≤ length sq → number ≡ 0
+    written-found n =
+        let W = written u level mask s p b m e .0 in
+        some-found (W .ranged .level) (W .ranged .mask) (fits-accepted u level s p (W .fits)) u written-holds (omega (arith, W .size, n))
 
   -- an accepted writing: the version found, and the square
   module _ (u : ℕ) (after : List ℕ) (made : smallestOf level mask s p sq ≡ record { number = 0; version = u; square = after }) where
@@ -206,7 +198,7 @@ module _ (level mask : ℕ) (s p sq : List ℕ) where
     in-ranges =
         let A = is-accepted in
         let H = found-holds level s p (A .high) in
-        record { low = omega (arith, is-found, H .low); high = omega (arith, is-found, H .high); level = A .level-in; mask = A .mask-in }
+        record { low = omega (arith, is-found, H .0); high = omega (arith, is-found, H .1); level = A .level-in; mask = A .mask-in }
 
     pub version-holds : Holds level s p u
     version-holds = rw is-found at (found-holds level s p (is-accepted .high))
@@ -224,11 +216,11 @@ module _ (level mask : ℕ) (s p sq : List ℕ) where
         → writeOf u level mask s p b ≡ record { number = 0; square = take (sideOf u * sideOf u) after }
     unfolding writeOf
     written-there b n =
-        let H = version-holds in
+        let H = holds-parts level s p u version-holds in
         let W : Written u level mask s p b = record {
           ranged = in-ranges;
-          blocked = H .blocks;
+          blocked = H .0;
           size = n;
-          fits = script-fits u level s p (is-accepted .accepted) (holds-fits level s p u H);
+          fits = script-fits u level s p (is-accepted .accepted) (H .1);
         } in
         rw (eq-eqb (writeRefusal u level mask s p b) 0 (refused-not u level mask s p b W), front-is)

@@ -180,6 +180,11 @@ module _ (level mask : ℕ) (script payload before after : List ℕ) (v : ℕ)
   pub no-lower-holds : (u : ℕ) → u < v → Holds level script payload u → ⊥
   no-lower-holds u h = small.none-before level script payload u (omega (arith, small.is-found level mask script payload before v after made))
 
+  -- So Write a square writes at no lower version, into any square.
+  pub no-lower-is-written : (u : ℕ) (square mark : List ℕ) → u < v
+      → writeOf u level mask script payload square ≡ record { number = 0; square = mark } → ⊥
+  no-lower-is-written u square mark h e = no-lower-holds u h (small.written-holds level mask script payload before u square mark e)
+
   -- The first s × s bytes are exactly those that Write a square makes at v, so that all that is said above of marks holds of them ..
   pub smallest-is-written : (square : List ℕ) → length square ≡ sideOf v * sideOf v
       → writeOf v level mask script payload square ≡ record { number = 0; square = take (sideOf v * sideOf v) after }

@@ -8,12 +8,11 @@ use lib.ListN.{length, getD, take}
 use Rattle.symbol.specs.Layout.{layoutOf, data-kind, dataModules}
 use Rattle.reed_solomon.specs.Block.{distance, inReach}
 use Rattle.corrector.specs.Correct.{correctOf}
-use Rattle.block_table.specs.Blocks.{totalOf, shapesOf, hasBlocks, dataParts}
+use Rattle.block_table.specs.Blocks.{totalOf, shapesOf, dataParts}
 use Rattle.blocks.specs.Blockwise.{differences}
 use Rattle.segments.specs.FromData.{fromData}
-use Rattle.script.specs.Writer.{encodings}
 use Rattle.marks.specs.Read.{Reading, blocksIn, outcomeReading}
-use Rattle.marks.specs.Write.{roomOf, scriptSegments}
+use Rattle.marks.specs.Smallest.{holds}
 
 -- how many blocks a version and level have
 abbrev pub blockCount : ℕ → ℕ → ℕ
@@ -56,9 +55,6 @@ correctionsAt v level mask sq j = correctOf 0x163 1 (parityIn v level j) (blockI
 abbrev pub Leftover : ℕ → ℕ → Type 0
 Leftover v i = (i < length (layoutOf v)) × (getD (layoutOf v) i 0 ≡ data-kind) × (8 * totalOf v ≤ dataModules (take i (layoutOf v)))
 
--- SPECIFICATION 10.12: version v holds a script and payload at a level: 7.4 does not refuse it, and their bits are at most 8 × its data codewords
-pub record Holds (level : ℕ) (s p : List ℕ) (v : ℕ) : Type 0 where
-  pub low : 1 ≤ v
-  pub high : v ≤ 84
-  pub blocks : hasBlocks v level ≡ true
-  pub room : length (encodings (scriptSegments s p)) ≤ 8 * roomOf v level
+-- SPECIFICATION 10.12: v is a version that holds a script and payload at a level
+abbrev pub Holds : ℕ → List ℕ → List ℕ → ℕ → Type 0
+Holds level s p v = (1 ≤ v) × (v ≤ 84) × (holds level s p v ≡ true)
