@@ -89,7 +89,7 @@ fn write_lowest(
     refused(14)
 }
 
-// Write the smallest mark. Level and mask are in their ranges where they are for any version. The script is checked and its bits are counted once.
+// Write the smallest mark. Level and mask are tested with version 1, which is in its range. The script is checked and its bits are counted once.
 pub fn write_smallest(
     level: usize,
     mask: usize,
