@@ -1,10 +1,10 @@
 -- A block is repaired exactly where it has a codeword in reach. Assumes nothing.
-use Rattle.general.proofs.Names.{_≡_, refl, sym, ap, _∙_, Bool, true, false, cond, true≢false, List, [], _∷_, ℕ, suc, _+_, _≤_, _<_, arith, eq-eqb, eqb, length}
+use Rattle.general.proofs.Names.{_≡_, refl, sym, ap, _∙_, Bool, true, false, cond, true≢false, List, ℕ, _+_, _≤_, _<_, arith, length}
 use Rattle.general.proofs.Names.{take-length}
 use Rattle.field.specs.Field.{power}
 use Rattle.field.proofs.Field.{Primitive, primitive}
 use Rattle.field.proofs.Instances.{primitive-163}
-use Rattle.reed_solomon.specs.Block.{eval, distance, nearest, unfit}
+use Rattle.reed_solomon.specs.Block.{eval, nearest, unfit}
 use Rattle.remainder.specs.declared.Register.{Register}
 use Rattle.remainder.specs.Words.{tabled, Remains, Leaves}
 use Rattle.remainder.specs.Words as Words
@@ -13,6 +13,7 @@ use Rattle.corrector.specs.Correct.{refusedBlock, settled, correctOf}
 use Rattle.reed_solomon.specs.Inner.{Syndromes, isClean, Shortest}
 use Rattle.corrector.specs.Inner.{Applied}
 use Rattle.reed_solomon.proofs.Search.{Bytes}
+use Rattle.reed_solomon.proofs.Distance.{distance-self}
 use Rattle.reed_solomon.proofs.Codeword.{zero-codeword}
 use Rattle.reed_solomon.proofs.Nearest.{Near, near-none, near-some}
 use Rattle.reed_solomon.proofs.Clean.{clean-zero}
@@ -30,14 +31,6 @@ module _ (poly first parity : ℕ) (w : List ℕ) where
   fit-settled e = ap (λ (b : Bool). cond b (refusedBlock 5 w) (settled w (nearest poly first parity w))) (sym e)
 
 -- ---- a block with no error
-
-flag-same : (x n : ℕ) → cond (eqb x x) n (suc n) ≡ n
-flag-same x n = simp (eq-eqb x x refl)
-
-pub distance-self : (w : List ℕ) → distance w w ≡ 0
-unfolding distance
-distance-self [] = refl
-distance-self (x ∷ xs) = flag-same x (distance xs xs) ∙ distance-self xs
 
 -- a codeword is its own
 pub zero-settled : (poly : ℕ) → Primitive poly → (first parity : ℕ) (w : List ℕ) → length w ≤ 255 → Bytes w

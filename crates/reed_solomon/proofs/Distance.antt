@@ -1,6 +1,6 @@
 -- The number of places in which two blocks differ, and which places these are. Assumes nothing.
 use Rattle.general.proofs.Names.{_≡_, refl, sym, ap, ap₂, _∙_, subst, _≢_, Bool, true, false, cond, List, [], _∷_, ℕ, zero, suc, _+_, _-_, _≤_, _<_, zero-le}
-use Rattle.general.proofs.Names.{arith, add-one, add-zero, ℕ-discrete, eq-eqb, ne-eqb, T, eqb, eqb→eq, eqb-refl, length, getD, bitXor, xor-self, xor-zero-r}
+use Rattle.general.proofs.Names.{arith, add-one, add-zero, add-suc, ℕ-discrete, eq-eqb, ne-eqb, T, eqb, eqb→eq, eqb-refl, length, getD, bitXor, xor-self, xor-zero-r}
 use Rattle.reed_solomon.specs.Sum.{_⊕_, seq, degree}
 use Rattle.reed_solomon.proofs.Sum.{add-cancel}
 use Rattle.reed_solomon.proofs.Peel.{Out}
@@ -66,6 +66,44 @@ triangle (w ∷ ws) (u ∷ us) (v ∷ vs) e f =
     tick-triangle (eqb w u) (eqb w v) (eqb u v) (distance us vs) (distance ws us) (distance ws vs)
     (λ p q. subst (λ (x : ℕ). T (eqb u x)) (sym (eqb→eq w u p) ∙ eqb→eq w v q) (eqb-refl u)) (triangle ws us vs (omega arith) (omega arith))
 
+-- a block differs from itself in no place, and from no other
+flag-same : (x n : ℕ) → cond (eqb x x) n (suc n) ≡ n
+flag-same x n = simp (eq-eqb x x refl)
+
+pub distance-self : (w : List ℕ) → distance w w ≡ 0
+unfolding distance
+distance-self [] = refl
+distance-self (x ∷ xs) = flag-same x (distance xs xs) ∙ distance-self xs
+
+pub distance-none : (u v : List ℕ) → length u ≡ length v → distance u v ≡ 0 → u ≡ v
+unfolding distance
+distance-none [] [] h e = refl
+distance-none [] (y ∷ v) h e = absurd (omega arith)
+distance-none (x ∷ u) [] h e = absurd (omega arith)
+distance-none (x ∷ u) (y ∷ v) h e = elim (ℕ-discrete x y) [
+  | yes q ↦ ap₂ (λ (a : ℕ) (l : List ℕ). a ∷ l) q (distance-none u v (omega arith) (simp (eq-eqb x y q) at e))
+  | no d ↦ absurd (let n : suc (distance u v) ≡ 0 = simp (ne-eqb x y d) at e in omega arith)
+]
+
+-- what agrees where u and v do differs in no more places
+pub distance-mono : (u v u′ v′ : List ℕ) → length u ≡ length v → length u ≡ length u′ → length u ≡ length v′
+    → ((i : ℕ) → i < length u → seq u i ≡ seq v i → seq u′ i ≡ seq v′ i) → distance u′ v′ ≤ distance u v
+unfolding distance
+distance-mono [] v [] v′ a b c h = zero-le
+distance-mono [] v (x ∷ u′) v′ a b c h = absurd (omega arith)
+distance-mono (x ∷ u) [] u′ v′ a b c h = absurd (omega arith)
+distance-mono (x ∷ u) (y ∷ v) [] v′ a b c h = absurd (omega arith)
+distance-mono (x ∷ u) (y ∷ v) (x′ ∷ u′) [] a b c h = absurd (omega arith)
+distance-mono (x ∷ u) (y ∷ v) (x′ ∷ u′) (y′ ∷ v′) a b c h =
+    let t = distance-mono u v u′ v′ (omega arith) (omega arith) (omega arith) (λ i l. h (suc i) (omega arith)) in
+    elim (ℕ-discrete x y) [
+      | yes q ↦ simp (eq-eqb x y q, eq-eqb x′ y′ (h 0 (omega arith) q)) (omega (arith, t))
+      | no d ↦ simp (ne-eqb x y d) (elim (ℕ-discrete x′ y′) [
+        | yes q ↦ simp (eq-eqb x′ y′ q) (omega (arith, t))
+        | no d ↦ simp (ne-eqb x′ y′ d) (omega (arith, t))
+      ])
+    ]
+
 -- ---- how many of the first n are zero
 
 pub zeros-more : (f : ℕ → ℕ) (n : ℕ) → f n ≡ 0 → zerosOf (n + 1) f ≡ zerosOf n f + 1
@@ -80,6 +118,16 @@ pub zeros-ext : (n : ℕ) (f g : ℕ → ℕ) → ((d : ℕ) → d < n → f d �
 unfolding zerosOf
 zeros-ext zero f g e = refl
 zeros-ext (suc n) f g e = ap₂ (λ (a b : ℕ). a + cond (eqb b 0) 1 0) (zeros-ext n f g (λ d h. e d (omega arith))) (e n (omega arith))
+
+-- m places more have at most m zeros more
+pub zeros-gap : (f : ℕ → ℕ) (n m : ℕ) → zerosOf (n + m) f ≤ zerosOf n f + m
+unfolding zerosOf
+zeros-gap f n zero = simp add-zero (omega arith)
+zeros-gap f n (suc m) = simp add-suc (one (eqb (f (n + m)) 0) (zeros-gap f n m))
+  where
+    one : (b : Bool) → zerosOf (n + m) f ≤ zerosOf n f + m → zerosOf (n + m) f + cond b 1 0 ≤ suc (zerosOf n f + m)
+    one true h = omega arith
+    one false h = omega arith
 
 -- no fewer than two blocks differ in, if f is zero at the degree of each place in which they do
 pub differ-zeros : (f : ℕ → ℕ) (xs ys : List ℕ) → ((k : ℕ) → k < length xs → seq xs k ≢ seq ys k → f (degree (length xs) k) ≡ 0)

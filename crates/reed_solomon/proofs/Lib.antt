@@ -9,6 +9,7 @@ pub mod Search
 pub mod Distance
 pub mod Codeword
 pub mod Nearest
+pub mod Erased
 pub mod Decode
 pub mod Locates
 pub mod Clean

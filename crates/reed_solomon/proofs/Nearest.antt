@@ -16,14 +16,14 @@ byte-at n w e t i = elim (decLt i n) [
   | no h ↦ omega (arith, List·getD-eq-default w 0 {n = i} (omega arith))
 ]
 
-word-is : (n : ℕ) (w : List ℕ) → T (isWord n w) → (length w ≡ n) × Bytes w
+pub word-is : (n : ℕ) (w : List ℕ) → T (isWord n w) → (length w ≡ n) × Bytes w
 unfolding isWord
 word-is n w t =
     let u = T-and (eqb (length w) n) (below n (λ i. ltb (getD w i 0) 256)) t in
     let e = eqb→eq (length w) n (u .0) in
     (e, byte-at n w e (u .1))
 
-is-word : (n : ℕ) (w : List ℕ) → length w ≡ n → Bytes w → T (isWord n w)
+pub is-word : (n : ℕ) (w : List ℕ) → length w ≡ n → Bytes w → T (isWord n w)
 unfolding isWord
 is-word n w e b =
     both (eqb (length w) n) (below n (λ i. ltb (getD w i 0) 256)) (subst (λ (m : ℕ). T (eqb (length w) m)) e (eqb-refl (length w)))

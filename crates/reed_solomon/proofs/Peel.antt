@@ -103,7 +103,7 @@ module _ (poly : ℕ) (P : Primitive poly) where
 
     module _ (small : n ≤ 255) where
       -- two places have two locators
-      places-apart : (i k : ℕ) → i < n → k < n → i ≢ k → ¬ Null (X i ⊕ X k)
+      pub places-apart : (i k : ℕ) → i < n → k < n → i ≢ k → ¬ Null (X i ⊕ X k)
       unfolding degree
       places-apart i k hi hk d = apart (n - suc i) (n - suc k) (omega arith) (omega arith) (λ e. d (omega arith))
 

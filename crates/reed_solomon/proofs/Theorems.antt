@@ -1,12 +1,14 @@
--- What a customer may quote of blocks (SPECIFICATION 3.6). Each holds for any polynomial that passes the order test (3.2), any first root,
+-- What a customer may quote of blocks (SPECIFICATION 3.6, 3.9). Each holds for any polynomial that passes the order test (3.2), any first root,
 -- and blocks of at most 255 bytes. Assumes nothing.
 use Rattle.general.proofs.Names.{_≡_, _≢_, List, some, ℕ, _+_, _≤_, arith, decLe, T, length}
 use Rattle.field.specs.Field.{orderTest}
 use Rattle.field.proofs.Field.{primitive}
 use Rattle.reed_solomon.specs.Block.{isCodeword, distance, inReach, nearest}
+use Rattle.reed_solomon.specs.Erased.{erasures, admits, admitted}
 use Rattle.reed_solomon.proofs.Search.{Bytes}
 use Rattle.reed_solomon.proofs.Codeword.{near-equal}
 use Rattle.reed_solomon.proofs.Nearest.{reach-near, near-reach, near-one, some-near, near-some}
+use Rattle.reed_solomon.proofs.Erased.{none-admitted, admits-one, found-admits, admits-found}
 
 module _ (poly : ℕ) (test : T (orderTest poly)) (first parity : ℕ) where
   -- Two different codewords of one length and parity differ in at least parity + 1 places.
@@ -29,3 +31,20 @@ module _ (poly : ℕ) (test : T (orderTest poly)) (first parity : ℕ) where
 
   pub in-reach-found : (block w : List ℕ) → length block ≤ 255 → T (inReach poly first parity block w) → nearest poly first parity block ≡ some w
   in-reach-found block w small t = near-some poly first parity block (primitive poly test) small w (reach-near poly first parity block w t)
+
+  -- No block has two codewords that its rule admits, whichever of its places are erased.
+  pub no-block-admits-two : (flags block u v : List ℕ) → length block ≤ 255 → length flags ≡ length block
+      → T (admits poly first parity flags block u) → T (admits poly first parity flags block v) → u ≡ v
+  no-block-admits-two flags block u v small size a b = admits-one poly first parity flags block (primitive poly test) small size u v a b
+
+  -- The search finds the codeword that is admitted: what it finds is one, and if there is one, it finds that one.
+  pub found-is-admitted : (flags block w : List ℕ) → admitted poly first parity flags block ≡ some w → T (admits poly first parity flags block w)
+  found-is-admitted flags block w e = found-admits poly first parity flags block w e
+
+  pub admitted-is-found : (flags block w : List ℕ) → length block ≤ 255 → length flags ≡ length block → T (admits poly first parity flags block w)
+      → admitted poly first parity flags block ≡ some w
+  admitted-is-found flags block w small size t = admits-found poly first parity flags block (primitive poly test) small size w t
+
+  -- With no place erased it is the codeword in reach.
+  pub none-erased-is-in-reach : (flags block : List ℕ) → erasures flags ≡ 0 → admitted poly first parity flags block ≡ nearest poly first parity block
+  none-erased-is-in-reach flags block e = none-admitted poly first parity flags block e

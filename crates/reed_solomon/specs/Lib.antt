@@ -1,5 +1,6 @@
 -- SPECIFICATION 3: blocks. `Inner` is for inner functions: nobody has to believe it.
 pub mod Block
+pub mod Erased
 pub mod Inner
 pub mod Sum
 pub mod Register
