@@ -1,21 +1,22 @@
 -- A locator with the erased places as further roots, and the modified syndromes, one step after the other. Assumes nothing.
 use Rattle.general.proofs.Names.{_≡_, refl, sym, ap, ap₂, _∙_, subst, subst₂, fun-ext, _≢_, List, ℕ, zero, suc, _+_, _-_, _%_, _≤_, _<_, arith, add-one}
-use Rattle.general.proofs.Names.{ℕ-discrete, decLt, length, set, length-set, getD-set-same, getD-set-other, xor-self, xor-zero-r}
+use Rattle.general.proofs.Names.{ℕ-discrete, decLt, length, set, replicate, length-set, length-replicate, getD-set-same, getD-set-other, xor-self, xor-zero-r}
 use Rattle.field.specs.Field.{power, mul}
 use Rattle.field.proofs.Field.{Primitive, mul-lt, mul-comm, sum-lt}
 use Rattle.field.proofs.Entries.{mul-left-zero, mul-right-zero}
 use Rattle.general.proofs.Each.{Above, above-next}
 use Rattle.reed_solomon.specs.Sum.{_⊕_, seq, horner, degree, locator}
 use Rattle.reed_solomon.specs.Register.{discrepancy, Tail}
-use Rattle.reed_solomon.specs.Inner.{zerosOf}
+use Rattle.reed_solomon.specs.Inner.{zerosOf, Shortest}
 use Rattle.reed_solomon.proofs.Sum.{Null}
 use Rattle.reed_solomon.proofs.Peel.{null-div, places-apart}
 use Rattle.reed_solomon.proofs.Horner.{rooted, rooted-law}
 use Rattle.reed_solomon.proofs.Search.{Bytes}
+use Rattle.reed_solomon.proofs.Massey.{zeros, one-first}
 use Rattle.reed_solomon.proofs.Distance.{zeros-more, zeros-same, zeros-gap}
 use Rattle.reed_solomon.specs.Erased.{erasures}
 use Rattle.reed_solomon.proofs.Erased.{erasures-zeros}
-use Rattle.erasures.specs.Inner.{Times, TimesIf, valueAt, Rooted, Modified}
+use Rattle.erasures.specs.Inner.{Times, TimesIf, valueAt, Rooted, Modified, Reduction}
 
 -- ---- one factor
 
@@ -182,3 +183,22 @@ module _ (poly : ℕ) (s g : List ℕ) (f : ℕ) where
 
   pub modified-end : (j m : ℕ) (t : List ℕ) → Modified poly s g f j t → j ≤ m → m ≤ j → Modified poly s g f m t
   modified-end j m t M a b = let e : j ≡ m = omega arith in subst (λ (x : ℕ). Modified poly s g f x t) e M
+
+-- ---- from 1 to the locator of what is left
+
+pub one-size : length {A = ℕ} (set (replicate 256 0) 0 1) ≡ 256
+one-size = length-set {A = ℕ} (replicate 256 0) 0 1 ∙ length-replicate {A = ℕ} 256 0
+
+pub one-unit : seq (set (replicate 256 0) 0 1) 0 ≡ 1
+one-unit = getD-set-same (replicate 256 0) 0 1 0 (omega (arith, length-replicate {A = ℕ} 256 0))
+
+pub one-tail : Tail (seq (set (replicate 256 0) 0 1)) 0
+unfolding Tail
+one-tail i h = one-first (replicate 256 0) (length-replicate {A = ℕ} 256 0) (zeros 256) i h
+
+pub reduction-of : (poly parity : ℕ) (flags s : List ℕ) (f r : ℕ) (one g t p : List ℕ) (l : ℕ) → seq one 0 ≡ 1 → f ≡ erasures flags
+    → Rooted poly (length flags) flags (length flags) 0 one r g → Modified poly s g f (parity - f) t → Shortest poly t (parity - f) p l
+    → Reduction poly parity flags s f p l
+reduction-of poly parity flags s f r one g t p l u e G M F =
+    let q : r ≡ f = omega (arith, G .count, erasures-zeros flags) in
+    record { one = one; unit = u; g = g; rooted = subst (λ (x : ℕ). Rooted poly (length flags) flags (length flags) 0 one x g) q G; t = t; modified = M; shortest = F }

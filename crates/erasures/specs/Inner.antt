@@ -2,12 +2,12 @@
 use mathlib.Core.Path.{_≡_}
 use mathlib.Core.Logic.{_≢_}
 use mathlib.Core.List.{List}
-use Prim.Native.Nat.{ℕ, suc, _+_, _%_, _<_}
+use Prim.Native.Nat.{ℕ, suc, _+_, _-_, _%_, _<_}
 use lib.ListN.{length}
 use Rattle.field.specs.Field.{mul}
 use Rattle.reed_solomon.specs.Sum.{_⊕_, seq, degree}
 use Rattle.reed_solomon.specs.Register.{discrepancy, Tail}
-use Rattle.reed_solomon.specs.Inner.{locatorAt, zerosOf}
+use Rattle.reed_solomon.specs.Inner.{locatorAt, zerosOf, Shortest}
 
 -- f′ is f times x + a
 pub record Times (poly a : ℕ) (f f′ : List ℕ) : Type 0 where
@@ -40,3 +40,13 @@ pub record Modified (poly : ℕ) (s g : List ℕ) (f m : ℕ) (t : List ℕ) : T
   pub size : length t ≡ 256
   pub bytes : (i : ℕ) → seq t i < 256
   pub are : (j : ℕ) → j < m → seq t j ≡ discrepancy poly (seq s) (seq g) f (f + j)
+
+-- p of length l is the shortest register that makes the modified syndromes of s, where f places are erased
+pub record Reduction (poly parity : ℕ) (flags s : List ℕ) (f : ℕ) (p : List ℕ) (l : ℕ) : Type 0 where
+  pub one : List ℕ
+  pub unit : seq one 0 ≡ 1
+  pub g : List ℕ
+  pub rooted : Rooted poly (length flags) flags (length flags) 0 one f g
+  pub t : List ℕ
+  pub modified : Modified poly s g f (parity - f) t
+  pub shortest : Shortest poly t (parity - f) p l

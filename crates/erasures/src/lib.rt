@@ -8,7 +8,7 @@ ghost use Rattle.field.specs.Table.{Field, polyOf};
 ghost use Rattle.reed_solomon.specs.Sum.{seq};
 ghost use Rattle.reed_solomon.specs.Register.{Tail};
 ghost use Rattle.reed_solomon.specs.Erased.{erasures};
-ghost use Rattle.erasures.specs.Inner.{Times, TimesIf, Rooted, Modified};
+ghost use Rattle.erasures.specs.Inner.{Times, TimesIf, Rooted, Modified, Reduction};
 use reed_solomon::locator;
 
 // f of length l times x + α^d. From the top down, what is still to be moved up is not yet overwritten.
@@ -67,4 +67,19 @@ pub fn modified(field: &[u16; 1280], s: &[u8], g: &[u8], f: usize, m: usize, t: 
         t[j] = locator::discrepancy(field, s, g, f, f + j);
         j += 1;
     }
+}
+
+// The locator p of the errors at unerased places, of the block with syndromes s and f erased places; and its length.
+pub fn locate(field: &[u16; 1280], s: &[u8], flags: &[u8], parity: usize, f: usize, p: &mut [u8]) -> usize
+    requires { ⌜ Field (now field) ⌝ }
+    requires { ⌜ (parity ≤ 254) × (length (now flags) ≤ 255) × (f ≤ parity) × (f ≡ erasures (now flags)) ⌝ }
+    requires { ⌜ (length (now s) ≡ 256) × (length (now p) ≡ 256) × ((i : ℕ) → seq (now p) i ≡ 0) ⌝ }
+    ensures { λ l. ⌜ Reduction (polyOf (now (field .entry))) parity (now (flags .entry)) (now (s .entry)) f (now (p .exit)) l ⌝ }
+{
+    let mut g = [0u8; 256];
+    g[0] = 1;
+    add_roots(field, &mut g, 0, flags);
+    let mut t = [0u8; 256];
+    modified(field, s, &g, f, parity - f, &mut t);
+    locator::locator(field, &t, parity - f, p)
 }

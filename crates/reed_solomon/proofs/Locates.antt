@@ -10,7 +10,7 @@ use Rattle.reed_solomon.proofs.Peel.{null-mul, null-div, power-alive}
 use Rattle.reed_solomon.proofs.Horner.{quotient, horner-one, quotient-root, few-zeros, convolution}
 use Rattle.reed_solomon.specs.Inner.{locatorAt, Locates, dividedAt, numerator, denominator, Magnitude}
 
-cancel-mul : (poly : ℕ) → Primitive poly → (a b v : ℕ) → a < 256 → b < 256 → ¬ Null v → mul poly a v ≡ mul poly b v → a ≡ b
+pub cancel-mul : (poly : ℕ) → Primitive poly → (a b v : ℕ) → a < 256 → b < 256 → ¬ Null v → mul poly a v ≡ mul poly b v → a ≡ b
 cancel-mul poly P a b v ha hb d e =
     add-zero-eq a b (omega (
       arith,
