@@ -28,6 +28,10 @@ pub extern "C" fn hx_correct(block: &mut [u8], parity: usize) -> Answer
             number: 5,
             count: 0,
         },
+        Correction::TooManyErased => Answer {
+            number: 15,
+            count: 0,
+        },
         Correction::OutOfReach => Answer {
             number: 6,
             count: 0,

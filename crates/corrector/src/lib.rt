@@ -15,10 +15,12 @@ use reed_solomon::locator;
 use reed_solomon::syndromes;
 use remainder::Register;
 
-// What became of a block: the count of its corrections, or refusal 5 or 6 (SPECIFICATION 2.7).
+// What became of a block: the count of its corrections, or refusal 5, 15 or 6 (SPECIFICATION 2.7). 15 is for blocks with erased places alone
+// (crate `erasure_corrector`).
 pub enum Correction {
     Corrected(usize),
     Unfit,
+    TooManyErased,
     OutOfReach,
 }
 

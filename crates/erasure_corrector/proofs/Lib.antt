@@ -1,0 +1,2 @@
+-- Why the corrector of blocks with erased places is exact.
+pub mod Repairs
