@@ -79,7 +79,7 @@ pub fn correct_over(
 }
 
 // Whether there is no table for the parity, or the length is unfit.
-fn is_untabled(n: usize, parity: usize) -> bool
+pub fn is_untabled(n: usize, parity: usize) -> bool
     ensures { λ b. ⌜ (b ≡ false → tabled parity × (parity < n) × (n ≤ 255)) ⌝ }
 {
     if parity < 2 {

@@ -1,2 +1,3 @@
 -- Why the corrector of blocks with erased places is exact.
 pub mod Repairs
+pub mod One

@@ -38,10 +38,17 @@ repair-requires c κs =
     let tested = c .before .before .before .before .before .before in
     let some = tested .before .before .before .before in
     let start = some .before .before .before .before in (
-      start .pre .0,
+      (start .pre .0, start .pre .1 .0),
       (
-        (start .pre .1 .0, omega arith, omega arith, start .pre .1 .1),
-        ((omega (arith, some .if1 .left), omega arith, some .before .erased .ensures), c .before .before .before .syndromes .ensures),
+        record {
+          parity-le = omega arith;
+          small = omega arith;
+          size = start .pre .1 .1;
+          some = omega (arith, some .if1 .left);
+          fit = omega arith;
+          are = some .before .erased .ensures;
+        },
+        c .before .before .before .syndromes .ensures,
       ),
     )
 

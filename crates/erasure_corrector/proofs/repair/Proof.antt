@@ -12,17 +12,14 @@ unfolding outcome
 returns c =
     let start = c .before .before .before .before .before .before in
     let bytes = c .before .before .before .before .before .slice-known in
-    let fits = start .pre .1 .0 in
-    let few = start .pre .1 .1 .0 in
-    clean-settled _ (the-field _ (start .pre .0)) _ _ _ _ (fits .3) (fits .2) (λ i. omega (arith, bytes .given i)) _ (few .2) (few .0) (few .1)
-    _ (start .pre .1 .1 .1) (sym (c .if1 .taken) ∙ c .before .clean .ensures)
+    clean-settled (the-field _ (start .pre .0 .0)) _ (λ i. omega (arith, bytes .given i)) (start .pre .1 .0) (start .pre .1 .1)
+    (sym (c .if1 .taken) ∙ c .before .clean .ensures)
 
 locate-requires : tie.Need-locate-requires
 locate-requires c κs =
     let start = c .before .before .before .before .before .before .before .before in
-    let fits = start .pre .1 .0 in
-    let few = start .pre .1 .1 .0 in
-    (start .pre .0, ((fits .1, omega arith, few .1, few .2), (start .pre .1 .1 .1 .size, refl, zeros 256)))
+    let B = start .pre .1 .0 in
+    (start .pre .0 .0, ((B .parity-le, omega (arith, B .size, B .small), B .fit, B .are), (start .pre .1 .1 .size, refl, zeros 256)))
 
 returns-2 : tie.Need-returns-2
 unfolding outcome
@@ -31,30 +28,31 @@ returns-2 c =
     let tested = located .before .before .before in
     let start = tested .before .before .before .before .before .before in
     let bytes = tested .before .before .before .before .before .slice-known in
-    let fits = start .pre .1 .0 in
-    let few = start .pre .1 .1 .0 in
-    long-settled _ (the-field _ (start .pre .0)) _ _ _ _ (fits .3) (fits .2) (λ i. omega (arith, bytes .given i)) _ (few .2) (few .0) (few .1)
-    _ (start .pre .1 .1 .1) (sym (tested .if1 .left) ∙ tested .before .clean .ensures) _ _ (located .locate .ensures) (c .if2 .taken)
+    long-settled (the-field _ (start .pre .0 .0)) _ (λ i. omega (arith, bytes .given i)) (start .pre .1 .0) (start .pre .1 .1)
+    (sym (tested .if1 .left) ∙ tested .before .clean .ensures) (located .locate .ensures) (c .if2 .taken)
 
 add-roots-requires : tie.Need-add-roots-requires
 add-roots-requires c κs =
     let located = c .before .before .before in
     let start = located .before .before .before .before .before .before .before .before .before in
-    let short = located .locate .ensures .shortest in
-    (start .pre .0, ((short .size, short .unit, short .tail), (omega arith, omega (arith, c .before .if2 .left, start .pre .1 .1 .0 .2))))
+    let B = start .pre .1 .0 in
+    let short = located .locate .ensures .shortest in (
+      start .pre .0 .0,
+      ((short .size, short .unit, short .tail), (omega (arith, B .size, B .small), omega (arith, c .before .if2 .left, B .are, B .parity-le))),
+    )
 
 apply-requires : tie.Need-apply-requires
 apply-requires c κs =
     let rooted = c .before .before .before .before in
     let start = rooted .before .before .before .before .before .before .before .before .before .before .before .before .before in
-    let r = rooted .add-roots .ensures in
-    let fits = start .pre .1 .0 in (
-      start .pre .0,
+    let B = start .pre .1 .0 in
+    let r = rooted .add-roots .ensures in (
+      start .pre .0 .0,
       (
-        (fits .0, fits .1, fits .2),
+        (start .pre .0 .1, B .parity-le, B .small),
         (
-          (r .size, r .bytes, omega (arith, r .count, erasures-zeros (start .args .flags .now), start .pre .1 .1 .0 .2, rooted .before .before .if2 .left)),
-          start .pre .1 .1 .1,
+          (r .size, r .bytes, omega (arith, r .count, erasures-zeros (start .args .flags .now), B .are, rooted .before .before .if2 .left)),
+          start .pre .1 .1,
         ),
       ),
     )
@@ -68,11 +66,9 @@ returns-3 c =
     let tested = located .before .before .before in
     let start = tested .before .before .before .before .before .before in
     let bytes = tested .before .before .before .before .before .slice-known in
-    let fits = start .pre .1 .0 in
-    let few = start .pre .1 .1 .0 in
-    repaired-settled _ (the-field _ (start .pre .0)) _ _ _ _ (fits .3) (fits .2) (λ i. omega (arith, bytes .given i)) _ (few .2) (few .0) (few .1)
-    _ (start .pre .1 .1 .1) (sym (tested .if1 .left) ∙ tested .before .clean .ensures) _ _ (located .locate .ensures)
-    _ _ (rooted .add-roots .ensures) _ _ _ (applied .apply .ensures) (sym (c .if3 .taken)) (omega (arith, rooted .before .before .if2 .left))
+    repaired-settled (the-field _ (start .pre .0 .0)) _ (λ i. omega (arith, bytes .given i)) (start .pre .1 .0) (start .pre .1 .1)
+    (sym (tested .if1 .left) ∙ tested .before .clean .ensures) (located .locate .ensures) (rooted .add-roots .ensures) (applied .apply .ensures)
+    (sym (c .if3 .taken)) (omega (arith, rooted .before .before .if2 .left))
 
 returns-4 : tie.Need-returns-4
 unfolding outcome
@@ -83,11 +79,9 @@ returns-4 c =
     let tested = located .before .before .before in
     let start = tested .before .before .before .before .before .before in
     let bytes = tested .before .before .before .before .before .slice-known in
-    let fits = start .pre .1 .0 in
-    let few = start .pre .1 .1 .0 in
-    left-settled _ (the-field _ (start .pre .0)) _ _ _ _ (fits .3) (fits .2) (λ i. omega (arith, bytes .given i)) _ (few .2) (few .0) (few .1)
-    _ (start .pre .1 .1 .1) (sym (tested .if1 .left) ∙ tested .before .clean .ensures) _ _ (located .locate .ensures)
-    _ _ (rooted .add-roots .ensures) _ _ _ (applied .apply .ensures) (sym (c .if3 .left))
+    left-settled (the-field _ (start .pre .0 .0)) _ (λ i. omega (arith, bytes .given i)) (start .pre .1 .0) (start .pre .1 .1)
+    (sym (tested .if1 .left) ∙ tested .before .clean .ensures) (located .locate .ensures) (rooted .add-roots .ensures) (applied .apply .ensures)
+    (sym (c .if3 .left))
 
 pub repair-spec : {M : Type 1} → Rattle.erasure_corrector.proofs.repair.Statement.statement M
 repair-spec =
