@@ -1,82 +1,119 @@
 -- Which streams are refused, and what the blocks of the others become. Assumes nothing.
-use Rattle.general.proofs.Names.{_≡_, refl, sym, ap, ap₂, _∙_, _⊎_, inl, inr, Option, none, some, List, [], _∷_, zipWith, ℕ, zero, suc, _+_, _/_, _≤_, _<_}
-use Rattle.general.proofs.Names.{arith, length, T}
+use Rattle.general.proofs.Names.{_≡_, refl, sym, ap, ap₂, _∙_, _⊎_, inl, inr, Bool, true, false, cond, Option, none, some, List, [], _∷_, zipWith, ℕ, zero, suc}
+use Rattle.general.proofs.Names.{_+_, _≤_, _<_, arith, decLt, ltb, lt-ltb, le-ltb, length, T}
 use Rattle.field.proofs.Field.{primitive}
 use Rattle.field.proofs.Instances.{primitive-163}
-use Rattle.reed_solomon.specs.Block.{distance, nearest, isCodeword}
+use Rattle.reed_solomon.specs.Block.{distance, unfit, isCodeword}
+use Rattle.reed_solomon.specs.Erased.{erasures, admitted, Meets}
 use Rattle.reed_solomon.proofs.Search.{Bytes}
-use Rattle.reed_solomon.proofs.Nearest.{near-some}
+use Rattle.reed_solomon.proofs.Erased.{found-admits, admits-few, admits-found, meets-admits}
 use Rattle.reed_solomon.proofs.Fit.{fit}
-use Rattle.corrector.specs.Correct.{BlockOutcome, refusedBlock, settled, correctOf}
-use Rattle.corrector.proofs.Repairs.{fit-settled}
+use Rattle.corrector.specs.Correct.{BlockOutcome, refusedBlock, settled}
+use Rattle.erasure_corrector.specs.Erased.{correctErasedOf}
+use Rattle.erasure_corrector.proofs.Repairs.{many-refused, fit-settled}
 use Rattle.block_table.specs.Blocks.{Shape, size}
 use Rattle.block_table.specs.Inner.{Sound, more}
 use Rattle.block_table.proofs.Cuts.{Shaped}
 use Rattle.blocks.specs.Blockwise.{outcomes, firstRefused, countOf, blocksOf, differences, blockAt, parityAt}
-use Rattle.blocks.proofs.Corrects.{first, settled-number}
+use Rattle.blocks.proofs.Corrects.{first}
 
 -- what the search finds for block j
-abbrev pub found : List Shape → List (List ℕ) → ℕ → Option (List ℕ)
-found bs ws j = nearest 0x163 1 (parityAt bs j) (blockAt ws j)
+abbrev pub found : List Shape → List (List ℕ) → List (List ℕ) → ℕ → Option (List ℕ)
+found bs fs ws j = admitted 0x163 1 (parityAt bs j) (blockAt fs j) (blockAt ws j)
 
--- some block has no codeword in reach
-abbrev pub Lost : List Shape → List (List ℕ) → Type 0
-Lost bs ws = (j : ℕ) × (j < length bs) × (found bs ws j ≡ none)
+-- the refusal of a block for which it finds none
+abbrev pub lostNumber : ℕ → List ℕ → ℕ
+lostNumber parity f = cond (ltb parity (erasures f)) 15 6
+
+-- j is the first such block
+pub record FirstLost (bs : List Shape) (fs ws : List (List ℕ)) (j : ℕ) : Type 0 where
+  pub inside : j < length bs
+  pub lost : found bs fs ws j ≡ none
+  pub before : (i : ℕ) → i < j → (w : List ℕ) × (found bs fs ws i ≡ some w)
 
 -- each block has one, and these are vs
-pub record EachNearest (bs : List Shape) (ws vs : List (List ℕ)) : Type 0 where
+pub record EachFound (bs : List Shape) (fs ws vs : List (List ℕ)) : Type 0 where
   pub number : length vs ≡ length bs
-  pub are : (j : ℕ) → j < length bs → found bs ws j ≡ some (blockAt vs j)
+  pub are : (j : ℕ) → j < length bs → found bs fs ws j ≡ some (blockAt vs j)
 
--- a block that holds the rule is not unfit
-block-settled : (b : Shape) (w : List ℕ) → 0 < b .info → 0 < b .parity → size b ≤ 255 → length w ≡ size b
-    → correctOf 0x163 1 (b .parity) w ≡ settled w (nearest 0x163 1 (b .parity) w)
-block-settled b w i p s l = sym (fit-settled 0x163 1 (b .parity) w (fit (b .parity) w (λ z. omega arith) (omega arith) (omega arith)))
+-- a block that holds the rule of a row
+module _ (b : Shape) (f w : List ℕ) (i : 0 < b .info) (p : 0 < b .parity) (s : size b ≤ 255) (l : length w ≡ size b) where
+  fits : unfit (b .parity) w ≡ false
+  fits = fit (b .parity) w (λ z. omega arith) (omega arith) (omega arith)
 
-six : (w : List ℕ) (o : Option (List ℕ)) → first (settled w o .number) 6 ≡ 6
-six w o = elim (settled-number w o) [ inl z ↦ ap (λ (n : ℕ). first n 6) z | inr z ↦ ap (λ (n : ℕ). first n 6) z ]
+  block-lost : admitted 0x163 1 (b .parity) f w ≡ none → correctErasedOf 0x163 1 (b .parity) f w ≡ refusedBlock (lostNumber (b .parity) f) w
+  unfolding settled
+  block-lost e = elim (decLt (b .parity) (erasures f)) [
+    | yes h ↦ sym (many-refused 0x163 1 (b .parity) f w fits h) ∙ rw (lt-ltb (b .parity) (erasures f) h)
+    | no h ↦ sym (fit-settled 0x163 1 (b .parity) f w fits (omega arith)) ∙ rw (e, le-ltb (b .parity) (erasures f) (omega arith))
+  ]
 
-pub lost-refused : (bs : List Shape) (ws : List (List ℕ)) → Sound bs → Shaped bs ws → Lost bs ws → firstRefused (outcomes bs ws) ≡ 6
-unfolding outcomes firstRefused settled refusedBlock zipWith
-lost-refused [] ws S h (j, l, e) = absurd (omega arith)
-lost-refused (b ∷ bs) [] S h x = absurd h
-lost-refused (b ∷ bs) (w ∷ ws) (more i p s S) h (zero, l, e) = rw (block-settled b w i p s (h .0), e)
-lost-refused (b ∷ bs) (w ∷ ws) (more i p s S) h (suc j, l, e) =
-    rw (block-settled b w i p s (h .0), lost-refused bs ws S (h .1) (j, omega arith, e)) (six w (nearest 0x163 1 (b .parity) w))
+  block-found : (v : List ℕ) → admitted 0x163 1 (b .parity) f w ≡ some v
+      → correctErasedOf 0x163 1 (b .parity) f w ≡ record { number = 0; count = distance w v; block = v }
+  unfolding settled
+  block-found v e =
+      sym (fit-settled 0x163 1 (b .parity) f w fits (admits-few 0x163 1 (b .parity) f w v (found-admits 0x163 1 (b .parity) f w v e))) ∙ rw e
 
-pub each-settled : (bs : List Shape) (ws vs : List (List ℕ)) → Sound bs → Shaped bs ws → EachNearest bs ws vs
-    → (firstRefused (outcomes bs ws) ≡ 0) × (blocksOf (outcomes bs ws) ≡ vs) × (countOf (outcomes bs ws) ≡ differences ws vs)
-unfolding outcomes firstRefused blocksOf countOf differences settled zipWith
-each-settled [] [] [] S h E = (refl, refl, refl)
-each-settled [] [] (v ∷ vs) S h E = absurd (omega arith)
-each-settled [] (w ∷ ws) vs S h E = absurd h
-each-settled (b ∷ bs) [] vs S h E = absurd h
-each-settled (b ∷ bs) (w ∷ ws) [] S h E = absurd (omega arith)
-each-settled (b ∷ bs) (w ∷ ws) (v ∷ vs) (more i p s S) h E =
-    let ih = each-settled bs ws vs S (h .1) (record { number = omega arith; are = λ j l. E .are (suc j) (omega arith) }) in
-    let o : correctOf 0x163 1 (b .parity) w ≡ record { number = 0; count = distance w v; block = v } =
-    block-settled b w i p s (h .0) ∙ ap (settled w) (E .are 0 (omega arith)) in (
+lost-first : (t : Bool) (r : ℕ) → first (cond t 15 6) r ≡ cond t 15 6
+lost-first true r = refl
+lost-first false r = refl
+
+pub lost-refused : (bs : List Shape) (fs ws : List (List ℕ)) → Sound bs → length fs ≡ length bs → Shaped bs ws → (j : ℕ) → FirstLost bs fs ws j
+    → firstRefused (outcomes bs fs ws) ≡ lostNumber (parityAt bs j) (blockAt fs j)
+unfolding outcomes firstRefused refusedBlock zipWith
+lost-refused [] fs ws S n h j F = absurd (omega (arith, F .inside))
+lost-refused (b ∷ bs) [] ws S n h j F = absurd (omega arith)
+lost-refused (b ∷ bs) (f ∷ fs) [] S n h j F = absurd h
+lost-refused (b ∷ bs) (f ∷ fs) (w ∷ ws) (more i p s S) n h zero F = rw (block-lost b f w i p s (h .0) (F .lost)) (lost-first (ltb (b .parity) (erasures f)) _)
+lost-refused (b ∷ bs) (f ∷ fs) (w ∷ ws) (more i p s S) n h (suc j) F =
+    let z = F .before 0 (omega arith) in
+    rw (block-found b f w i p s (h .0) (z .0) (z .1))
+    (lost-refused bs fs ws S (omega arith) (h .1) j (record {
+      inside = omega (arith, F .inside);
+      lost = F .lost;
+      before = λ i l. F .before (suc i) (omega arith);
+    }))
+
+pub each-settled : (bs : List Shape) (fs ws vs : List (List ℕ)) → Sound bs → length fs ≡ length bs → Shaped bs ws → EachFound bs fs ws vs
+    → (firstRefused (outcomes bs fs ws) ≡ 0) × (blocksOf (outcomes bs fs ws) ≡ vs) × (countOf (outcomes bs fs ws) ≡ differences ws vs)
+unfolding outcomes firstRefused blocksOf countOf differences zipWith
+each-settled [] fs [] [] S n h E = (refl, refl, refl)
+each-settled [] fs [] (v ∷ vs) S n h E = absurd (omega (arith, E .number))
+each-settled [] fs (w ∷ ws) vs S n h E = absurd h
+each-settled (b ∷ bs) fs [] vs S n h E = absurd h
+each-settled (b ∷ bs) fs (w ∷ ws) [] S n h E = absurd (omega (arith, E .number))
+each-settled (b ∷ bs) [] (w ∷ ws) (v ∷ vs) S n h E = absurd (omega arith)
+each-settled (b ∷ bs) (f ∷ fs) (w ∷ ws) (v ∷ vs) (more i p s S) n h E =
+    let ih = each-settled bs fs ws vs S (omega arith) (h .1) (record { number = omega (arith, E .number); are = λ j l. E .are (suc j) (omega arith) }) in
+    let o = block-found b f w i p s (h .0) v (E .are 0 (omega arith)) in (
       ap₂ (λ (o : BlockOutcome) (r : ℕ). first (o .number) r) o (ih .0),
       ap₂ (λ (o : BlockOutcome) (us : List (List ℕ)). o .block ∷ us) o (ih .1),
       ap₂ (λ (o : BlockOutcome) (n : ℕ). o .count + n) o (ih .2),
     )
 
 -- one or the other
-pub either : (bs : List Shape) (ws : List (List ℕ)) → Shaped bs ws → Lost bs ws ⊎ ((vs : List (List ℕ)) × EachNearest bs ws vs)
-either [] [] h = inr ([], record { number = refl; are = λ j l. absurd (omega arith) })
-either [] (w ∷ ws) h = absurd h
-either (b ∷ bs) [] h = absurd h
-either (b ∷ bs) (w ∷ ws) h = go (nearest 0x163 1 (b .parity) w) refl (either bs ws (h .1))
+pub either : (bs : List Shape) (fs ws : List (List ℕ)) → length fs ≡ length bs → Shaped bs ws
+    → ((j : ℕ) × FirstLost bs fs ws j) ⊎ ((vs : List (List ℕ)) × EachFound bs fs ws vs)
+either [] fs [] n h = inr ([], record { number = refl; are = λ j l. absurd (omega arith) })
+either [] fs (w ∷ ws) n h = absurd h
+either (b ∷ bs) fs [] n h = absurd h
+either (b ∷ bs) [] (w ∷ ws) n h = absurd (omega arith)
+either (b ∷ bs) (f ∷ fs) (w ∷ ws) n h = go (admitted 0x163 1 (b .parity) f w) refl (either bs fs ws (omega arith) (h .1))
   where
-    each : (v : List ℕ) (vs : List (List ℕ)) → nearest 0x163 1 (b .parity) w ≡ some v → EachNearest bs ws vs
-        → (j : ℕ) → j < suc (length bs) → found (b ∷ bs) (w ∷ ws) j ≡ some (blockAt (v ∷ vs) j)
+    each : (v : List ℕ) (vs : List (List ℕ)) → admitted 0x163 1 (b .parity) f w ≡ some v → EachFound bs fs ws vs
+        → (j : ℕ) → j < suc (length bs) → found (b ∷ bs) (f ∷ fs) (w ∷ ws) j ≡ some (blockAt (v ∷ vs) j)
     each v vs e E zero l = e
     each v vs e E (suc j) l = E .are j (omega arith)
 
-    go : (o : Option (List ℕ)) → nearest 0x163 1 (b .parity) w ≡ o → Lost bs ws ⊎ ((vs : List (List ℕ)) × EachNearest bs ws vs)
-        → Lost (b ∷ bs) (w ∷ ws) ⊎ ((vs : List (List ℕ)) × EachNearest (b ∷ bs) (w ∷ ws) vs)
-    go none e x = inl (0, omega arith, e)
-    go (some v) e (inl (j, l, f)) = inl (suc j, omega arith, f)
+    later : (v : List ℕ) (j : ℕ) → admitted 0x163 1 (b .parity) f w ≡ some v → FirstLost bs fs ws j
+        → (i : ℕ) → i < suc j → (u : List ℕ) × (found (b ∷ bs) (f ∷ fs) (w ∷ ws) i ≡ some u)
+    later v j e F zero l = (v, e)
+    later v j e F (suc i) l = F .before i (omega arith)
+
+    go : (o : Option (List ℕ)) → admitted 0x163 1 (b .parity) f w ≡ o → ((j : ℕ) × FirstLost bs fs ws j) ⊎ ((vs : List (List ℕ)) × EachFound bs fs ws vs)
+        → ((j : ℕ) × FirstLost (b ∷ bs) (f ∷ fs) (w ∷ ws) j) ⊎ ((vs : List (List ℕ)) × EachFound (b ∷ bs) (f ∷ fs) (w ∷ ws) vs)
+    go none e x = inl (0, record { inside = omega arith; lost = e; before = λ i l. absurd (omega arith) })
+    go (some v) e (inl (j, F)) = inl (suc j, record { inside = omega (arith, F .inside); lost = F .lost; before = later v j e F })
     go (some v) e (inr (vs, E)) = inr (v ∷ vs, record { number = ap suc (E .number); are = each v vs e E })
 
 -- blocks that are codewords
@@ -98,31 +135,39 @@ coded-shaped [] (v ∷ vs) C = absurd C
 coded-shaped (b ∷ bs) [] C = absurd C
 coded-shaped (b ∷ bs) (v ∷ vs) C = (C .0 .0, coded-shaped bs vs (C .1))
 
--- blocks within reach of codewords have these
-pub coded-each : (bs : List Shape) (ws vs : List (List ℕ)) → Sound bs → Shaped bs ws → Coded bs vs
-    → ((j : ℕ) → j < length bs → distance (blockAt ws j) (blockAt vs j) ≤ parityAt bs j / 2) → EachNearest bs ws vs
-coded-each bs ws vs S h C near = record { number = coded-number bs vs C; are = go bs ws vs S h C near }
+-- blocks and their flags that meet their conditions for codewords have these
+pub coded-each : (bs : List Shape) (fs ws vs : List (List ℕ)) → Sound bs → Shaped bs fs → Shaped bs ws → Coded bs vs
+    → ((j : ℕ) → j < length bs → Meets (parityAt bs j) (blockAt fs j) (blockAt ws j) (blockAt vs j)) → EachFound bs fs ws vs
+coded-each bs fs ws vs S g h C near = record { number = coded-number bs vs C; are = go bs fs ws vs S g h C near }
   where
-    go : (bs : List Shape) (ws vs : List (List ℕ)) → Sound bs → Shaped bs ws → Coded bs vs
-        → ((j : ℕ) → j < length bs → distance (blockAt ws j) (blockAt vs j) ≤ parityAt bs j / 2) → (j : ℕ) → j < length bs → found bs ws j ≡ some (blockAt vs j)
-    go [] ws vs S h C near j l = absurd (omega arith)
-    go (b ∷ bs) [] vs S h C near j l = absurd h
-    go (b ∷ bs) (w ∷ ws) [] S h C near j l = absurd C
-    go (b ∷ bs) (w ∷ ws) (v ∷ vs) (more i p s S) h C near zero l =
-        near-some 0x163 1 (b .parity) w (primitive 0x163 primitive-163) (omega arith) v
-        (record { size = C .0 .0 ∙ sym (h .0); bytes = C .0 .1; code = C .0 .2; near = omega (arith, near 0 (omega arith)) })
-    go (b ∷ bs) (w ∷ ws) (v ∷ vs) (more i p s S) h C near (suc j) l = go bs ws vs S (h .1) (C .1) (λ k m. near (suc k) (omega arith)) j (omega arith)
+    go : (bs : List Shape) (fs ws vs : List (List ℕ)) → Sound bs → Shaped bs fs → Shaped bs ws → Coded bs vs
+        → ((j : ℕ) → j < length bs → Meets (parityAt bs j) (blockAt fs j) (blockAt ws j) (blockAt vs j)) → (j : ℕ) → j < length bs
+        → found bs fs ws j ≡ some (blockAt vs j)
+    go [] fs ws vs S g h C near j l = absurd (omega arith)
+    go (b ∷ bs) [] ws vs S g h C near j l = absurd g
+    go (b ∷ bs) (f ∷ fs) [] vs S g h C near j l = absurd h
+    go (b ∷ bs) (f ∷ fs) (w ∷ ws) [] S g h C near j l = absurd C
+    go (b ∷ bs) (f ∷ fs) (w ∷ ws) (v ∷ vs) (more i p s S) g h C near zero l =
+        admits-found 0x163 1 (b .parity) f w (primitive 0x163 primitive-163) (omega arith) (g .0 ∙ sym (h .0)) v
+        (meets-admits 0x163 1 (b .parity) f w v (C .0 .0 ∙ sym (h .0)) (C .0 .1) (C .0 .2) (near 0 (omega arith)))
+    go (b ∷ bs) (f ∷ fs) (w ∷ ws) (v ∷ vs) (more i p s S) g h C near (suc j) l =
+        go bs fs ws vs S (g .1) (h .1) (C .1) (λ k m. near (suc k) (omega arith)) j (omega arith)
 
-pub block-small : (bs : List Shape) (ws : List (List ℕ)) → Sound bs → Shaped bs ws → (j : ℕ) → j < length bs → length (blockAt ws j) ≤ 255
-block-small [] ws S h j l = absurd (omega arith)
-block-small (b ∷ bs) [] S h j l = absurd h
-block-small (b ∷ bs) (w ∷ ws) (more i p s S) h zero l = omega arith
-block-small (b ∷ bs) (w ∷ ws) (more i p s S) h (suc j) l = block-small bs ws S (h .1) j (omega arith)
+-- block j has the length of its shape
+pub shaped-at : (bs : List Shape) (ws vs : List (List ℕ)) → Sound bs → Shaped bs ws → Shaped bs vs → (j : ℕ) → j < length bs
+    → (length (blockAt ws j) ≤ 255) × (length (blockAt vs j) ≡ length (blockAt ws j))
+shaped-at [] ws vs S h g j l = absurd (omega arith)
+shaped-at (b ∷ bs) [] vs S h g j l = absurd h
+shaped-at (b ∷ bs) (w ∷ ws) [] S h g j l = absurd g
+shaped-at (b ∷ bs) (w ∷ ws) (v ∷ vs) (more i p s S) h g zero l = (omega (arith, h .0), g .0 ∙ sym (h .0))
+shaped-at (b ∷ bs) (w ∷ ws) (v ∷ vs) (more i p s S) h g (suc j) l = shaped-at bs ws vs S (h .1) (g .1) j (omega arith)
 
--- what Correct a block gives for block j
-pub at-settled : (bs : List Shape) (ws : List (List ℕ)) → Sound bs → Shaped bs ws → (j : ℕ) → j < length bs
-    → correctOf 0x163 1 (parityAt bs j) (blockAt ws j) ≡ settled (blockAt ws j) (found bs ws j)
-at-settled [] ws S h j l = absurd (omega arith)
-at-settled (b ∷ bs) [] S h j l = absurd h
-at-settled (b ∷ bs) (w ∷ ws) (more i p s S) h zero l = block-settled b w i p s (h .0)
-at-settled (b ∷ bs) (w ∷ ws) (more i p s S) h (suc j) l = at-settled bs ws S (h .1) j (omega arith)
+-- what becomes of block j where the search finds a codeword for it
+pub at-found : (bs : List Shape) (fs ws : List (List ℕ)) → Sound bs → length fs ≡ length bs → Shaped bs ws → (j : ℕ) → j < length bs → (v : List ℕ)
+    → found bs fs ws j ≡ some v
+    → correctErasedOf 0x163 1 (parityAt bs j) (blockAt fs j) (blockAt ws j) ≡ record { number = 0; count = distance (blockAt ws j) v; block = v }
+at-found [] fs ws S n h j l v e = absurd (omega arith)
+at-found (b ∷ bs) [] ws S n h j l v e = absurd (omega arith)
+at-found (b ∷ bs) (f ∷ fs) [] S n h j l v e = absurd h
+at-found (b ∷ bs) (f ∷ fs) (w ∷ ws) (more i p s S) n h zero l v e = block-found b f w i p s (h .0) v e
+at-found (b ∷ bs) (f ∷ fs) (w ∷ ws) (more i p s S) n h (suc j) l v e = at-found bs fs ws S (omega arith) (h .1) j (omega arith) v e

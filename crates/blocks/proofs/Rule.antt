@@ -104,8 +104,8 @@ cut-front (b ∷ bs) t u h =
     ap₂ (λ (w : List ℕ) (ws : List (List ℕ)). w ∷ ws) (take-append-le (size b) t u (omega arith))
     (ap (cut bs) (drop-append-le (size b) t u (omega arith)) ∙ cut-front bs (drop (size b) t) u (omega (arith, length-drop (size b) t)))
 
-pub corrected-front : (bs : List Shape) (s : List ℕ) → totalSize bs ≤ length s → corrected bs (take (totalSize bs) s) ≡ corrected bs s
-corrected-front bs s h =
-    ap (outcomes bs)
+pub corrected-front : (bs : List Shape) (fl s : List ℕ) → totalSize bs ≤ length s → corrected bs fl (take (totalSize bs) s) ≡ corrected bs fl s
+corrected-front bs fl s h =
+    ap (outcomes bs (cut bs fl))
     (sym (cut-front bs (take (totalSize bs) s) (drop (totalSize bs) s) (omega (arith, length-take-le (totalSize bs) s h)))
     ∙ ap (cut bs) (take-append-drop (totalSize bs) s))

@@ -7,14 +7,15 @@ use Prim.Native.Nat.{ℕ, _+_}
 use lib.Dec.{eqb}
 use lib.ListN.{take, drop, getD}
 use Rattle.reed_solomon.specs.Block.{distance, parityOf}
-use Rattle.corrector.specs.Correct.{BlockOutcome, correctOf}
+use Rattle.corrector.specs.Correct.{BlockOutcome}
+use Rattle.erasure_corrector.specs.Erased.{correctErasedOf}
 use Rattle.block_table.specs.Blocks.{Shape, size, cut, joined, cutData}
 use Rattle.blocks.specs.declared.Blocks.{Blocks}
 use Rattle.blocks.specs.declared.Blocks.the-variants.{Corrected, Refused}
 
--- what Correct a block gives for each block, in order
-unfoldable pub outcomes : List Shape → List (List ℕ) → List BlockOutcome
-outcomes bs ws = zipWith (λ b w. correctOf 0x163 1 (b .parity) w) bs ws
+-- what becomes of each block with its flags (3.10), in order
+unfoldable pub outcomes : List Shape → List (List ℕ) → List (List ℕ) → List BlockOutcome
+outcomes bs fs ws = zipWith (λ correct w. correct w) (zipWith (λ b f. correctErasedOf 0x163 1 (b .parity) f) bs fs) ws
 
 -- the refusal of the first block that is refused, or 0
 unfoldable pub firstRefused : List BlockOutcome → ℕ
@@ -28,16 +29,16 @@ countOf os = foldr (λ o n. o .count + n) 0 os
 unfoldable pub blocksOf : List BlockOutcome → List (List ℕ)
 blocksOf os = map (λ o. o .block) os
 
--- the blocks of a stream, corrected
-abbrev pub corrected : List Shape → List ℕ → List BlockOutcome
-corrected bs stream = outcomes bs (cut bs stream)
+-- the blocks of a stream, corrected; the flags of its codewords are cut as it is
+abbrev pub corrected : List Shape → List ℕ → List ℕ → List BlockOutcome
+corrected bs flags stream = outcomes bs (cut bs flags) (cut bs stream)
 
--- the stream as it is left: each block as Correct a block leaves it, up to the first that is refused; what is behind that is as it was
-unfoldable pub leftOf : List Shape → List ℕ → List ℕ
-leftOf [] s = s
-leftOf (b ∷ bs) s =
-    correctOf 0x163 1 (b .parity) (take (size b) s) .block
-    ++ cond (eqb (correctOf 0x163 1 (b .parity) (take (size b) s) .number) 0) (leftOf bs (drop (size b) s)) (drop (size b) s)
+-- the stream as it is left: each block as it was corrected, up to the first that is refused; what is behind that is as it was
+unfoldable pub leftOf : List Shape → List ℕ → List ℕ → List ℕ
+leftOf [] flags s = s
+leftOf (b ∷ bs) flags s =
+    let o = correctErasedOf 0x163 1 (b .parity) (take (size b) flags) (take (size b) s) in
+    o .block ++ cond (eqb (o .number) 0) (leftOf bs (drop (size b) flags) (drop (size b) s)) (drop (size b) s)
 
 -- each data part followed by its parity; there always is one (7.3)
 unfoldable pub withParities : List Shape → List (List ℕ) → List (List ℕ)
@@ -50,11 +51,11 @@ streamOf bs ds = joined (withParities bs (cutData bs ds))
 -- the refusal number (SPECIFICATION 2.7) and the count for each case of the answer
 unfoldable pub numberOf : Blocks → ℕ
 numberOf (Corrected n) = 0
-numberOf Refused = 6
+numberOf (Refused n) = n
 
 unfoldable pub correctionsOf : Blocks → ℕ
 correctionsOf (Corrected n) = n
-correctionsOf Refused = 0
+correctionsOf (Refused n) = 0
 
 -- in how many places two lists of blocks differ
 unfoldable pub differences : List (List ℕ) → List (List ℕ) → ℕ

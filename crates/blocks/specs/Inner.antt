@@ -2,10 +2,11 @@
 -- `data_length`, `gather_data` and `write_blocks` do not cite it.
 use mathlib.Core.Path.{_≡_}
 use mathlib.Core.List.{List, [], _∷_, _++_, foldr}
-use Prim.Native.Nat.{ℕ, zero, suc, _+_, _*_, _≤_}
+use Prim.Native.Nat.{ℕ, zero, suc, _+_, _*_, _≤_, _<_}
 use lib.ListN.{length, take, drop, getD}
 use Rattle.reed_solomon.specs.Block.{parityOf}
-use Rattle.corrector.specs.Correct.{BlockOutcome, correctOf}
+use Rattle.corrector.specs.Correct.{BlockOutcome}
+use Rattle.erasure_corrector.specs.Erased.{correctErasedOf}
 use Rattle.corrector.specs.declared.Correction.{Correction}
 use Rattle.corrector.specs.declared.Correction.the-variants as Correction
 use Rattle.block_table.specs.Blocks.{Shape, size, batch, shapes, dataParts}
@@ -16,8 +17,8 @@ use Rattle.blocks.specs.declared.Blocks.the-variants.{Corrected, Refused
 use Rattle.parity.specs.Inner.{withParity}
 
 -- the data parts of the corrected blocks of a stream, joined in block order
-abbrev pub correctedData : List Shape → List ℕ → List ℕ
-correctedData bs stream = dataParts bs (blocksOf (corrected bs stream))
+abbrev pub correctedData : List Shape → List ℕ → List ℕ → List ℕ
+correctedData bs flags stream = dataParts bs (blocksOf (corrected bs flags stream))
 
 -- batch k of a row, and as it is read
 abbrev pub batchOf : List ℕ → ℕ → Batch
@@ -54,14 +55,14 @@ pub record StreamOutcome : Type 0 where
 -- the answer for a block as that for blocks
 unfoldable pub answerOf : Correction → Blocks
 answerOf (Correction.Corrected n) = Corrected n
-answerOf Correction.Unfit = Refused
-answerOf Correction.TooManyErased = Refused
-answerOf Correction.OutOfReach = Refused
+answerOf Correction.Unfit = Refused 5
+answerOf Correction.TooManyErased = Refused 15
+answerOf Correction.OutOfReach = Refused 6
 
 -- n corrections more
 abbrev pub more : ℕ → Blocks → Blocks
 more n (Corrected m) = Corrected (n + m)
-more n Refused = Refused
+more n (Refused k) = Refused k
 
 abbrev pub addCorrections : ℕ → StreamOutcome → StreamOutcome
 addCorrections n q = record { answer = more n (q .answer); stream = q .stream }
@@ -69,22 +70,27 @@ addCorrections n q = record { answer = more n (q .answer); stream = q .stream }
 -- behind a block with a refusal number, or 0, that leaves the stream s: what the other blocks come to, or nothing more
 abbrev pub onward : ℕ → ℕ → List ℕ → StreamOutcome → StreamOutcome
 onward zero n s q = addCorrections n q
-onward (suc k) n s q = record { answer = Refused; stream = s }
+onward (suc k) n s q = record { answer = Refused (suc k); stream = s }
 
--- what the corrector gives for the block at the place a
-abbrev pub outcomeAt : Shape → ℕ → List ℕ → BlockOutcome
-outcomeAt b a s = correctOf 0x163 1 (b .parity) (take (size b) (drop a s))
+-- what the corrector gives for the block at the place a, with the flags fl beside the stream
+abbrev pub outcomeAt : List ℕ → Shape → ℕ → List ℕ → BlockOutcome
+outcomeAt fl b a s = correctErasedOf 0x163 1 (b .parity) (take (size b) (drop a fl)) (take (size b) (drop a s))
 
-abbrev pub leftAt : Shape → ℕ → List ℕ → List ℕ
-leftAt b a s = spliced a (size b) (outcomeAt b a s .block) s
+abbrev pub leftAt : List ℕ → Shape → ℕ → List ℕ → List ℕ
+leftAt fl b a s = spliced a (size b) (outcomeAt fl b a s .block) s
 
 -- the blocks from a on
-unfoldable pub outcomeFrom : List Shape → ℕ → List ℕ → StreamOutcome
-outcomeFrom [] a s = record { answer = Corrected 0; stream = s }
-outcomeFrom (b ∷ bs) a s = onward (outcomeAt b a s .number) (outcomeAt b a s .count) (leftAt b a s) (outcomeFrom bs (a + size b) (leftAt b a s))
+unfoldable pub outcomeFrom : List ℕ → List Shape → ℕ → List ℕ → StreamOutcome
+outcomeFrom fl [] a s = record { answer = Corrected 0; stream = s }
+outcomeFrom fl (b ∷ bs) a s =
+    onward (outcomeAt fl b a s .number) (outcomeAt fl b a s .count) (leftAt fl b a s) (outcomeFrom fl bs (a + size b) (leftAt fl b a s))
 
-pub record Corrects (bs : List Shape) (a : ℕ) (s s′ : List ℕ) (r : Blocks) : Type 0 where
-  pub is : record { answer = r; stream = s′ } ≡ outcomeFrom bs a s
+pub record Corrects (fl : List ℕ) (bs : List Shape) (a : ℕ) (s s′ : List ℕ) (r : Blocks) : Type 0 where
+  pub is : record { answer = r; stream = s′ } ≡ outcomeFrom fl bs a s
+
+-- there are no flags, or enough of them
+pub record Flagged (fl : List ℕ) (n : ℕ) : Type 0 where
+  pub enough : 0 < length fl → n ≤ length fl
 
 -- Something of each block of t put in its place in s, one after the other.
 

@@ -9,13 +9,13 @@ ghost use lib.ListN.{length, take, drop};
 ghost use Rattle.remainder.specs.Words.{Prepared};
 ghost use Rattle.block_table.specs.Blocks.{batch, shapes, totalSize, totalData, rowHolds, cut, joined, dataParts};
 ghost use Rattle.blocks.specs.Blockwise.{corrected, firstRefused, countOf, blocksOf, leftOf, numberOf, correctionsOf};
-ghost use Rattle.blocks.specs.Inner.{Reads, blocksIn, spliced, answerOf, Corrects, gathering, transferred, TransferRoom};
+ghost use Rattle.blocks.specs.Inner.{Reads, blocksIn, spliced, answerOf, Corrects, Flagged, gathering, transferred, TransferRoom};
 use corrector::Correction;
 
-// What became of the blocks: the count of all corrections, or refusal 6 (SPECIFICATION 2.7).
+// What became of the blocks: the count of all corrections, or the refusal number of the first that is refused (SPECIFICATION 2.7).
 pub enum Blocks {
     Corrected(usize),
-    Refused,
+    Refused(usize),
 }
 
 // A batch of a row: so many blocks, each with so many data codewords, then so many of parity.
@@ -54,25 +54,32 @@ fn answer(c: Correction) -> Blocks
 {
     match c {
         Correction::Corrected(n) => Blocks::Corrected(n),
-        Correction::Unfit => Blocks::Refused,
-        Correction::TooManyErased => Blocks::Refused,
-        Correction::OutOfReach => Blocks::Refused,
+        Correction::Unfit => Blocks::Refused(5),
+        Correction::TooManyErased => Blocks::Refused(15),
+        Correction::OutOfReach => Blocks::Refused(6),
     }
 }
 
-// One block, lent to the corrector as a part of the stream from its place on.
-fn correct_block(rows: &[u64], stream: &mut [u8], from: usize, b: Batch) -> Blocks
-    requires { ⌜ Prepared (b .parity) (now rows) × (from + (b .info + b .parity) ≤ length (now stream)) ⌝ }
-    ensures { λ r. ⌜ Corrects (batch 1 (b .info) (b .parity)) from (now (stream .entry)) (now (stream .exit)) r ⌝ }
+// One block, lent to the corrector as a part of the stream from its place on, with as many flags. There are no flags where nothing is erased
+// in the whole stream.
+fn correct_block(rows: &[u64], stream: &mut [u8], flags: &[u8], from: usize, b: Batch) -> Blocks
+    requires { ⌜ Prepared (b .parity) (now rows) × (from + (b .info + b .parity) ≤ length (now stream))
+        × Flagged (now flags) (from + (b .info + b .parity)) ⌝ }
+    ensures { λ r. ⌜ Corrects (now (flags .entry)) (batch 1 (b .info) (b .parity)) from (now (stream .entry)) (now (stream .exit)) r ⌝ }
 {
     let to = from + (b.info + b.parity);
-    answer(corrector::correct_with(rows, &mut stream[from..to], b.parity))
+    if flags.len() == 0 {
+        return answer(corrector::correct_with(rows, &mut stream[from..to], b.parity));
+    }
+    answer(
+        erasure_corrector::correct_with(rows, &mut stream[from..to], &flags[from..to], b.parity),
+    )
 }
 
 // The blocks of a batch, whose first begins at `from`. The corrector's table is made once for all of them.
-fn correct_many(stream: &mut [u8], from: usize, b: Batch) -> Blocks
-    requires { ⌜ from + totalSize (blocksIn b) ≤ length (now stream) ⌝ }
-    ensures { λ r. ⌜ Corrects (blocksIn b) from (now (stream .entry)) (now (stream .exit)) r ⌝ }
+fn correct_many(stream: &mut [u8], flags: &[u8], from: usize, b: Batch) -> Blocks
+    requires { ⌜ (from + totalSize (blocksIn b) ≤ length (now stream)) × Flagged (now flags) (from + totalSize (blocksIn b)) ⌝ }
+    ensures { λ r. ⌜ Corrects (now (flags .entry)) (blocksIn b) from (now (stream .entry)) (now (stream .exit)) r ⌝ }
 {
     if b.count == 0 {
         return Blocks::Corrected(0);
@@ -83,9 +90,9 @@ fn correct_many(stream: &mut [u8], from: usize, b: Batch) -> Blocks
     let mut at = from;
     let mut left = b.count;
     while 0 < left {
-        let r = correct_block(&rows, stream, at, b);
+        let r = correct_block(&rows, stream, flags, at, b);
         let Blocks::Corrected(m) = r else {
-            return Blocks::Refused;
+            return r;
         };
         n += m;
         at += b.info + b.parity;
@@ -95,46 +102,52 @@ fn correct_many(stream: &mut [u8], from: usize, b: Batch) -> Blocks
 }
 
 // The only block of a batch, which is short.
-fn correct_one(stream: &mut [u8], from: usize, b: Batch) -> Blocks
-    requires { ⌜ from + (b .info + b .parity) ≤ length (now stream) ⌝ }
-    ensures { λ r. ⌜ Corrects (batch 1 (b .info) (b .parity)) from (now (stream .entry)) (now (stream .exit)) r ⌝ }
+fn correct_one(stream: &mut [u8], flags: &[u8], from: usize, b: Batch) -> Blocks
+    requires { ⌜ (from + (b .info + b .parity) ≤ length (now stream)) × Flagged (now flags) (from + (b .info + b .parity)) ⌝ }
+    ensures { λ r. ⌜ Corrects (now (flags .entry)) (batch 1 (b .info) (b .parity)) from (now (stream .entry)) (now (stream .exit)) r ⌝ }
 {
     let to = from + (b.info + b.parity);
-    answer(corrector::correct_short(&mut stream[from..to], b.parity))
+    if flags.len() == 0 {
+        return answer(corrector::correct_short(&mut stream[from..to], b.parity));
+    }
+    answer(erasure_corrector::correct_plain(&mut stream[from..to], &flags[from..to], b.parity))
 }
 
 // The blocks of a batch, whose first begins at `from`.
-fn correct_batch(stream: &mut [u8], from: usize, b: Batch) -> Blocks
-    requires { ⌜ (b .info ≤ 255) × (b .parity ≤ 255) × (from + totalSize (blocksIn b) ≤ length (now stream)) ⌝ }
-    ensures { λ r. ⌜ Corrects (blocksIn b) from (now (stream .entry)) (now (stream .exit)) r ⌝ }
+fn correct_batch(stream: &mut [u8], flags: &[u8], from: usize, b: Batch) -> Blocks
+    requires { ⌜ (b .info ≤ 255) × (b .parity ≤ 255) × (from + totalSize (blocksIn b) ≤ length (now stream))
+        × Flagged (now flags) (from + totalSize (blocksIn b)) ⌝ }
+    ensures { λ r. ⌜ Corrects (now (flags .entry)) (blocksIn b) from (now (stream .entry)) (now (stream .exit)) r ⌝ }
 {
     if is_one_short(b) {
-        return correct_one(stream, from, b);
+        return correct_one(stream, flags, from, b);
     }
-    correct_many(stream, from, b)
+    correct_many(stream, flags, from, b)
 }
 
-// All blocks of the stream, first to last, each set to its codeword in reach; the first that has none ends it.
-pub fn correct_blocks(stream: &mut [u8], row: &[u8]) -> Blocks
+// All blocks of the stream, first to last, each set to the codeword that its rule admits; the first that has none ends it. A flag stands
+// beside each codeword, or there are none at all, which says that nothing is erased.
+pub fn correct_blocks(stream: &mut [u8], flags: &[u8], row: &[u8]) -> Blocks
     requires { ⌜ (length (now row) ≡ 9) × T (rowHolds (shapes (now row)) (totalSize (shapes (now row))))
-        × (totalSize (shapes (now row)) ≤ length (now stream)) ⌝ }
+        × (totalSize (shapes (now row)) ≤ length (now stream)) × Flagged (now flags) (totalSize (shapes (now row))) ⌝ }
     ensures { λ r.
         let bs = shapes (now (row .entry)) in
         let n = totalSize bs in
+        let fl = now (flags .entry) in
         let s = now (stream .entry) in
-        ⌜ (numberOf r ≡ firstRefused (corrected bs (take n s)))
-        × (numberOf r ≡ 0 → (correctionsOf r ≡ countOf (corrected bs (take n s)))
-        × (now (stream .exit) ≡ joined (blocksOf (corrected bs (take n s))) ++ drop n s))
-        × (now (stream .exit) ≡ leftOf bs s) ⌝ }
+        ⌜ (numberOf r ≡ firstRefused (corrected bs fl (take n s)))
+        × (numberOf r ≡ 0 → (correctionsOf r ≡ countOf (corrected bs fl (take n s)))
+        × (now (stream .exit) ≡ joined (blocksOf (corrected bs fl (take n s))) ++ drop n s))
+        × (now (stream .exit) ≡ leftOf bs fl s) ⌝ }
 {
     let mut total: usize = 0;
     let mut at: usize = 0;
     let mut k: usize = 0;
     while k < 3 {
         let b = batch_of(row, k);
-        let r = correct_batch(stream, at, b);
+        let r = correct_batch(stream, flags, at, b);
         let Blocks::Corrected(n) = r else {
-            return Blocks::Refused;
+            return r;
         };
         total += n;
         at += b.count * (b.info + b.parity);

@@ -126,6 +126,12 @@ unfolding zerosOf
 zeros-ext zero f g e = refl
 zeros-ext (suc n) f g e = ap₂ (λ (a b : ℕ). a + cond (eqb b 0) 1 0) (zeros-ext n f g (λ d h. e d (omega arith))) (e n (omega arith))
 
+-- all are zero
+pub zeros-all : (n : ℕ) (f : ℕ → ℕ) → ((i : ℕ) → f i ≡ 0) → zerosOf n f ≡ n
+unfolding zerosOf
+zeros-all zero f z = refl
+zeros-all (suc n) f z = simp (eq-eqb (f n) 0 (z n), zeros-all n f z) (omega arith)
+
 -- m places more have at most m zeros more
 pub zeros-gap : (f : ℕ → ℕ) (n m : ℕ) → zerosOf (n + m) f ≤ zerosOf n f + m
 unfolding zerosOf

@@ -5,12 +5,12 @@ use Rattle.general.proofs.Names.{ext-getD, getD}
 use Rattle.field.proofs.Field.{Primitive, T-and}
 use Rattle.reed_solomon.specs.Sum.{seq, degree}
 use Rattle.reed_solomon.specs.Block.{isWord, isCodeword, distance, allWords, firstThat, inReach, nearest}
-use Rattle.reed_solomon.specs.Erased.{erasures, unerased, unerasedDistance, inReachErased, admits, admitted}
+use Rattle.reed_solomon.specs.Erased.{erasures, unerased, unerasedDistance, inReachErased, admits, admitted, Meets}
 use Rattle.reed_solomon.specs.Inner.{zerosOf}
 use Rattle.reed_solomon.proofs.Search.{Bytes, Passing, found-passing, passing-none, passing-some}
 use Rattle.reed_solomon.proofs.Distance.{triangle, distance-self, distance-none}
 use Rattle.reed_solomon.proofs.Codeword.{both, near-equal}
-use Rattle.reed_solomon.proofs.Nearest.{word-is, is-word, reach-near, near-one}
+use Rattle.reed_solomon.proofs.Nearest.{word-is, is-word, reach-near, near-reach, near-one}
 
 -- ---- what is counted
 
@@ -210,7 +210,7 @@ module _ (poly first parity : ℕ) (flags block : List ℕ) where
     | no d ↦ erased-one P short size u v (admits-near d u a) (admits-near d v b)
   ]
 
-  admits-word : (w : List ℕ) → T (rule w) → (length w ≡ length block) × Bytes w
+  pub admits-word : (w : List ℕ) → T (rule w) → (length w ≡ length block) × Bytes w
   admits-word w a = elim (ℕ-discrete (erasures flags) 0) [
     | yes e ↦ (let N = reach-near poly first parity block w (subst T (none-erased e w) a) in (N .size, N .bytes))
     | no d ↦ (let N = admits-near d w a in (N .size, N .bytes))
@@ -226,3 +226,22 @@ module _ (poly first parity : ℕ) (flags block : List ℕ) where
   admits-found P short size w t =
       let q = admits-word w t in
       passing-some rule (length block) w (record { test = t; size = q .0; bytes = q .1 }) (λ v p. admits-one P short size v w (p .test) t)
+
+  -- no more places are erased than there is parity
+  pub admits-few : (w : List ℕ) → T (rule w) → erasures flags ≤ parity
+  admits-few w a = elim (ℕ-discrete (erasures flags) 0) [ yes e ↦ omega arith | no d ↦ admits-near d w a .few ]
+
+  -- a codeword for which the block meets its condition
+  pub meets-admits : (w : List ℕ) → length w ≡ length block → Bytes w → T (isCodeword poly first parity w) → Meets parity flags block w → T (rule w)
+  meets-admits w size bytes code M = elim (ℕ-discrete (erasures flags) 0) [
+    | yes e ↦ subst T (sym (none-erased e w)) (near-reach poly first parity block w (record { size = size; bytes = bytes; code = code; near = omega (arith, M .none e) }))
+    | no d ↦
+        let h : 0 < erasures flags = omega arith in
+        near-admits d w (record {
+          size = size;
+          bytes = bytes;
+          code = code;
+          few = M .few h;
+          near = elim (M .some h) [ inl z ↦ inl (distance-none block w (sym size) z) | inr z ↦ inr z ];
+        })
+  ]

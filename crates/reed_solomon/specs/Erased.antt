@@ -1,9 +1,11 @@
 -- SPECIFICATION 3.9: a block with erased places, and the codeword that its rule admits. A flag stands beside each byte of the block; a place
 -- is erased where its flag is not 0.
+use mathlib.Core.Path.{_≡_}
+use mathlib.Core.Logic.{_⊎_}
 use mathlib.Core.Bool.{Bool, cond, _&&_, _||_}
 use mathlib.Core.Option.{Option}
 use mathlib.Core.List.{List, foldr, zipWith}
-use Prim.Native.Nat.{ℕ, suc, _+_, _*_}
+use Prim.Native.Nat.{ℕ, suc, _+_, _*_, _/_, _≤_, _<_}
 use lib.Dec.{leb, eqb}
 use lib.ListN.{length}
 use Rattle.reed_solomon.specs.Block.{isCodeword, distance, allWords, firstThat, isWord, inReach}
@@ -37,3 +39,10 @@ admits poly first parity flags block w =
 -- the codeword that its rule admits, if there is one: a search over all words of its length, to be believed and not to be run
 unfoldable pub admitted : ℕ → ℕ → ℕ → List ℕ → List ℕ → Option (List ℕ)
 admitted poly first parity flags block = firstThat (admits poly first parity flags block) (allWords (length block))
+
+-- what its rule asks of a block beside a codeword w: with no place erased they differ in at most floor(parity / 2) places; with some erased,
+-- no more than the parity, they differ in none, or in e unerased places with 2 e + erased places + 2 ≤ parity
+pub record Meets (parity : ℕ) (flags block w : List ℕ) : Type 0 where
+  pub none : erasures flags ≡ 0 → distance block w ≤ parity / 2
+  pub few : 0 < erasures flags → erasures flags ≤ parity
+  pub some : 0 < erasures flags → (distance block w ≡ 0) ⊎ (2 * unerasedDistance flags block w + erasures flags + 2 ≤ parity)

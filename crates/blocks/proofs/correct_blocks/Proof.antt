@@ -9,28 +9,28 @@ use Rattle.blocks.proofs.Answers.{row-answered}
 use Rattle.blocks.proofs.correct_blocks.Tie as tie
 
 abbrev Inv-loop : tie.InvT-loop
-Inv-loop stream₀ row total₀ at₀ k₀ stream total at k = BlocksLeft (shapes row) 0 stream₀ (behind k row) at total stream
+Inv-loop stream₀ flags row total₀ at₀ k₀ stream total at k = BlocksLeft flags (shapes row) 0 stream₀ (behind k row) at total stream
 
 abbrev μ-loop : tie.MeasureT-loop
-μ-loop stream₀ row total₀ at₀ k₀ stream total at k = 3 - k
+μ-loop stream₀ flags row total₀ at₀ k₀ stream total at k = 3 - k
 
 loop-holds : tie.Need-loop-holds Inv-loop μ-loop
 unfolding behind
-loop-holds c = blocks-left-start _ _ _ (omega arith)
+loop-holds c = let start = c .before .before .before in blocks-left-start _ _ _ _ (omega arith) (record { enough = λ h. omega (arith, start .pre .3 .enough h) })
 
 correct-batch-requires : tie.Need-correct-batch-requires Inv-loop μ-loop
 correct-batch-requires c κs =
     let batch-of = c .before .batch-of in
     let loop = c .before .before .before .loop in
     let room = blocks-left-room (loop .inv) (blocksIn (batch-of .result)) _ (behind-next _ _ (c .before .before .loop-test .taken) _ (batch-of .ensures .is)) in
-    (batch-of .ensures .info, batch-of .ensures .parity, omega arith)
+    (batch-of .ensures .info, batch-of .ensures .parity, omega (arith, room .0), room .1)
 
 -- the batch of a turn is corrected
 next : (c : tie.After-known-told Inv-loop μ-loop) →
-    let start = c .before .before .before .before .before .before .before .before .before .before .before .before in
+    let start = c .before .before .before .before .before .before .before .before .before .before .before .before .before in
     let b = c .before .before .before .before .before .before .before .batch-of .result in
     let loop = c .before .before .before .before .before .before .before .before .before .loop in
-    BlocksLeft (shapes (start .args .row .now)) 0 (start .args .stream .now) (behind (loop .k + 1) (start .args .row .now))
+    BlocksLeft (start .args .flags .now) (shapes (start .args .row .now)) 0 (start .args .stream .now) (behind (loop .k + 1) (start .args .row .now))
     (loop .at + b .count * (b .info + b .parity)) (loop .total + c .before .r .given .0 .0) (c .before .before .before .before .before .correct-batch .last .0)
 next c =
     let batch-of = c .before .before .before .before .before .before .before .batch-of in
@@ -42,17 +42,17 @@ next c =
 
 returns : tie.Need-returns Inv-loop μ-loop
 returns c =
-    let start = c .before .before .before .before .before .before .before .before .before .before .before in
+    let start = c .before .before .before .before .before .before .before .before .before .before .before .before in
     let turn = c .before .before .before .before .before .before .before in
-    row-answered _ _ _ _ (start .pre .1) (start .pre .2)
+    row-answered _ _ _ _ _ (start .pre .2)
     (blocks-left-stop (turn .before .loop .inv) _ _
-    (behind-next _ _ (turn .loop-test .taken) _ (c .before .before .before .before .before .before .batch-of .ensures .is))
+    (behind-next _ _ (turn .loop-test .taken) _ (c .before .before .before .before .before .before .batch-of .ensures .is)) _
     (c .before .before .before .before .correct-batch .ensures) (c .enum-told .given .1))
 
 returns-2 : tie.Need-returns-2 Inv-loop μ-loop
 returns-2 c =
-    let start = c .before .before .before .before in
-    row-answered _ _ _ _ (start .pre .1) (start .pre .2) (blocks-left-end (c .before .loop .inv) (behind-all _ _ (c .loop-test .left)))
+    let start = c .before .before .before .before .before in
+    row-answered _ _ _ _ _ (start .pre .2) (blocks-left-end (c .before .loop .inv) (behind-all _ _ (c .loop-test .left)))
 
 pub correct-blocks-spec : {M : Type 1} → Rattle.blocks.proofs.correct_blocks.Statement.statement M
 correct-blocks-spec =

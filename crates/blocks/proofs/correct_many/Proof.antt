@@ -9,30 +9,36 @@ use Rattle.blocks.proofs.Corrects.{BlocksLeft, blocks-left-start, block
 use Rattle.blocks.proofs.correct_many.Tie as tie
 
 abbrev Inv-loop : tie.InvT-loop
-Inv-loop stream₀ from b rows n₀ at₀ left₀ stream n at left = BlocksLeft (blocksIn b) from stream₀ (batch left (b .info) (b .parity)) at n stream
+Inv-loop stream₀ flags from b rows n₀ at₀ left₀ stream n at left = BlocksLeft flags (blocksIn b) from stream₀ (batch left (b .info) (b .parity)) at n stream
 
 abbrev μ-loop : tie.MeasureT-loop
-μ-loop stream₀ from b rows n₀ at₀ left₀ stream n at left = left
+μ-loop stream₀ flags from b rows n₀ at₀ left₀ stream n at left = left
 
 returns : tie.Need-returns Inv-loop μ-loop
-returns c = blocks-left-end (blocks-left-start _ _ _ (c .before .before .before .pre)) (batch-none _ _ _ (omega arith))
+returns c =
+    let start = c .before .before .before .before in
+    blocks-left-end (blocks-left-start _ _ _ _ (start .pre .0) (start .pre .1)) (batch-none _ _ _ (omega arith))
 
 correct-block-requires : tie.Need-correct-block-requires Inv-loop μ-loop
 correct-block-requires c κs =
-    let b = c .before .before .before .before .before .before .before .before .before .before .args .b in
+    let b = c .before .before .before .before .before .before .before .before .before .before .before .args .b in
     let loop = c .before .before .before .loop in
     let room = blocks-left-room (loop .inv) (batch 1 (b .info) (b .parity)) _ (batch-next _ _ _ (c .before .before .loop-test .taken)) in
-    (c .before .before .before .before .before .prepare .ensures, omega (arith, total-batch 1 (b .info) (b .parity)))
+    let t = total-batch 1 (b .info) (b .parity) in (
+      c .before .before .before .before .before .prepare .ensures,
+      omega (arith, t, room .0),
+      record { enough = λ h. omega (arith, room .1 .enough h, t) },
+    )
 
 -- the block of a turn is corrected
 next : (c : tie.After-known-told Inv-loop μ-loop) →
-    let start = c .before .before .before .before .before .before .before .before .before .before .before .before .before .before .before .before in
+    let start = c .before .before .before .before .before .before .before .before .before .before .before .before .before .before .before .before .before in
     let b = start .args .b in
     let loop = c .before .before .before .before .before .before .before .before .before .loop in
-    BlocksLeft (blocksIn b) (start .args .from) (start .args .stream .now) (batch (loop .left - 1) (b .info) (b .parity)) (loop .at + (b .info + b .parity))
+    BlocksLeft (start .args .flags .now) (blocksIn b) (start .args .from) (start .args .stream .now) (batch (loop .left - 1) (b .info) (b .parity)) (loop .at + (b .info + b .parity))
     (loop .n + c .before .r .given .0 .0) (c .before .before .before .before .before .correct-block .last .1 .0)
 next c =
-    let b = c .before .before .before .before .before .before .before .before .before .before .before .before .before .before .before .before .args .b in
+    let b = c .before .before .before .before .before .before .before .before .before .before .before .before .before .before .before .before .before .args .b in
     let turn = c .before .before .before .before .before .before .before .before in
     let correct-block = c .before .before .before .before .before .correct-block in
     blocks-left-next (turn .before .loop .inv) (batch 1 (b .info) (b .parity)) _ (batch-next _ _ _ (turn .loop-test .taken)) _ _
@@ -41,13 +47,13 @@ next c =
 returns-2 : tie.Need-returns-2 Inv-loop μ-loop
 returns-2 c =
     let turn = c .before .before .before .before .before .before .before in
-    blocks-left-stop (turn .before .loop .inv) _ _ (batch-next _ _ _ (turn .loop-test .taken))
+    blocks-left-stop (turn .before .loop .inv) _ _ (batch-next _ _ _ (turn .loop-test .taken)) _
     (c .before .before .before .before .correct-block .ensures) (c .enum-told .given .1)
 
 pub correct-many-spec : {M : Type 1} → Rattle.blocks.proofs.correct_many.Statement.statement M
 correct-many-spec =
     tie.close (tie.spec Inv-loop μ-loop returns (λ c. search needs) (λ c κs. (refl, zeros 512))
-    (λ c. blocks-left-start _ _ _ (c .before .before .before .before .before .before .pre))
+    (λ c. let start = c .before .before .before .before .before .before .before in blocks-left-start _ _ _ _ (start .pre .0) (start .pre .1))
     (λ c. sym (c .before .before .before .before .prepare .ensures .size)) correct-block-requires (λ c. search needs) (λ c. search needs)
     (λ c. search needs) returns-2 (λ c. omega (arith, next c .few, next c .room)) (λ c. omega (arith, next (c .before) .room))
     (λ c. omega (arith, next (c .before) .room)) (λ c. search needs) (λ c. search needs) (λ c. next (c .before)) (λ c. c .before .loop .inv .size)
