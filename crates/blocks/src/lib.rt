@@ -71,9 +71,7 @@ fn correct_block(rows: &[u64], stream: &mut [u8], flags: &[u8], from: usize, b: 
     if flags.len() == 0 {
         return answer(corrector::correct_with(rows, &mut stream[from..to], b.parity));
     }
-    answer(
-        erasure_corrector::correct_with(rows, &mut stream[from..to], &flags[from..to], b.parity),
-    )
+    answer(erasure_corrector::correct_with(rows, &mut stream[from..to], &flags[from..to], b.parity))
 }
 
 // The blocks of a batch, whose first begins at `from`. The corrector's table is made once for all of them.
