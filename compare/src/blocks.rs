@@ -344,7 +344,7 @@ pub fn compare() {
 }
 
 /// Lengths and parities that are timed.
-const SHAPES: [(usize, usize); 6] = [(25, 4), (50, 30), (150, 28), (187, 30), (255, 32), (255, 128)];
+pub const SHAPES: [(usize, usize); 6] = [(25, 4), (50, 30), (150, 28), (187, 30), (255, 32), (255, 128)];
 
 /// Calls on a copy of the next of some blocks.
 fn each<'a, T>(blocks: &'a [Vec<u8>], mut call: impl FnMut(&mut [u8]) -> T + 'a) -> impl FnMut() + 'a {
@@ -361,6 +361,7 @@ pub fn bench(sheet: &mut Sheet) {
     sheet.part("blocks", "Rust");
     let field = gf256(0x163);
     corrections(sheet, "block", |_, parity| Some(Box::new(move |b| field.correct(b, parity, 1).is_some())));
+    erased::bench(sheet);
     sheet.part("blocks", "libfec");
     if Fec::new(25, 4).is_none() {
         println!("libfec (Debian's libfec-dev) is not installed, so its times are left out");

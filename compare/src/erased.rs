@@ -1,10 +1,12 @@
 //! Correct a block of which some places are erased: ours against `Field::correct_with_erasures` of the original, and where no place is
 //! erased against its `correct`: answer, count and every byte. erased/search.rs has the rule itself, by search over all codewords.
 mod search;
+mod speed;
 use crate::blocks::{Answer, damaged, encode, limits, theirs, unfit};
 use crate::han_xin;
 use crate::reed_solomon::{Field, gf256};
 use crate::tools::{Random, differs, fail, hex};
+pub use speed::bench;
 use std::collections::BTreeSet;
 
 unsafe extern "C" {
