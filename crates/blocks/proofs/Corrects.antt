@@ -203,4 +203,5 @@ one-corrects d p a e s xs c r h f g =
     go : (c : Correction) → record { answer = answerOf c; stream = spliced a (d + p) xs s } ≡ after (outcome c xs)
     go (Correction.Corrected n) = ap (λ (k : ℕ). record { answer = Corrected k; stream = spliced a (d + p) xs s }) (sym (add-zero n))
     go Correction.Unfit = refl
+    go Correction.TooManyErased = refl
     go Correction.OutOfReach = refl

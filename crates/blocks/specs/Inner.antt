@@ -55,6 +55,7 @@ pub record StreamOutcome : Type 0 where
 unfoldable pub answerOf : Correction → Blocks
 answerOf (Correction.Corrected n) = Corrected n
 answerOf Correction.Unfit = Refused
+answerOf Correction.TooManyErased = Refused
 answerOf Correction.OutOfReach = Refused
 
 -- n corrections more

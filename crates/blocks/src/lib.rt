@@ -55,6 +55,7 @@ fn answer(c: Correction) -> Blocks
     match c {
         Correction::Corrected(n) => Blocks::Corrected(n),
         Correction::Unfit => Blocks::Refused,
+        Correction::TooManyErased => Blocks::Refused,
         Correction::OutOfReach => Blocks::Refused,
     }
 }

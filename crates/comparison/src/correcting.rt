@@ -4,7 +4,7 @@ ghost use Prim.Native.Nat.{_%_};
 ghost use Rattle.field.specs.Field.{power, mul};
 ghost use Rattle.corrector.specs.Correct.{correctOf};
 ghost use Rattle.parity.specs.Encode.{encodeOf};
-ghost use Rattle.comparison.specs.Correcting.{outcomeOf, encodingOf, IsQuotient};
+ghost use Rattle.comparison.specs.Correcting.{outcomeOf, Answers, flaggedOf, encodingOf, IsQuotient};
 use corrector::Correction;
 use parity::Encoded;
 
@@ -15,11 +15,10 @@ pub struct Answer {
     pub count: usize,
 }
 
-#[no_mangle]
-pub extern "C" fn hx_correct(block: &mut [u8], parity: usize) -> Answer
-    ensures { λ r. ⌜ outcomeOf (r .number) (r .count) (now (block .exit)) ≡ correctOf 0x163 1 parity (now (block .entry)) ⌝ }
+fn numbers(c: Correction) -> Answer
+    ensures { λ r. ⌜ Answers c (r .number) (r .count) ⌝ }
 {
-    match corrector::correct(block, parity) {
+    match c {
         Correction::Corrected(n) => Answer {
             number: 0,
             count: n,
@@ -28,11 +27,36 @@ pub extern "C" fn hx_correct(block: &mut [u8], parity: usize) -> Answer
             number: 5,
             count: 0,
         },
+        Correction::TooManyErased => Answer {
+            number: 15,
+            count: 0,
+        },
         Correction::OutOfReach => Answer {
             number: 6,
             count: 0,
         },
     }
+}
+
+#[no_mangle]
+pub extern "C" fn hx_correct(block: &mut [u8], parity: usize) -> Answer
+    ensures { λ r. ⌜ outcomeOf (r .number) (r .count) (now (block .exit)) ≡ correctOf 0x163 1 parity (now (block .entry)) ⌝ }
+{
+    numbers(corrector::correct(block, parity))
+}
+
+// 2 where there is not a flag for each byte of the block.
+#[no_mangle]
+pub extern "C" fn hx_correct_erased(block: &mut [u8], flags: &[u8], parity: usize) -> Answer
+    ensures { λ r. ⌜ outcomeOf (r .number) (r .count) (now (block .exit)) ≡ flaggedOf parity (now (flags .entry)) (now (block .entry)) ⌝ }
+{
+    if flags.len() != block.len() {
+        return Answer {
+            number: 2,
+            count: 0,
+        };
+    }
+    numbers(erasure_corrector::correct(block, flags, parity))
 }
 
 #[no_mangle]

@@ -5,7 +5,7 @@ use mathlib.Core.List.{List}
 use Prim.Native.Nat.{ℕ}
 use Rattle.reed_solomon.specs.Block.{distance, nearest, unfit}
 use Rattle.corrector.specs.declared.Correction.{Correction}
-use Rattle.corrector.specs.declared.Correction.the-variants.{Corrected, Unfit, OutOfReach}
+use Rattle.corrector.specs.declared.Correction.the-variants.{Corrected, Unfit, TooManyErased, OutOfReach}
 
 -- what a call gives: the refusal number or 0, the count beside it, and the block as it is left
 pub record BlockOutcome : Type 0 where
@@ -30,4 +30,5 @@ correctOf poly first parity block = cond (unfit parity block) (refusedBlock 5 bl
 unfoldable pub outcome : Correction → List ℕ → BlockOutcome
 outcome (Corrected n) block = record { number = 0; count = n; block = block }
 outcome Unfit block = refusedBlock 5 block
+outcome TooManyErased block = refusedBlock 15 block
 outcome OutOfReach block = refusedBlock 6 block

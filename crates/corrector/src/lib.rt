@@ -15,10 +15,12 @@ use reed_solomon::locator;
 use reed_solomon::syndromes;
 use remainder::Register;
 
-// What became of a block: the count of its corrections, or refusal 5 or 6 (SPECIFICATION 2.7).
+// What became of a block: the count of its corrections, or refusal 5, 15 or 6 (SPECIFICATION 2.7). 15 is for blocks with erased places alone
+// (crate `erasure_corrector`).
 pub enum Correction {
     Corrected(usize),
     Unfit,
+    TooManyErased,
     OutOfReach,
 }
 
@@ -77,7 +79,7 @@ pub fn correct_over(
 }
 
 // Whether there is no table for the parity, or the length is unfit.
-fn is_untabled(n: usize, parity: usize) -> bool
+pub fn is_untabled(n: usize, parity: usize) -> bool
     ensures { λ b. ⌜ (b ≡ false → tabled parity × (parity < n) × (n ≤ 255)) ⌝ }
 {
     if parity < 2 {

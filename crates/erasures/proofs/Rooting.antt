@@ -148,8 +148,7 @@ rooted-room {poly} {flags} {k} R h o =
     let n = length flags in
     let all = erasures-zeros flags in
     let a : k + (n - k) ≡ n = omega arith in
-    let b : k + 1 + (n - (k + 1)) ≡ n = omega arith in
-    (
+    let b : k + 1 + (n - (k + 1)) ≡ n = omega arith in (
       omega (arith, R .count, all, zeros-gap (seq flags) k (n - k), ap (λ (m : ℕ). zerosOf m (seq flags)) a),
       λ d. omega (
         arith,

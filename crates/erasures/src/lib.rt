@@ -70,7 +70,14 @@ pub fn modified(field: &[u16; 1280], s: &[u8], g: &[u8], f: usize, m: usize, t: 
 }
 
 // The locator p of the errors at unerased places, of the block with syndromes s and f erased places; and its length.
-pub fn locate(field: &[u16; 1280], s: &[u8], flags: &[u8], parity: usize, f: usize, p: &mut [u8]) -> usize
+pub fn locate(
+    field: &[u16; 1280],
+    s: &[u8],
+    flags: &[u8],
+    parity: usize,
+    f: usize,
+    p: &mut [u8],
+) -> usize
     requires { ⌜ Field (now field) ⌝ }
     requires { ⌜ (parity ≤ 254) × (length (now flags) ≤ 255) × (f ≤ parity) × (f ≡ erasures (now flags)) ⌝ }
     requires { ⌜ (length (now s) ≡ 256) × (length (now p) ≡ 256) × ((i : ℕ) → seq (now p) i ≡ 0) ⌝ }

@@ -1,6 +1,6 @@
 -- The number of places in which two blocks differ, and which places these are. Assumes nothing.
 use Rattle.general.proofs.Names.{_≡_, refl, sym, ap, ap₂, _∙_, subst, _≢_, Bool, true, false, cond, List, [], _∷_, ℕ, zero, suc, _+_, _-_, _≤_, _<_, zero-le}
-use Rattle.general.proofs.Names.{arith, add-one, add-zero, add-suc, ℕ-discrete, eq-eqb, ne-eqb, T, eqb, eqb→eq, eqb-refl, length, getD, bitXor, xor-self, xor-zero-r}
+use Rattle.general.proofs.Names.{arith, add-one, add-zero, add-suc, ℕ-discrete, eq-eqb, ne-eqb, T, eqb, eqb→eq, eqb-refl, length, getD, set, bitXor, xor-self, xor-zero-r}
 use Rattle.reed_solomon.specs.Sum.{_⊕_, seq, degree}
 use Rattle.reed_solomon.proofs.Sum.{add-cancel}
 use Rattle.reed_solomon.proofs.Peel.{Out}
@@ -84,6 +84,13 @@ distance-none (x ∷ u) (y ∷ v) h e = elim (ℕ-discrete x y) [
   | yes q ↦ ap₂ (λ (a : ℕ) (l : List ℕ). a ∷ l) q (distance-none u v (omega arith) (simp (eq-eqb x y q) at e))
   | no d ↦ absurd (let n : suc (distance u v) ≡ 0 = simp (ne-eqb x y d) at e in omega arith)
 ]
+
+-- one byte of a block changed
+pub distance-set : (w : List ℕ) (k x : ℕ) → k < length w → distance w (set w k x) ≡ cond (eqb (seq w k) x) 0 1
+unfolding distance
+distance-set [] k x h = absurd (omega arith)
+distance-set (y ∷ w) zero x h = ap (λ (n : ℕ). cond (eqb y x) n (suc n)) (distance-self w)
+distance-set (y ∷ w) (suc k) x h = flag-same y (distance w (set w k x)) ∙ distance-set w k x (omega arith)
 
 -- what agrees where u and v do differs in no more places
 pub distance-mono : (u v u′ v′ : List ℕ) → length u ≡ length v → length u ≡ length u′ → length u ≡ length v′

@@ -28,6 +28,10 @@ fn one(block: &mut [u8], parity: usize) {
             number(5);
             number(0);
         }
+        Correction::TooManyErased => {
+            number(15);
+            number(0);
+        }
         Correction::OutOfReach => {
             number(6);
             number(0);
