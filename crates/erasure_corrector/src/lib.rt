@@ -181,7 +181,6 @@ fn try_one(
 
 // A block of which f places are erased and division leaves `left`: one of which nothing is left is a codeword.
 fn correct_left(
-    field: &[u16; 1280],
     rows: &[u64],
     block: &mut [u8],
     flags: &[u8],
@@ -189,31 +188,26 @@ fn correct_left(
     f: usize,
     left: Register,
 ) -> Correction
-    requires { ⌜ Field (now field) × (polyOf (now field) ≡ 0x163) × Prepared parity (now rows) × tabled parity ⌝ }
+    requires { ⌜ Prepared parity (now rows) × tabled parity ⌝ }
     requires { ⌜ HasErased parity (now flags) (now block) f × Remains 0x163 1 parity (now block) left ⌝ }
     ensures { λ r. ⌜ outcome r (now (block .exit)) ≡ settled (now (block .entry)) (admitted 0x163 1 parity (now (flags .entry)) (now (block .entry))) ⌝ }
 {
     if remainder::is_none(left) {
         return Correction::Corrected(0);
     }
-    let fix = try_one(field, rows, block, flags, parity, f, left);
+    let field = field::han_xin();
+    let fix = try_one(&field, rows, block, flags, parity, f, left);
     if fix.done {
         return Correction::Corrected(fix.count);
     }
     let mut s = [0u8; 256];
-    remainder::syndromes(field, 1, left, parity, &mut s);
-    repair(field, 1, block, flags, parity, f, &mut s)
+    remainder::syndromes(&field, 1, left, parity, &mut s);
+    repair(&field, 1, block, flags, parity, f, &mut s)
 }
 
-// A block of the field of Han Xin, whose table is lent, by a table that is prepared once for all blocks of one parity.
-pub fn correct_with(
-    field: &[u16; 1280],
-    rows: &[u64],
-    block: &mut [u8],
-    flags: &[u8],
-    parity: usize,
-) -> Correction
-    requires { ⌜ Field (now field) × (polyOf (now field) ≡ 0x163) × Prepared parity (now rows) × (length (now flags) ≡ length (now block)) ⌝ }
+// A block of the field of Han Xin, by a table that is prepared once for all blocks of one parity.
+pub fn correct_with(rows: &[u64], block: &mut [u8], flags: &[u8], parity: usize) -> Correction
+    requires { ⌜ Prepared parity (now rows) × (length (now flags) ≡ length (now block)) ⌝ }
     ensures { λ r. ⌜ outcome r (now (block .exit)) ≡ correctErasedOf 0x163 1 parity (now (flags .entry)) (now (block .entry)) ⌝ }
 {
     let f = erased(flags);
@@ -227,7 +221,7 @@ pub fn correct_with(
         return Correction::TooManyErased;
     }
     let left = remainder::remainder(rows, block, block.len());
-    correct_left(field, rows, block, flags, parity, f, left)
+    correct_left(rows, block, flags, parity, f, left)
 }
 
 // SPECIFICATION 3.10, Correct a block with erased places: GF(256) under 163 hex, first root α^1. A table for one short block costs more than
@@ -239,8 +233,7 @@ pub fn correct(block: &mut [u8], flags: &[u8], parity: usize) -> Correction
     if block.len() < 64 {
         return correct_plain(block, flags, parity);
     }
-    let field = field::han_xin();
     let mut rows = [0u64; 512];
     remainder::prepare(&mut rows, parity);
-    correct_with(&field, &rows, block, flags, parity)
+    correct_with(&rows, block, flags, parity)
 }

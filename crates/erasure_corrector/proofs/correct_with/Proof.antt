@@ -23,17 +23,17 @@ correct-left-requires c κs =
     let some = tabled .before .before in
     let start = some .before .before .before .before .before in
     let fits = tabled .before .is-untabled .ensures (tabled .if2 .left) in (
-      (start .pre .0, start .pre .1, start .pre .2, fits .0),
+      (start .pre .0, fits .0),
       (
         record {
           parity-le = omega (arith, fits .0 .1);
           small = fits .2;
-          size = start .pre .3;
+          size = start .pre .1;
           some = omega (arith, some .if1 .left);
           fit = omega arith;
           are = some .before .erased .ensures;
         },
-        whole-left (c .before .remainder .ensures _ (start .pre .2)) (fits .0) (omega arith),
+        whole-left (c .before .remainder .ensures _ (start .pre .0)) (fits .0) (omega arith),
       ),
     )
 
