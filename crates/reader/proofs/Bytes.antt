@@ -36,10 +36,10 @@ greatest-end sq n r G h = record {
   some = G .some;
 }
 
-pub all-modules : (sq : List ℕ) (r : ℕ) → GreatestByte sq r → r ≤ 1 → areModules sq ≡ true
+pub all-modules : (sq : List ℕ) (r : ℕ) → GreatestByte sq r → r ≤ 2 → areModules sq ≡ true
 all-modules sq r G h = below-modules sq (λ i. omega (arith, G .all i))
 
-pub not-modules : (sq : List ℕ) (r : ℕ) → GreatestByte sq r → 1 < r → areModules sq ≡ false
+pub not-modules : (sq : List ℕ) (r : ℕ) → GreatestByte sq r → 2 < r → areModules sq ≡ false
 not-modules sq r G h = go (areModules sq) refl
   where
     go : (b : Bool) → areModules sq ≡ b → b ≡ false
