@@ -388,12 +388,13 @@ static void test_erasing_wrong_ones(void)
     }
 }
 
-/* As much harm as a block of this parity can take, or less. */
+/* As much harm as a block of this parity can take, or less; in a third of the blocks no codeword is erased. */
 static Harm harm_in_reach(size_t parity, uint64_t *seed)
 {
-    size_t erased = next_below(seed, parity - 1); /* 0 to parity - 2 */
+    size_t erased = next_below(seed, 3) == 0 ? 0 : 1 + next_below(seed, parity - 2);
     size_t most = erased == 0 ? parity / 2 : (parity - 2 - erased) / 2;
-    return harm_with(next_below(seed, most + 1), erased, next_below(seed, erased + 1));
+    size_t wrong = next_below(seed, 2) == 0 ? most : next_below(seed, most + 1);
+    return harm_with(wrong, erased, next_below(seed, erased + 1));
 }
 
 /* One codeword too many for the rule, wrong or erased, or two: 2 x wrong + erased is parity - 1 or parity. */
