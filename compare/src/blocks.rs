@@ -1,4 +1,5 @@
 //! The field and Correct a block: our `correct` against `Field::correct` of the original, answer, count and every byte.
+use crate::erased;
 use crate::reed_solomon::{Field, access, gf256};
 use crate::others::Fec;
 use crate::sheet::{Sheet, time};
@@ -31,16 +32,20 @@ pub fn our_parity(block: &mut [u8], parity: usize) -> usize {
     unsafe { hx_parity(block.as_mut_ptr(), block.len(), parity) }
 }
 
+/// Whether a block of this length cannot have this parity.
+pub fn unfit(length: usize, parity: usize) -> bool {
+    parity == 0 || parity >= length || length > 255
+}
+
 /// The original's answer with refusal numbers: its None is 5 or 6 by SPECIFICATION 10.5, and a refused block counts as untouched.
-fn theirs(field: &Field<u8>, block: &mut [u8], parity: usize) -> Answer {
+pub fn theirs(field: &Field<u8>, block: &mut [u8], parity: usize) -> Answer {
     let before = block.to_vec();
     match field.correct(block, parity, 1) {
         Some(count) => Answer { number: 0, count },
         None => {
             block.copy_from_slice(&before);
-            let unfit = parity == 0 || parity >= block.len() || block.len() > 255;
             Answer {
-                number: if unfit { 5 } else { 6 },
+                number: if unfit(block.len(), parity) { 5 } else { 6 },
                 count: 0,
             }
         }
@@ -94,7 +99,7 @@ impl Both<'_> {
 }
 
 /// The parity bytes behind the data, by the original's products: what remains of the data divided by the generator.
-fn encode(field: &Field<u8>, block: &mut [u8], parity: usize) {
+pub fn encode(field: &Field<u8>, block: &mut [u8], parity: usize) {
     let mut generator = vec![1u8];
     for j in 1..=parity {
         let root = access::power(field, j);
@@ -118,7 +123,7 @@ fn encode(field: &Field<u8>, block: &mut [u8], parity: usize) {
 }
 
 /// A codeword with `errors` of its bytes changed.
-fn damaged(
+pub fn damaged(
     field: &Field<u8>,
     random: &mut Random,
     length: usize,
@@ -146,7 +151,7 @@ fn parities(field: &Field<u8>, random: &mut Random) {
             random.fill(&mut block);
             let (mut a, mut b) = (block.clone(), block.clone());
             let our = our_parity(&mut a, parity);
-            let unfit = parity == 0 || parity >= length || length > 255;
+            let unfit = unfit(length, parity);
             if !unfit {
                 encode(field, &mut b, parity);
             }
@@ -213,7 +218,7 @@ fn products(field: &Field<u8>) {
 }
 
 /// The parities at which something changes for a length.
-fn limits(length: usize) -> Vec<usize> {
+pub fn limits(length: usize) -> Vec<usize> {
     let mut out = vec![
         0,
         1,
@@ -335,10 +340,11 @@ pub fn compare() {
         both.block(&damaged(wrong, &mut random, length, parity, 0), parity);
     }
     both.report("codewords of another field");
+    erased::compare();
 }
 
 /// Lengths and parities that are timed.
-const SHAPES: [(usize, usize); 6] = [(25, 4), (50, 30), (150, 28), (187, 30), (255, 32), (255, 128)];
+pub const SHAPES: [(usize, usize); 6] = [(25, 4), (50, 30), (150, 28), (187, 30), (255, 32), (255, 128)];
 
 /// Calls on a copy of the next of some blocks.
 fn each<'a, T>(blocks: &'a [Vec<u8>], mut call: impl FnMut(&mut [u8]) -> T + 'a) -> impl FnMut() + 'a {
@@ -355,6 +361,7 @@ pub fn bench(sheet: &mut Sheet) {
     sheet.part("blocks", "Rust");
     let field = gf256(0x163);
     corrections(sheet, "block", |_, parity| Some(Box::new(move |b| field.correct(b, parity, 1).is_some())));
+    erased::bench(sheet);
     sheet.part("blocks", "libfec");
     if Fec::new(25, 4).is_none() {
         println!("libfec (Debian's libfec-dev) is not installed, so its times are left out");

@@ -8,6 +8,7 @@
 include!(concat!(env!("OUT_DIR"), "/original.rs"));
 
 mod blocks;
+mod erased;
 mod others;
 mod requests;
 mod segments;

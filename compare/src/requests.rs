@@ -3,9 +3,12 @@
 //! In a file compare/requests/Q-*.txt, a line that begins with `#` says what the lines behind it are for. Every other line is one case,
 //! `operation name=value .. -> name=value ..`: what is given before the arrow, what must be answered behind it. Numbers are decimal. Bytes
 //! are hexadecimal; `HEX*COUNT` repeats, `+` joins pieces, `-` is none. A square has its modules as digits that are repeated and joined in
-//! the same way, or as bytes under its name with `hex` behind it. A name with `_room` behind it, and `receipt` before the arrow, is the
+//! the same way, or as bytes under its name with `hex` behind it. `erased` is a list of places in a block, which are counted from 0, and
+//! `block` behind the arrow is the whole block after the call. A name with `_room` behind it, and `receipt` before the arrow, is the
 //! length of a lent buffer. Every lent byte is EE before the call; after it, a buffer begins with what stands behind the arrow, and all
 //! other bytes are still EE.
+use crate::blocks::Answer;
+use crate::erased;
 use crate::squares::{Found, Reading, read, write, write_smallest};
 use crate::tools::{fail, unhex};
 use std::collections::BTreeMap;
@@ -14,8 +17,13 @@ const FOLDER: &str = "compare/requests";
 const LENT: u8 = 0xEE;
 
 /// The operations: each makes the call of a case, holds every answer to what stands behind the arrow, and gives back the number.
-const OPERATIONS: [(&str, fn(&mut Case) -> usize); 4] =
-    [("write", write_square), ("smallest", smallest), ("read", read_square), ("read_known", read_known)];
+const OPERATIONS: [(&str, fn(&mut Case) -> usize); 5] = [
+    ("write", write_square),
+    ("smallest", smallest),
+    ("read", read_square),
+    ("read_known", read_known),
+    ("correct_erased", correct_erased),
+];
 
 /// The values on one side of the arrow that are not yet taken.
 struct Values<'a> {
@@ -88,6 +96,15 @@ fn modules(text: &str) -> Option<Vec<u8>> {
     text.bytes().map(|b| matches!(b, b'0'..=b'2').then(|| b - b'0')).collect()
 }
 
+/// Places of a block that are erased, as flags.
+fn flags(text: &str, length: usize) -> Option<Vec<u8>> {
+    let mut flags = vec![0; length];
+    for place in text.split(',').filter(|_| text != "-") {
+        *flags.get_mut(place.parse::<usize>().ok()?)? = 1;
+    }
+    Some(flags)
+}
+
 /// A case: where it stands, and its values.
 struct Case<'a> {
     place: &'a str,
@@ -102,6 +119,15 @@ impl Case<'_> {
         if answer != expected {
             fail(&format!("{}: answered {name} {answer}, not {expected}", self.place));
         }
+    }
+
+    /// What was altered by the call, as a whole.
+    fn is(&self, name: &str, expected: &[u8], bytes: &[u8]) {
+        let (n, length) = (expected.len(), bytes.len());
+        if n != length {
+            fail(&format!("{}: {name} is to have {n} bytes, but has {length}", self.place));
+        }
+        self.holds(name, expected, bytes);
     }
 
     /// A lent buffer after the call.
@@ -161,6 +187,17 @@ fn reading(case: &mut Case, how: Reading) -> usize {
         let expected = case.expected.bytes(name);
         case.holds(name, &expected, &buffer);
     }
+    number
+}
+
+fn correct_erased(case: &mut Case) -> usize {
+    let (parity, mut block) = (case.given.number("parity"), case.given.bytes("block"));
+    let flags = case.given.take("erased", |text| flags(text, block.len()));
+    let Answer { number, count } = erased::correct_erased(&mut block, &flags, parity);
+    case.answered("number", number);
+    case.answered("count", count);
+    let expected = case.expected.bytes("block");
+    case.is("block", &expected, &block);
     number
 }
 

@@ -18,7 +18,7 @@ use Rattle.block_table.proofs.Rows.{total-append}
 use Rattle.block_table.proofs.Cuts.{Shaped, cut-shaped, length-joined}
 use Rattle.blocks.specs.declared.Blocks.{Blocks}
 use Rattle.blocks.specs.declared.Blocks.the-variants.{Corrected, Refused}
-use Rattle.blocks.specs.Blockwise.{outcomes, firstRefused, countOf, blocksOf, corrected, leftOf, correctionsOf}
+use Rattle.blocks.specs.Blockwise.{outcomes, firstRefused, countOf, blocksOf, corrected, leftOf, correctionsOf, blockAt}
 use Rattle.blocks.specs.Inner.{spliced, StreamOutcome, answerOf, more, addCorrections, onward, outcomeAt, leftAt, outcomeFrom, Corrects, Flagged}
 use Rattle.blocks.proofs.Splice.{part-back, opened, spliced-front, spliced-behind, spliced-length}
 
@@ -275,6 +275,12 @@ unset-block p n a fl w z = none-erased 0x163 1 p (take n (drop a fl)) w (unset-e
 -- there are no flags at all
 unflagged : (fl : List ℕ) → length fl ≡ 0 → (i : ℕ) → seq fl i ≡ 0
 unflagged fl e i = List·getD-eq-default fl 0 {n = i} (omega arith)
+
+pub unset-part : (bs : List Shape) (fl : List ℕ) → ((i : ℕ) → seq fl i ≡ 0) → (j : ℕ) → erasures (blockAt (cut bs fl) j) ≡ 0
+unfolding cut erasures
+unset-part [] fl z j = refl
+unset-part (b ∷ bs) fl z zero = unset-erasures (take (size b) fl) (part-unset (size b) 0 fl z)
+unset-part (b ∷ bs) fl z (suc j) = unset-part bs (drop (size b) fl) (λ i. getD-drop (size b) fl i 0 ∙ z (size b + i)) j
 
 pub unset : (bs : List Shape) (fl gl s : List ℕ) → ((i : ℕ) → seq fl i ≡ 0) → ((i : ℕ) → seq gl i ≡ 0) → corrected bs fl s ≡ corrected bs gl s
 unfolding outcomes cut zipWith

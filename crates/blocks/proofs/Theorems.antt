@@ -11,7 +11,7 @@ use Rattle.block_table.proofs.Rows.{row-total}
 use Rattle.block_table.proofs.Cuts.{Shaped, cut-shaped, cut-joined, length-joined, data-back}
 use Rattle.blocks.specs.Blockwise.{firstRefused, countOf, blocksOf, corrected, leftOf, withParities, streamOf, differences, blockAt}
 use Rattle.blocks.specs.Blockwise.{parityAt}
-use Rattle.blocks.proofs.Corrects.{block-facts, cut-number, blocks-shaped, joined-size, left-behind, unset}
+use Rattle.blocks.proofs.Corrects.{block-facts, cut-number, blocks-shaped, joined-size, left-behind, unset, unset-part}
 use Rattle.blocks.proofs.Rule.{cut-front}
 use Rattle.blocks.proofs.RefusedStreams.{FirstLost, EachFound, Coded, lost-refused, each-settled, either, coded-shaped, coded-each}
 use Rattle.blocks.proofs.Written.{encoded-coded, joined-bytes}
@@ -42,6 +42,10 @@ left-refused bs cs b fl s e d =
 -- Where no flag is set, it does not matter how many flags there are.
 pub unset-corrected : (bs : List Shape) (fl gl s : List ℕ) → ((i : ℕ) → getD fl i 0 ≡ 0) → ((i : ℕ) → getD gl i 0 ≡ 0) → corrected bs fl s ≡ corrected bs gl s
 unset-corrected = unset
+
+-- Then nothing is erased in any block.
+pub part-none : (bs : List Shape) (fl : List ℕ) → ((i : ℕ) → getD fl i 0 ≡ 0) → (j : ℕ) → erasures (blockAt (cut bs fl) j) ≡ 0
+part-none = unset-part
 
 module _ (bs : List Shape) (sound : Sound bs) where
   -- ---- any stream, and as many flags

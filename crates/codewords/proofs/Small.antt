@@ -1,8 +1,8 @@
 -- Bits stay bits and bytes stay bytes on the way from a square to its stream and back.
-use Rattle.general.proofs.Names.{sym, subst, List, [], _∷_, ℕ, zero, suc, _+_, _<_, arith, decLt, xor-lt, lit<, length, getD, set, drop, replicate}
+use Rattle.general.proofs.Names.{_≡_, refl, sym, ap, ap₂, subst, _∙_, bitXor, take, _*_, List, [], _∷_, ℕ, zero, suc, _+_, _<_, arith, decLt, xor-lt, lit<, length, getD, set, drop, replicate}
 use Rattle.general.proofs.Names.{getD-replicate, length-replicate, List·getD-eq-default, getD-drop}
 use Rattle.symbol.proofs.KindsLow.{set-any}
-use Rattle.bits.specs.Bits.{bitsOf, groups, firstWords, storeAt}
+use Rattle.bits.specs.Bits.{bitsOf, value, groups, firstWords, storeAt}
 use Rattle.codewords.specs.Codewords.{dataBits, placed, order, toStream, fromStream}
 use Rattle.codewords.specs.Inner.{streamIn, squareOf}
 use Rattle.bits.proofs.Reading.{value-bound, bit-lt}
@@ -49,10 +49,10 @@ store-below n [] cs s h g = g
 store-below n (p ∷ ps) [] s h g = g
 store-below n (p ∷ ps) (c ∷ cs) s h g = store-below n ps cs (set s p c) (λ i. h (suc i)) (λ i. set-any (λ y. y < n) s p c i (h 0) (g i))
 
-zeros-below : (k : ℕ) → Below 256 (replicate k 0)
-zeros-below k i = elim (decLt i k) [
-  | yes l ↦ subst (λ (x : ℕ). x < 256) (sym (getD-replicate k i 0 0 l)) (lit< tt)
-  | no l ↦ subst (λ (x : ℕ). x < 256) (sym (List·getD-eq-default (replicate k 0) 0 (omega (arith, length-replicate {A = ℕ} k 0)))) (lit< tt)
+zeros-below : (n k : ℕ) → 0 < n → Below n (replicate k 0)
+zeros-below n k h i = elim (decLt i k) [
+  | yes l ↦ subst (λ (x : ℕ). x < n) (sym (getD-replicate k i 0 0 l)) h
+  | no l ↦ subst (λ (x : ℕ). x < n) (sym (List·getD-eq-default (replicate k 0) 0 (omega (arith, length-replicate {A = ℕ} k 0)))) h
 ]
 
 -- the stream of a square of bits has bytes
@@ -61,7 +61,39 @@ unfolding toStream
 stream-below total m ks sq small h =
     let cs = firstWords 8 total (dataBits m 0 ks sq) in
     store-below 256 (order (length cs)) cs (replicate (length cs) 0) (codewords-below total (dataBits m 0 ks sq) (data-below m small 0 ks sq h))
-    (zeros-below (length cs))
+    (zeros-below 256 (length cs) (lit< tt))
+
+-- ---- a square of zeros where nothing is inverted
+
+none-below : (m : ℕ → ℕ) → ((i : ℕ) → m i ≡ 0) → (i : ℕ) (ks sq : List ℕ) → Below 1 sq → Below 1 (dataBits m i ks sq)
+unfolding dataBits
+none-below m z i [] sq h j = omega arith
+none-below m z i (k ∷ ks) [] h j = omega arith
+none-below m z i (zero ∷ ks) (b ∷ sq) h zero =
+    let e : b ≡ 0 = omega (arith, h 0) in omega (arith, ap₂ bitXor e (z i))
+none-below m z i (zero ∷ ks) (b ∷ sq) h (suc j) = none-below m z (suc i) ks sq (λ n. h (suc n)) j
+none-below m z i (suc k ∷ ks) (b ∷ sq) h j = none-below m z (suc i) ks sq (λ n. h (suc n)) j
+
+value-none : (k : ℕ) (bs : List ℕ) → Below 1 bs → value 0 (take k bs) ≡ 0
+unfolding value
+value-none zero bs h = refl
+value-none (suc k) [] h = refl
+value-none (suc k) (b ∷ bs) h =
+    let e : 2 * 0 + b ≡ 0 = omega (arith, h 0) in ap (λ (a : ℕ). value a (take k bs)) e ∙ value-none k bs (λ i. h (suc i))
+
+words-none : (n : ℕ) (bs : List ℕ) → Below 1 bs → Below 1 (firstWords 8 n bs)
+unfolding firstWords groups
+words-none zero bs h j = omega arith
+words-none (suc n) bs h zero = omega (arith, value-none 8 bs h)
+words-none (suc n) bs h (suc j) = words-none n (drop 8 bs) (drop-below 1 8 bs h) j
+
+-- its stream has zeros
+pub stream-none : (total : ℕ) (m : ℕ → ℕ) (ks sq : List ℕ) → ((i : ℕ) → m i ≡ 0) → Below 1 sq → Below 1 (streamIn total m ks sq)
+unfolding toStream
+stream-none total m ks sq z h =
+    let cs = firstWords 8 total (dataBits m 0 ks sq) in
+    store-below 1 (order (length cs)) cs (replicate (length cs) 0) (words-none total (dataBits m 0 ks sq) (none-below m z 0 ks sq h))
+    (zeros-below 1 (length cs) (lit< tt))
 
 -- the square of a stream has bits
 pub square-below : (m : ℕ → ℕ) (ks s : List ℕ) → ((i : ℕ) → m i < 2) → Below 2 (squareOf m ks s)

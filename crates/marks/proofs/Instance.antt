@@ -11,7 +11,7 @@ use Rattle.block_table.specs.Blocks.{hasBlocks, rowHolds, blockHolds, rowOf, to
 use Rattle.symbol.specs.Layout.{dataModules}
 use Rattle.script.specs.Writer.{isDigit, modeHas, numericWords, modeBits, encodings}
 use Rattle.script.specs.Check.{allowed, segmentAt, commands, commandsOf}
-use Rattle.corrector.proofs.Repairs.{distance-self}
+use Rattle.reed_solomon.proofs.Distance.{distance-self}
 use Rattle.marks.specs.Read.{Reading, firstRefusal, unless, readOf, readKnownOf}
 use Rattle.marks.specs.Write.{markOf, segmentsRefusal, fits, writeRefusal, writeOf}
 use Rattle.marks.specs.Smallest.{smallestOf}

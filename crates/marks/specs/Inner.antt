@@ -6,9 +6,9 @@ use lib.Dec.{leb}
 use Rattle.general.specs.Lists.{all}
 use Rattle.marks.specs.Read.{nearestIn}
 
--- no byte is above 1
+-- no byte is above 2
 abbrev pub areModules : List ℕ → Bool
-areModules sq = all (λ m. leb m 1) sq
+areModules sq = all (λ m. leb m 2) sq
 
 -- the nearest level and mask of a square of version v, and their distance
 abbrev pub levelIn : ℕ → List ℕ → ℕ

@@ -40,9 +40,13 @@ firstRefusal (n ∷ ns) = cond (eqb n 0) (firstRefusal ns) n
 abbrev pub unless : Bool → ℕ → ℕ
 unless test n = cond test 0 n
 
--- a module as a bit: 1 is dark, all else is light
+-- a module as a bit: 1 is dark, all else is light, unknown modules too
 abbrev pub moduleBit : ℕ → ℕ
 moduleBit m = cond (eqb m 1) 1 0
+
+-- 1 where a module is unknown
+abbrev pub unknownBit : ℕ → ℕ
+unknownBit m = cond (eqb m 2) 1 0
 
 -- the nearest level and mask of a square of version v, and their distance
 unfoldable pub nearestIn : ℕ → List ℕ → NearestAnswer
@@ -52,22 +56,30 @@ nearestIn v sq = nearestOf v (copyOf (sideOf v) false (map moduleBit sq)) (copyO
 unfoldable pub streamFrom : ℕ → ℕ → List ℕ → List ℕ
 streamFrom v mask sq = toStream (firstWords 8 (totalOf v) (dataBits (maskBit (sideOf v) mask) 0 (layoutOf v) (map moduleBit sq)))
 
--- SPECIFICATION 11.3: the blocks of a square, for a version, level and mask
+-- SPECIFICATION 6.5: the flags of that stream, one beside each codeword: the stream of a square that is dark where modules are unknown, under
+-- mask 0, which inverts nothing. So a flag is not 0 exactly where one of the eight modules of its codeword is unknown.
+unfoldable pub flagsFrom : ℕ → List ℕ → List ℕ
+flagsFrom v sq = streamFrom v 0 (map unknownBit sq)
+
+-- SPECIFICATION 11.3: the blocks of a square, for a version, level and mask, and their flags
 unfoldable pub blocksIn : ℕ → ℕ → ℕ → List ℕ → List (List ℕ)
 blocksIn v level mask sq = cut (shapesOf v level) (streamFrom v mask sq)
 
--- 1 side not odd or not 23 to 189; 2 not s × s bytes; 3 a byte above 1; 4 distance above 10; 1 by SPECIFICATION 7.4
+unfoldable pub flagsIn : ℕ → ℕ → List ℕ → List (List ℕ)
+flagsIn v level sq = cut (shapesOf v level) (flagsFrom v sq)
+
+-- 1 side not odd or not 23 to 189; 2 not s × s bytes; 3 a byte above 2; 4 distance above 10; 1 by SPECIFICATION 7.4
 unfoldable pub readRefusal : ℕ → List ℕ → ℕ
 readRefusal side sq =
     firstRefusal
-    (unless (isSide side) 1 ∷ unless (eqb (length sq) (side * side)) 2 ∷ unless (all (λ m. leb m 1) sq) 3
+    (unless (isSide side) 1 ∷ unless (eqb (length sq) (side * side)) 2 ∷ unless (all (λ m. leb m 2) sq) 3
     ∷ unless (leb (nearestIn (sideVersion side) sq .distance) 10) 4 ∷ unless (hasBlocks (sideVersion side) (nearestIn (sideVersion side) sq .level)) 1 ∷ [])
 
 -- the same without 4; the first 1 is for version, level and mask
 unfoldable pub knownRefusal : ℕ → ℕ → ℕ → List ℕ → ℕ
 knownRefusal v level mask sq =
     firstRefusal
-    (unless (isInfo v level mask) 1 ∷ unless (eqb (length sq) (sideOf v * sideOf v)) 2 ∷ unless (all (λ m. leb m 1) sq) 3 ∷ unless (hasBlocks v level) 1 ∷ [])
+    (unless (isInfo v level mask) 1 ∷ unless (eqb (length sq) (sideOf v * sideOf v)) 2 ∷ unless (all (λ m. leb m 2) sq) 3 ∷ unless (hasBlocks v level) 1 ∷ [])
 
 -- what the segments of the corrected blocks give, with the count of their corrections
 unfoldable pub outcomeReading : ℕ → ℕ → ℕ → ℕ → ℕ → DataOutcome → Reading
@@ -76,10 +88,10 @@ outcomeReading v level mask distance count o =
     (cond (eqb (o .number) 0) (receiptOf v level mask count distance (o .payloadLength) (o .scriptLength)) (refusalReceipt (o .number)))
     (o .payload) (o .script)
 
--- 6 if a block has no codeword in reach; then 7 to 10, and payload and script, as Segments from data
+-- 15 or 6 if a block is refused, by the first; then 7 to 10, and payload and script, as Segments from data
 unfoldable pub bodyOf : ℕ → ℕ → ℕ → ℕ → List ℕ → List ℕ → List ℕ → Reading
 bodyOf v level mask distance sq p s =
-    let os = outcomes (shapesOf v level) (blocksIn v level mask sq) in
+    let os = outcomes (shapesOf v level) (flagsIn v level sq) (blocksIn v level mask sq) in
     cond (eqb (firstRefused os) 0)
     (outcomeReading v level mask distance (countOf os) (fromData (dataParts (shapesOf v level) (blocksOf os)) p s))
     (refused (firstRefused os) p s)
