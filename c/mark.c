@@ -1,4 +1,5 @@
-/* mark: makes a Han Xin mark for a serial, shows it in the terminal, flips modules as scratches would, and reads it back. */
+/* mark: makes a Han Xin mark for a serial, shows it in the terminal, flips modules or makes them unknown as scratches would, and
+ * reads it back. */
 #define _POSIX_C_SOURCE 200809L /* for isatty */
 #include "han_xin.h"
 
@@ -9,18 +10,22 @@
 #include <unistd.h>
 
 static const char HELP[] =
-    "usage: mark [OPTIONS] SERIAL [FLIPS [SEED]]   make a mark for SERIAL, show it, flip modules, show it again and read it\n"
+    "usage: mark [OPTIONS] SERIAL [FLIPS [SEED]]   make a mark for SERIAL, show it, scratch it, show it again and read it\n"
     "       mark [OPTIONS] --read FILE             show and read the mark in FILE\n"
     "\n"
     "  FLIPS         how many modules are flipped, or a part of them such as 8%  (0 if left out)\n"
-    "  SEED          which ones: a number; the same number flips the same modules  (1 if left out)\n"
+    "  SEED          which ones: a number; the same number takes the same modules  (1 if left out)\n"
+    "  --unknown N   how many other modules become unknown, or a part of them such as 5%  (0 if left out)\n"
     "  --level N     level of error correction, 0 to 3  (2 if left out)\n"
     "  --mask N      mask, 0 to 3  (0 if left out)\n"
-    "  --write FILE  also write the modules, after the flips, to FILE\n"
+    "  --write FILE  also write the modules, scratched, to FILE\n"
     "  --help        this text\n"
     "\n"
+    "An unknown module is one that a camera cannot tell light from dark. A square that has some is shown with two characters for each\n"
+    "module, ?? where it is unknown; any other square with one character for two modules, one below the other.\n"
     "FILE is plain text, and an image that many programs can show (PBM): 'P1', width and height, then the modules row by row, 0 light\n"
-    "and 1 dark. It can be edited by hand; the first line and the sizes may be left out if each row is a line.\n"
+    "and 1 dark. It can be edited by hand; the first line and the sizes may be left out if each row is a line. An unknown module is a 2\n"
+    "there: a file that has one is no longer a PBM, and other programs will not read it.\n"
     "The mode is numeric if SERIAL has digits only, else text if that has all its bytes, else bytes; the version is the smallest\n"
     "that fits. Exit status: 0 read, 1 refused, 2 wrong usage or a file that cannot be used.\n";
 
@@ -32,7 +37,7 @@ typedef struct {
 } Square;
 
 typedef struct {
-    const char *serial, *read, *write, *flips;
+    const char *serial, *read, *write, *flips, *unknown;
     unsigned long level, mask, seed;
 } Wish;
 
@@ -42,22 +47,46 @@ static void stop(const char *what, const char *name)
     exit(2);
 }
 
-/* Two rows of modules to a line of the terminal, with a border of three modules. Dark on light, whatever the terminal's colours are. */
+#define FULL "\xE2\x96\x88" /* a dark character, and two of which one half is dark */
+#define UPPER "\xE2\x96\x80"
+#define LOWER "\xE2\x96\x84"
+
+/* The module at a row and column; around the square, and where a file ended early, all is light. */
+static unsigned module_at(const Square *q, long row, long column)
+{
+    long side = (long)q->side, at = row * side + column;
+    if (row < 0 || row >= side || column < 0 || column >= side || (size_t)at >= q->length)
+        return HX_MODULE_LIGHT;
+    return q->modules[at];
+}
+
+/* Two modules, one below the other, as one character; neither is unknown. */
+static const char *pair(unsigned upper, unsigned lower)
+{
+    if (upper == HX_MODULE_LIGHT)
+        return lower == HX_MODULE_LIGHT ? " " : LOWER;
+    return lower == HX_MODULE_LIGHT ? UPPER : FULL;
+}
+
+/* One module as two characters. */
+static const char *single(unsigned module)
+{
+    if (module == HX_MODULE_UNKNOWN)
+        return "??";
+    return module == HX_MODULE_LIGHT ? "  " : FULL FULL;
+}
+
+/* The square with a border of three modules. Dark on light, whatever the terminal's colours are. Half a character cannot show that a
+ * module is unknown, so a square with unknown modules has one row to a line. */
 static void show(const Square *q)
 {
-    static const char *const halves[] = {" ", "\xE2\x96\x80", "\xE2\x96\x84", "\xE2\x96\x88"}; /* none, upper, lower, both */
-    long border = 3, side = (long)q->side, row, column, half;
-    int colours = isatty(STDOUT_FILENO);
-    for (row = -border; row < side + border; row += 2) {
+    long border = 3, side = (long)q->side, row, column;
+    int colours = isatty(STDOUT_FILENO), large = memchr(q->modules, HX_MODULE_UNKNOWN, q->length) != NULL;
+    for (row = -border; row < side + border; row += large ? 1 : 2) {
         fputs(colours ? "\x1B[30;107m" : "", stdout);
-        for (column = -border; column < side + border; column++) {
-            unsigned dark = 0;
-            for (half = 0; half < 2; half++)
-                if (row + half >= 0 && row + half < side && column >= 0 && column < side
-                    && (size_t)((row + half) * side + column) < q->length && q->modules[(row + half) * side + column] != 0)
-                    dark |= 1u << half;
-            fputs(halves[dark], stdout);
-        }
+        for (column = -border; column < side + border; column++)
+            fputs(large ? single(module_at(q, row, column)) : pair(module_at(q, row, column), module_at(q, row + 1, column)),
+                  stdout);
         fputs(colours ? "\x1B[0m\n" : "\n", stdout);
     }
 }
@@ -94,32 +123,38 @@ static hx_status write_mark(const Wish *w, Square *q)
 }
 
 /* A number of modules, or a part of the square in percent. */
-static size_t count_of(const char *flips, size_t length)
+static size_t count_of(const char *text, size_t length)
 {
     char *end;
-    unsigned long n = strtoul(flips, &end, 10);
+    unsigned long n = strtoul(text, &end, 10);
     int percent = strcmp(end, "%") == 0;
-    if (!isdigit((unsigned char)flips[0]) || (!percent && *end != 0) || n > (percent ? 100 : length))
-        stop("FLIPS is not a number of modules of this mark, nor a percentage: ", flips);
+    if (!isdigit((unsigned char)text[0]) || (!percent && *end != 0) || n > (percent ? 100 : length))
+        stop("FLIPS or --unknown is not a number of modules of this mark, nor a percentage: ", text);
     return percent ? length * n / 100 : n;
 }
 
-/* Flips so many different modules. */
-static void scratch(Square *q, size_t flips, unsigned long seed)
+/* A module that was not taken before. */
+static uint8_t *take(Square *q, uint8_t *taken, uint64_t *state)
+{
+    size_t at;
+    do {
+        *state = *state * 6364136223846793005u + 1442695040888963407u;
+        at = (size_t)((*state >> 33) % q->length);
+    } while (taken[at]);
+    taken[at] = 1;
+    return &q->modules[at];
+}
+
+/* Flips so many modules, and makes so many others unknown. */
+static void scratch(Square *q, size_t flips, size_t unknown, unsigned long seed)
 {
     static uint8_t taken[HX_SIZE_SQUARE];
     uint64_t state = seed;
     memset(taken, 0, sizeof taken);
-    while (flips > 0) {
-        size_t at;
-        state = state * 6364136223846793005u + 1442695040888963407u;
-        at = (size_t)((state >> 33) % q->length);
-        if (taken[at])
-            continue;
-        taken[at] = 1;
-        q->modules[at] ^= 1;
-        flips--;
-    }
+    for (; flips > 0; flips--)
+        *take(q, taken, &state) ^= 1;
+    for (; unknown > 0; unknown--)
+        *take(q, taken, &state) = HX_MODULE_UNKNOWN;
 }
 
 static void print_payload(const hx_payload *payload)
@@ -229,7 +264,7 @@ static size_t read_header(FILE *f, const char *name)
     return sizes[0];
 }
 
-/* A digit is a module, so that the reader can refuse one above 1. Without sizes the side is the length of the first row. */
+/* A digit is a module, so that the reader can refuse one above 2. Without sizes the side is the length of the first row. */
 static void read_file(const char *name, Square *q)
 {
     FILE *f = fopen(name, "r");
@@ -243,7 +278,7 @@ static void read_file(const char *name, Square *q)
             if (q->side == 0)
                 q->side = q->length;
         } else if (!isdigit(c)) {
-            stop("something else than 0 and 1 in ", name);
+            stop("something else than 0, 1 and 2 in ", name);
         } else if (q->length == HX_SIZE_SQUARE) {
             stop("more than 35,721 modules in ", name);
         } else {
@@ -278,6 +313,8 @@ static int option(char **arguments, int left, Wish *w)
         w->level = number_of(value, "the level is 0 to 3, not ", 3);
     else if (strcmp(name, "--mask") == 0)
         w->mask = number_of(value, "the mask is 0 to 3, not ", 3);
+    else if (strcmp(name, "--unknown") == 0)
+        w->unknown = value;
     else if (strcmp(name, "--write") == 0)
         w->write = value;
     else if (strcmp(name, "--read") == 0)
@@ -289,7 +326,7 @@ static int option(char **arguments, int left, Wish *w)
 
 static Wish wish_of(int count, char **arguments)
 {
-    Wish w = {NULL, NULL, NULL, "0", 2, 0, 1};
+    Wish w = {NULL, NULL, NULL, "0", NULL, 2, 0, 1};
     int i = 1, taken, place = 0;
     while (i < count) {
         taken = option(arguments + i, count - i, &w);
@@ -311,25 +348,41 @@ static Wish wish_of(int count, char **arguments)
         fputs(HELP, stderr);
         exit(2);
     }
+    if (w.unknown != NULL && w.read != NULL)
+        stop("--unknown is for a mark that is made, not for one that is read: ", w.read);
     return w;
 }
 
-/* A mark for the serial, before and after the flips. */
+/* What was done to the square, above the picture of it. */
+static void print_scratches(const Square *q, size_t flips, size_t unknown)
+{
+    if (unknown == 0)
+        printf("with %zu of its %zu modules flipped:\n", flips, q->length);
+    else if (flips == 0)
+        printf("with %zu of its %zu modules unknown, shown as ??:\n", unknown, q->length);
+    else
+        printf("with %zu of its %zu modules flipped and %zu unknown, shown as ??:\n", flips, q->length, unknown);
+}
+
+/* A mark for the serial, before and after the scratches. */
 static void make(const Wish *w, Square *q)
 {
     hx_status status = write_mark(w, q);
-    size_t flips;
+    size_t flips, unknown;
     if (status != HX_OK) {
         print_refusal(status);
         exit(1);
     }
     flips = count_of(w->flips, q->length);
+    unknown = w->unknown == NULL ? 0 : count_of(w->unknown, q->length);
+    if (flips + unknown > q->length)
+        stop("FLIPS and --unknown are more modules than the mark has: ", w->unknown);
     printf("the mark for \"%s\":\n", w->serial);
     show(q);
-    if (flips == 0)
+    if (flips + unknown == 0)
         return;
-    scratch(q, flips, w->seed);
-    printf("with %zu of its %zu modules flipped:\n", flips, q->length);
+    scratch(q, flips, unknown, w->seed);
+    print_scratches(q, flips, unknown);
     show(q);
 }
 

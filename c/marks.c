@@ -159,12 +159,15 @@ size_t data_modules(size_t version, size_t level, size_t room, size_t *places)
 /* The i-th codeword of the square goes to places 0, 13, 26, .. of the stream, then 1, 14, .. */
 static size_t codeword_at(size_t total, size_t place)
 {
-    size_t start, p, i = 0;
-    for (start = 0; start < 13; start++)
-        for (p = start; p < total; p += 13, i++)
-            if (p == place)
-                return i;
-    return 0;
+    size_t start, i = place / 13;
+    for (start = 0; start < place % 13; start++)
+        i += (total - start + 12) / 13;
+    return i;
+}
+
+size_t module_of(const size_t *places, size_t total, size_t place, size_t bit)
+{
+    return places[8 * codeword_at(total, place) + bit];
 }
 
 void flip_codeword(uint8_t *square, const size_t *places, size_t total, size_t place, uint8_t bits)

@@ -15,7 +15,11 @@ int craft(size_t version, size_t level, size_t mask, const uint8_t *data, size_t
 /* The data modules of a version in use, row by row: those that change with the data. Answers how many there are. */
 size_t data_modules(size_t version, size_t level, size_t room, size_t *places);
 
-/* Flips the modules of the codeword at a place of the stream, where `bits` has ones; `total` is the version's codewords. */
+/* The module that holds a bit (0 to 7, the highest first) of the codeword at a place of the stream; `total` is the version's
+ * codewords. */
+size_t module_of(const size_t *places, size_t total, size_t place, size_t bit);
+
+/* Flips the modules of a codeword where `bits` has ones. */
 void flip_codeword(uint8_t *square, const size_t *places, size_t total, size_t place, uint8_t bits);
 
 /* Place n (0 to 33) of a copy of the information word in a square. */

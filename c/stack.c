@@ -9,10 +9,11 @@
 
 #define PAINT 0xA5
 #define SIZE (4u * 1024u * 1024u)
-#define ROOM 3264u /* data codewords of version 84, level 0 */
+#define ROOM 3264u  /* data codewords of version 84, level 0 */
+#define TOTAL 3886u /* its codewords in all */
 
 static uint8_t square[HX_SIZE_SQUARE], payload[HX_SIZE_BUFFER], script[HX_SIZE_BUFFER], receipt[HX_SIZE_RECEIPT];
-static size_t payload_length, script_length;
+static size_t payload_length, script_length, places[HX_SIZE_SQUARE];
 static hx_status answer;
 
 static void *nothing(void *unused) { return unused; }
@@ -109,21 +110,34 @@ static void script_of_switches(void)
 /* Each thirteenth codeword of the stream changed: at most ten in a block, all in reach. */
 static void damage(void)
 {
-    static size_t places[HX_SIZE_SQUARE];
     size_t i;
-    data_modules(84, 0, ROOM, places);
-    for (i = 0; i < 3886; i += 13)
-        flip_codeword(square, places, 3886, i, 255);
+    for (i = 0; i < TOTAL; i += 13)
+        flip_codeword(square, places, TOTAL, i, 255);
+}
+
+/* Each seventh codeword changed and erased: at most 18 in a block of parity 20 and 20 in one of 22, all in reach. */
+static void erase(void)
+{
+    size_t i;
+    for (i = 0; i < TOTAL; i += 7) {
+        flip_codeword(square, places, TOTAL, i, 1);
+        square[module_of(places, TOTAL, i, 0)] = HX_MODULE_UNKNOWN;
+    }
 }
 
 int main(void)
 {
     int failed = 0;
+    data_modules(84, 0, ROOM, places);
     craft_switches();
     failed |= measure("hx_read_square, 2,175 switches of region that never end", reads_square, HX_REFUSED_DATA);
     failed |= measure("hx_read_known, the same", reads_known, HX_REFUSED_DATA);
     damage();
     failed |= measure("hx_read_square, the same with 299 codewords to repair", reads_square, HX_REFUSED_DATA);
+    craft_switches();
+    erase();
+    failed |= measure("hx_read_square, the same with 556 codewords erased", reads_square, HX_REFUSED_DATA);
+    failed |= measure("hx_read_known, the same", reads_known, HX_REFUSED_DATA);
     script_of_switches();
     failed |= measure("hx_write_square, 1,087 switches of region", writes_square, HX_OK);
     failed |= measure("hx_write_smallest, the same", writes_smallest, HX_OK);

@@ -40,18 +40,18 @@ static void set_content(const char *script_bytes, size_t script_length, const ch
     memcpy(payload.bytes, payload_bytes, payload_length);
 }
 
-/* The content of the mark below, with one codeword repaired and this distance. */
-static void check_content(hx_status status, size_t version, size_t distance)
+/* The content of the mark below, with so many codewords repaired and this distance. */
+static void check_content(hx_status status, size_t version, size_t corrected, size_t distance)
 {
     CHECK(status == HX_OK && receipt.status == HX_OK);
     CHECK(receipt.version == version && receipt.level == 1 && receipt.mask == 2);
-    CHECK(receipt.corrected == 1 && receipt.distance == distance);
+    CHECK(receipt.corrected == corrected && receipt.distance == distance);
     CHECK(payload.length == 9 && receipt.payload_length == 9 && memcmp(payload.bytes, "00471100a", 9) == 0);
     CHECK(script.length == 6 && receipt.script_length == 6 && memcmp(script.bytes, "\1\0\10\2\0\1", 6) == 0);
     CHECK(memcmp(payload.bytes + 9, like, HX_SIZE_BUFFER - 9) == 0 && memcmp(script.bytes + 6, like, HX_SIZE_BUFFER - 6) == 0);
 }
 
-/* A mark is the one that hx_write_square writes, and is read with its repairs. */
+/* A mark is the one that hx_write_square writes, and is read with its repairs; a module may be unknown. */
 static void test_content(void)
 {
     static const size_t versions[] = {HX_VERSION_MIN, 2, 30, HX_VERSION_MAX};
@@ -65,9 +65,14 @@ static void test_content(void)
         square[info_place(side, 0, 30)] ^= 1; /* light in every information word */
         square[5 * side + 12] ^= 1;           /* a data module */
         forget();
-        check_content(hx_read(square, n, side, &payload, &script, &receipt), v, 1);
+        check_content(hx_read(square, n, side, &payload, &script, &receipt), v, 1, 1);
         forget();
-        check_content(hx_read_as(square, n, v, 1, 2, &payload, &script, &receipt), v, 0);
+        check_content(hx_read_as(square, n, v, 1, 2, &payload, &script, &receipt), v, 1, 0);
+        square[5 * side + 12] = HX_MODULE_UNKNOWN; /* wrong only if it was dark */
+        forget();
+        check_content(hx_read(square, n, side, &payload, &script, &receipt), v, other[5 * side + 12], 1);
+        forget();
+        check_content(hx_read_as(square, n, v, 1, 2, &payload, &script, &receipt), v, other[5 * side + 12], 0);
     }
 }
 
@@ -82,18 +87,28 @@ static void check_refused(hx_status status, hx_status expected)
 /* After a refusal the bytes are as they were, and all numbers 0 but the status. */
 static void test_refusals(void)
 {
-    about(1, 0, 0, 0);
+    about(1, 0, 1, 0);
     set_content("\1\0\2", 3, "47", 2);
-    CHECK(hx_write(1, 0, 0, &script, &payload, square, 529) == HX_OK);
-    square[100] = 2;
+    CHECK(hx_write(1, 0, 1, &script, &payload, square, 529) == HX_OK);
+    memset(square + 11 * 23, HX_MODULE_UNKNOWN, 23); /* four codewords, as many as the parity: no reserve is left */
+    forget();
+    check_refused(hx_read(square, 529, 23, &payload, &script, &receipt), HX_REFUSED_BLOCK);
+    forget();
+    check_refused(hx_read_as(square, 529, 1, 0, 1, &payload, &script, &receipt), HX_REFUSED_BLOCK);
+    memset(square + 12 * 23, HX_MODULE_UNKNOWN, 23);
+    forget();
+    check_refused(hx_read(square, 529, 23, &payload, &script, &receipt), HX_REFUSED_ERASED);
+    forget();
+    check_refused(hx_read_as(square, 529, 1, 0, 1, &payload, &script, &receipt), HX_REFUSED_ERASED);
+    square[100] = 3;
     forget();
     check_refused(hx_read(square, 529, 23, &payload, &script, &receipt), HX_REFUSED_MODULE);
     forget();
     check_refused(hx_read(square, 528, 23, &payload, &script, &receipt), HX_REFUSED_LENGTH);
     forget();
-    check_refused(hx_read_as(square, 529, 1, 0, 0, &payload, &script, &receipt), HX_REFUSED_MODULE);
+    check_refused(hx_read_as(square, 529, 1, 0, 1, &payload, &script, &receipt), HX_REFUSED_MODULE);
     forget();
-    check_refused(hx_read_as(square, 529, 1, 4, 0, &payload, &script, &receipt), HX_REFUSED_RANGE);
+    check_refused(hx_read_as(square, 529, 1, 4, 1, &payload, &script, &receipt), HX_REFUSED_RANGE);
 }
 
 /* Lengths that the structs cannot have get 9 and 10, before what the writer refuses; the longest that they can have go to the writer. */

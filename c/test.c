@@ -84,10 +84,10 @@ static void test_ranges(void)
     REFUSES(by_known(84, 0, 0), square, HX_SIZE_SQUARE - 1, ENOUGH, HX_REFUSED_LENGTH);
 }
 
-/* 3 for a byte above 1, wherever it is; 1 and 2 before 3, 3 before 4 and 6. */
+/* 3 for a byte above 2, wherever it is, with unknown modules and without; 1 and 2 before 3, 3 before 4 and 6. */
 static void test_modules(void)
 {
-    static const uint8_t bytes[] = {2, 3, 128, 255};
+    static const uint8_t bytes[] = {3, 4, 128, 255};
     static const size_t at[] = {0, 8, 264, 527, 528};
     Mark m = serial_mark(1, 0, 3);
     size_t i, j;
@@ -102,10 +102,16 @@ static void test_modules(void)
             REFUSES(by_known(1, 0, 3), square, 530, ENOUGH, HX_REFUSED_LENGTH);
             REFUSES(by_side(24), square, 529, ENOUGH, HX_REFUSED_RANGE);
             REFUSES(by_known(1, 4, 3), square, 529, ENOUGH, HX_REFUSED_RANGE);
+            memset(square, HX_MODULE_UNKNOWN, 529);
+            REFUSES(by_side(23), square, 528, ENOUGH, HX_REFUSED_LENGTH);
+            REFUSES(by_known(1, 4, 3), square, 529, ENOUGH, HX_REFUSED_RANGE);
+            square[at[j]] = bytes[i];
+            REFUSES(by_side(23), square, 529, ENOUGH, HX_REFUSED_MODULE);
+            REFUSES(by_known(1, 0, 3), square, 529, ENOUGH, HX_REFUSED_MODULE);
         }
     memset(square, 1, 529);
     REFUSES(by_side(23), square, 529, ENOUGH, HX_REFUSED_INFORMATION);
-    square[528] = 2;
+    square[528] = 3;
     REFUSES(by_side(23), square, 529, ENOUGH, HX_REFUSED_MODULE);
     REFUSES(by_known(1, 0, 3), square, 529, ENOUGH, HX_REFUSED_MODULE);
 }

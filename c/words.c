@@ -8,7 +8,7 @@ const char *hx_refusal_words(hx_status status)
     case HX_OK: return "no refusal";
     case HX_REFUSED_RANGE: return "side, version, level or mask is out of range";
     case HX_REFUSED_LENGTH: return "the receipt is not 12 bytes long, or the square not side x side, or too short for the mark";
-    case HX_REFUSED_MODULE: return "a byte of the square is neither 0 nor 1";
+    case HX_REFUSED_MODULE: return "a byte of the square is above 2";
     case HX_REFUSED_INFORMATION: return "more than 10 information modules differ from those of every level and mask";
     case HX_REFUSED_BLOCK: return "a block has more wrong codewords than can be repaired";
     case HX_REFUSED_DATA: return "the data end inside a segment, or contain an unknown mode or value";
@@ -19,6 +19,7 @@ const char *hx_refusal_words(hx_status status)
     case HX_REFUSED_PAYLOAD: return "part of the payload cannot be encoded in this mode";
     case HX_REFUSED_TOO_LONG: return "script and payload do not fit this version and level";
     case HX_REFUSED_NO_VERSION: return "script and payload do not fit any version at this level";
+    case HX_REFUSED_ERASED: return "a block has more codewords with unknown modules than parity codewords";
     default: return "unknown refusal number";
     }
 }

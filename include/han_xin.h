@@ -2,12 +2,13 @@
  *
  * Link with target/lib/libhan_xin.a, which c/library writes (Linux on x86-64). Of the C library it needs memcpy and memset.
  *
- * NAMES. HX_SIZE_.. are numbers of bytes, HX_REFUSED_.. refusals, HX_MODE_.. the commands of a script, HX_VERSION_.. the versions
- * of marks, HX_LIBRARY_.. the version of this library. hx_receipt_.. reads a field of a receipt.
+ * NAMES. HX_SIZE_.. are numbers of bytes, HX_MODULE_.. the bytes of a square, HX_REFUSED_.. refusals, HX_MODE_.. the commands of a
+ * script, HX_VERSION_.. the versions of marks, HX_LIBRARY_.. the version of this library. hx_receipt_.. reads a field of a receipt.
  *
- * A SQUARE has side x side bytes, row by row, 0 light, 1 dark. Row 0 is the top row and column 0 the left one: the module at a
- * row and column is byte row x side + column. A mark of version 1 to 84 has side 2 x version + 21, so 23 to 189. Level (of error
- * correction) and mask are each 0 to 3. In each corner stands a finder of 7 x 7 modules (# dark, . light):
+ * A SQUARE has side x side bytes, row by row: 0 light, 1 dark, and for the readings also 2 unknown; a writing writes 0 and 1 only.
+ * Row 0 is the top row and column 0 the left one: the module at a row and column is byte row x side + column. A mark of version 1
+ * to 84 has side 2 x version + 21, so 23 to 189. Level (of error correction) and mask are each 0 to 3. In each corner stands a
+ * finder of 7 x 7 modules (# dark, . light):
  *
  *   top left      #######    #######   top right
  *                 #......    ......#
@@ -29,6 +30,23 @@
  * at the bottom left it is the corner towards the middle. So the finders tell how a square is turned. The functions do not turn it:
  * the caller does, until the finders stand as above. They do not tell whether it is mirrored: a mark mirrored at the diagonal from
  * bottom left to top right has the same finders. Where a camera may mirror, the caller tries both.
+ *
+ * UNKNOWN MODULES. Set a module to unknown when it cannot be told light from dark: under a scratch, glare or dirt. Do not guess
+ * there, and do not say unknown for probably light. Both readings take an unknown module as light. A codeword is erased if one of
+ * its eight modules is unknown. A block with f erased codewords is read so:
+ *
+ *   f = 0                    it is repaired if at most half as many codewords are wrong as it has parity codewords; else 6
+ *   f from 1 to the parity   it is accepted if it needs no repair; it is repaired if, of the codewords that are not erased, e are
+ *                            wrong and 2 e + f + 2 is not above the parity; else 6
+ *   f above the parity       15
+ *
+ * So a wrong codeword costs two parity codewords, and an erased one costs one, even if it would have been right. Two more are kept
+ * in reserve, which makes a repair to another mark less likely. So a module that is guessed wrong costs twice as much as an unknown
+ * one, and each that is set to unknown without need costs reach. A block with as many wrong codewords as can be repaired gets 6 once
+ * one codeword of it is erased, because the reserve is kept from then on; with two of the wrong ones erased it is repaired again.
+ *
+ * Outside the data, unknown modules matter only among the information modules: there one that is light in the mark changes nothing,
+ * and a dark one counts as different.
  *
  * The PAYLOAD is the bytes that a mark holds. The SCRIPT beside it says how they are written: commands of one byte, each with an
  * operand of fixed width, big-endian, which take the payload bytes from first to last:
@@ -55,6 +73,8 @@
  *   byte 3      mask                                  bytes 9, 10   script length
  *   bytes 4, 5  corrected: how many codewords of      byte 11       0
  *               the blocks were wrong and repaired
+ *
+ * In both counts an unknown module is light: a codeword that is erased, but right so, is not counted.
  *
  * WHAT IS WRITTEN. A function returns 0 or a refusal number, alone or in an hx_answer. After a refusal payload, script and square
  * are as they were, and the receipt has the number and eleven zeros; if the receipt is not 12 bytes long, nothing at all is
@@ -98,6 +118,13 @@ extern "C" {
 #define HX_VERSION_MAX 84u
 #define HX_SIDE(version) (2u * (version) + 21u)
 
+/* The bytes of a square. */
+enum hx_module {
+    HX_MODULE_LIGHT = 0,
+    HX_MODULE_DARK = 1,
+    HX_MODULE_UNKNOWN = 2 /* for the readings; which modules to set so is said above */
+};
+
 /* What the functions return: HX_OK or a refusal. It is printed by "%zu". */
 typedef size_t hx_status;
 
@@ -108,13 +135,14 @@ typedef struct {
 } hx_answer;
 
 /* The refusals, with what hx_refusal_words says of each. Those that apply to a function are tested in the order that stands
- * there, each over the whole input, and the first that applies is given. HX_REFUSED_RANGE is also for a version and level without
- * blocks, of which there are none today. The number 5 belongs to an operation that is not in this interface. */
+ * there, each over the whole input (15 and 6 together, block by block), and the first that applies is given. HX_REFUSED_RANGE is
+ * also for a version and level without blocks, of which there are none today. The number 5 belongs to an operation that is not in
+ * this interface. */
 enum hx_refusal {
     HX_OK = 0,                   /* no refusal */
     HX_REFUSED_RANGE = 1,        /* side, version, level or mask is out of range */
     HX_REFUSED_LENGTH = 2,       /* the receipt is not 12 bytes long, or the square not side x side, or too short for the mark */
-    HX_REFUSED_MODULE = 3,       /* a byte of the square is neither 0 nor 1 */
+    HX_REFUSED_MODULE = 3,       /* a byte of the square is above 2 */
     HX_REFUSED_INFORMATION = 4,  /* more than 10 information modules differ from those of every level and mask */
     HX_REFUSED_BLOCK = 6,        /* a block has more wrong codewords than can be repaired */
     HX_REFUSED_DATA = 7,         /* the data end inside a segment, or contain an unknown mode or value */
@@ -124,7 +152,8 @@ enum hx_refusal {
     HX_REFUSED_SCRIPT = 11,      /* the script has an unknown command or a bad operand, or does not match the payload's length */
     HX_REFUSED_PAYLOAD = 12,     /* part of the payload cannot be encoded in this mode */
     HX_REFUSED_TOO_LONG = 13,    /* script and payload do not fit this version and level */
-    HX_REFUSED_NO_VERSION = 14   /* script and payload do not fit any version at this level */
+    HX_REFUSED_NO_VERSION = 14,  /* script and payload do not fit any version at this level */
+    HX_REFUSED_ERASED = 15       /* a block has more codewords with unknown modules than parity codewords */
 };
 
 /* The commands of a script. */
@@ -140,19 +169,19 @@ enum hx_mode {
 };
 
 /* Reads a square: version from its side, level and mask from its information modules.
- *   square, square_length     the modules, side x side bytes
+ *   square, square_length     the modules, side x side bytes, each HX_MODULE_LIGHT, HX_MODULE_DARK or HX_MODULE_UNKNOWN
  *   side                      23 to 189, odd
  *   payload, payload_length   where the payload is written; HX_SIZE_BUFFER bytes are always enough
  *   script, script_length     where the script is written; HX_SIZE_BUFFER bytes are always enough
  *   receipt, receipt_length   where the receipt is written; receipt_length is HX_SIZE_RECEIPT
  * Refusals, in this order: 2 receipt not 12 bytes long; 1 side even or not 23 to 189; 2 square not side x side bytes long; 3; 4;
- * 1 no blocks for this version and level; 6; 7; 8; 9; 10. */
+ * 1 no blocks for this version and level; 15 or 6, whichever the first block that is refused gets; 7; 8; 9; 10. */
 hx_status hx_read_square(const uint8_t *square, size_t square_length, size_t side, uint8_t *payload, size_t payload_length,
                          uint8_t *script, size_t script_length, uint8_t *receipt, size_t receipt_length);
 
 /* Reads a square whose version, level and mask are known; its information modules are not looked at. Other parameters as above.
  * Refusals, in this order: 2 receipt not 12 bytes long; 1 version, level or mask out of range; 2 square not side x side bytes
- * long; 3; 1 no blocks for this version and level; 6; 7; 8; 9; 10. */
+ * long; 3; 1 no blocks for this version and level; 15 or 6, whichever the first block that is refused gets; 7; 8; 9; 10. */
 hx_status hx_read_known(const uint8_t *square, size_t square_length, size_t version, size_t level, size_t mask, uint8_t *payload,
                         size_t payload_length, uint8_t *script, size_t script_length, uint8_t *receipt, size_t receipt_length);
 
