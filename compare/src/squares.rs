@@ -10,6 +10,7 @@ mod record;
 mod smallest;
 mod speed;
 mod stack;
+mod unknown;
 mod writing;
 
 use crate::han_xin::{Read, decode_data, decode_matrix, nearest_info};
@@ -43,7 +44,7 @@ unsafe extern "C" {
 }
 
 /// One more than the greatest refusal number.
-const NUMBERS: usize = 15;
+const NUMBERS: usize = 16;
 
 /// What the smallest mark answers: a refusal number, and the version that was found.
 #[repr(C)]
