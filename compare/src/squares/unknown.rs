@@ -4,12 +4,14 @@
 mod damage;
 mod faults;
 mod reading;
+mod speed;
 use super::bad::{Lengths, both_readings};
 use super::plan::Block;
 use super::{Answer, Both, Mark, NUMBERS, Reading, kinds, read};
 use crate::han_xin::{info_bits, nearest_info};
 use crate::tools::{MARK, ROOM, Random, differs, fail, hex};
 use damage::{Damage, beside, hurt_in_reach, misinformed};
+pub use speed::{bench, most_each};
 
 const PLENTY: Lengths = Lengths { payload: ROOM, script: ROOM, receipt: 12 };
 
