@@ -1,6 +1,7 @@
 //! Whole squares: both readings against `decode_matrix` and `decode_data` of the original, on acceptance, payload, count of corrections,
 //! level, mask and information distance. The marks are written by our writer and held to those that plan.rs makes. What the original does
-//! not tell, the script and the number of a refusal, is held to the script that was written and to the original's own steps.
+//! not tell, the script and the number of a refusal, is held to the script that was written and to the original's own steps. Squares with
+//! unknown modules, which the original does not read, are held to a reading out of its parts (unknown.rs).
 mod bad;
 mod instructions;
 mod kinds;

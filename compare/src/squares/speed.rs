@@ -1,4 +1,5 @@
 //! Times of whole squares: both readings beside the original, writing beside zint's library, and the smallest mark beside writing.
+//! Readings of squares with unknown modules are in unknown/speed.rs.
 use super::kinds::{damage, damage_full};
 use super::{Both, Found, Mark, Reading, read, unknown, write, write_smallest};
 use crate::han_xin::{decode_data, decode_matrix};
