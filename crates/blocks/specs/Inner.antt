@@ -92,6 +92,10 @@ pub record Corrects (fl : List ℕ) (bs : List Shape) (a : ℕ) (s s′ : List �
 pub record Flagged (fl : List ℕ) (n : ℕ) : Type 0 where
   pub enough : 0 < length fl → n ≤ length fl
 
+-- a refusal has a number
+pub record Numbered (r : Blocks) : Type 0 where
+  pub pos : (k : ℕ) → r ≡ Refused k → 0 < k
+
 -- Something of each block of t put in its place in s, one after the other.
 
 -- how many codewords a block fills in s, how many it has in t, and what it makes of those

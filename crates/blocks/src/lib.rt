@@ -9,7 +9,7 @@ ghost use lib.ListN.{length, take, drop};
 ghost use Rattle.remainder.specs.Words.{Prepared};
 ghost use Rattle.block_table.specs.Blocks.{batch, shapes, totalSize, totalData, rowHolds, cut, joined, dataParts};
 ghost use Rattle.blocks.specs.Blockwise.{corrected, firstRefused, countOf, blocksOf, leftOf, numberOf, correctionsOf};
-ghost use Rattle.blocks.specs.Inner.{Reads, blocksIn, spliced, answerOf, Corrects, Flagged, gathering, transferred, TransferRoom};
+ghost use Rattle.blocks.specs.Inner.{Reads, blocksIn, spliced, answerOf, Corrects, Flagged, Numbered, gathering, transferred, TransferRoom};
 use corrector::Correction;
 
 // What became of the blocks: the count of all corrections, or the refusal number of the first that is refused (SPECIFICATION 2.7).
@@ -136,7 +136,7 @@ pub fn correct_blocks(stream: &mut [u8], flags: &[u8], row: &[u8]) -> Blocks
         ⌜ (numberOf r ≡ firstRefused (corrected bs fl (take n s)))
         × (numberOf r ≡ 0 → (correctionsOf r ≡ countOf (corrected bs fl (take n s)))
         × (now (stream .exit) ≡ joined (blocksOf (corrected bs fl (take n s))) ++ drop n s))
-        × (now (stream .exit) ≡ leftOf bs fl s) ⌝ }
+        × (now (stream .exit) ≡ leftOf bs fl s) × Numbered r ⌝ }
 {
     let mut total: usize = 0;
     let mut at: usize = 0;

@@ -1,6 +1,6 @@
 -- The answer for the corrected blocks of a square is what its reading gives. Assumes nothing.
 use Rattle.general.proofs.Names.{_≡_, sym, ap, _∙_, _≢_, cond, List, _++_, ℕ, _*_, _≤_, _<_, arith, ℕ-discrete, eq-eqb, ne-eqb, eqb, length, take}
-use Rattle.general.proofs.Names.{take-at, take-all}
+use Rattle.general.proofs.Names.{take-at, take-all, refl, map, [], _∷_, zero, suc, getD, _%_, _/_, ext-getD, mul-le-mul, getD-take, length-take-le, List·getD-eq-default}
 use Rattle.symbol.specs.Version.{sideOf}
 use Rattle.symbol.specs.Layout.{layoutOf, layoutWritten}
 use Rattle.symbol.proofs.Coordinates.{square-le}
@@ -15,21 +15,24 @@ use Rattle.small_marks.proofs.Open.{open-enough}
 use Rattle.codewords.proofs.Placement.{data-front, length-data}
 use Rattle.blocks.specs.declared.Blocks.{Blocks}
 use Rattle.blocks.specs.declared.Blocks.the-variants.{Corrected, Refused}
-use Rattle.blocks.specs.Blockwise.{corrected, firstRefused, countOf, blocksOf, numberOf, correctionsOf}
-use Rattle.blocks.proofs.Corrects.{count-le}
-use Rattle.blocks.proofs.Theorems.{data-left}
+use Rattle.blocks.specs.Blockwise.{outcomes, corrected, firstRefused, countOf, blocksOf, numberOf, correctionsOf}
+use Rattle.blocks.proofs.Corrects.{count-le, refused-le, corrected-small}
+use Rattle.blocks.proofs.Rule.{cut-front}
+use Rattle.blocks.proofs.Theorems.{data-left, unset-corrected}
 use Rattle.segments.specs.FromData.{DataOutcome, fromData}
 use Rattle.marks.specs.Receipt.{receiptOf, refusalReceipt}
-use Rattle.marks.specs.Read.{Reading, readingOf, refused, streamFrom, outcomeReading, bodyOf, blocksIn}
-use Rattle.marks.proofs.Modules.{stream-bits, stream-length}
+use Rattle.marks.specs.Read.{Reading, readingOf, refused, moduleBit, unknownBit, streamFrom, flagsFrom, outcomeReading, bodyOf, blocksIn, flagsIn}
+use Rattle.marks.proofs.Modules.{stream-bits, stream-lit, stream-length, flags-length, flags-none}
+use Rattle.codewords.proofs.Small.{Below}
+use Rattle.general.specs.Each.{Each}
 use Rattle.marks.proofs.Starts.{layout-front, has-blocks, no-blocks, row-total, row-small}
 use Rattle.receipts.specs.declared.Mark.{Mark}
 use Rattle.receipts.specs.declared.SquareAnswer.{SquareAnswer}
-use Rattle.receipts.specs.Inner.{receiptIn, FitsReceipt, Refuses, FromOutcome}
+use Rattle.receipts.specs.Inner.{Unmasked, receiptIn, FitsReceipt, Refuses, FromOutcome}
 use Rattle.receipts.proofs.Receipts.{in-accepted, in-refused}
-use Rattle.decoding.specs.Inner.{PassesFirstRefusals, InTable, HasLayout, HasStream, AnswersStream, readingIn, bodyOr1}
+use Rattle.decoding.specs.Inner.{PassesFirstRefusals, InTable, HasLayout, HasStream, FlagsRead, HasFlags, Maps, AnswersStream, readingIn, bodyOr1}
 use Rattle.bits.specs.Bits.{firstWords}
-use Rattle.blocks.specs.Inner.{correctedData}
+use Rattle.blocks.specs.Inner.{correctedData, Numbered}
 
 -- ---- the answer, as a reading
 
@@ -72,6 +75,9 @@ has-layout m sq out ks F h e =
     let f = layout-front (m .version) out ks (F .low) (F .high) h e in
     record { room = f .0; front = f .1 }
 
+pub square-fits : {m : Mark} {sq : List ℕ} → PassesFirstRefusals m sq → length sq ≤ 35721
+square-fits {m} F = omega (arith, F .size, square-le (sideOf (m .version)) (omega (arith, F .high)))
+
 -- ---- the stream of a square
 
 module _ (m : Mark) (sq ks : List ℕ) (F : PassesFirstRefusals m sq) (D : HasLayout (m .version) ks) where
@@ -84,17 +90,17 @@ module _ (m : Mark) (sq ks : List ℕ) (F : PassesFirstRefusals m sq) (D : HasLa
   bits-are : (f : ℕ → ℕ) → dataBits f 0 ks sq ≡ dataBits f 0 (layoutOf v) sq
   bits-are f = data-front f 0 ks sq ∙ rw front-is
 
-  pub bits-and-kinds : BitsAndKinds ks sq
-  bits-and-kinds = record { kinds = omega (arith, D .room, F .size); few = omega (arith, F .size, square-le (sideOf v) (omega (arith, F .high))); bits = F .bits }
+  pub bits-and-kinds : Below 2 sq → BitsAndKinds ks sq
+  bits-and-kinds b = record { kinds = omega (arith, D .room, F .size); few = omega (arith, F .size, square-le (sideOf v) (omega (arith, F .high))); bits = b }
 
   pub enough-bits : (f : ℕ → ℕ) (total : ℕ) → total ≡ totalOf v → 8 * totalOf v ≤ dataModules (layoutOf v) → 8 * total ≤ length (dataBits f 0 ks sq)
   enough-bits f total e h = omega (arith, length-data f 0 ks sq, ap dataModules front-is)
 
-  pub stream-is : (side total : ℕ) (st rest : List ℕ) → side ≡ sideOf v → total ≡ totalOf v
+  pub stream-is : Below 2 sq → (side total : ℕ) (st rest : List ℕ) → side ≡ sideOf v → total ≡ totalOf v
       → st ≡ toStream (firstWords 8 total (dataBits (maskBit side (m .mask)) 0 ks sq)) ++ rest → HasStream m sq st
-  stream-is side total st rest e f g = record {
+  stream-is b side total st rest e f g = record {
     rest = rest;
-    is = g ∙ rw (f, e, bits-are (maskBit (sideOf v) (m .mask)), stream-bits v sq (F .bits) (m .mask));
+    is = g ∙ rw (f, e, bits-are (maskBit (sideOf v) (m .mask)), stream-bits v sq b (m .mask));
   }
 
   -- ---- whether there are enough data modules
@@ -120,6 +126,10 @@ module _ (m : Mark) (sq ks : List ℕ) (F : PassesFirstRefusals m sq) (D : HasLa
 pub open-layout : (v : ℕ) → HasLayout v (layoutOf v)
 open-layout v = record { room = omega (arith, layout-length v); front = take-all (sideOf v * sideOf v) (layoutOf v) (omega (arith, layout-length v)) }
 
+-- its squares are small
+pub open-square : (v : ℕ) → v < 4 → sideOf v * sideOf v ≤ 729
+open-square v h = let a : sideOf v ≤ 27 = omega arith in mul-le-mul a a
+
 pub open-blocks : (m : Mark) (sq p s : List ℕ) (r : Reading) → PassesFirstRefusals m sq → m .version < 4
     → r ≡ bodyOf (m .version) (m .level) (m .mask) (m .distance) sq p s → r ≡ bodyOr1 m sq p s
 unfolding bodyOr1
@@ -141,65 +151,154 @@ module _ (m : Mark) (R : InTable m) (row : List ℕ) (e : row ≡ rowOf (m .vers
   unfolding shapesOf
   sound = rw e (shapes-sound (m .version) (m .level) (R .low) (R .high) (R .level))
 
-  pub count-small : (r : Blocks) (n : ℕ) (st : List ℕ) → r ≡ Corrected n → (numberOf r ≡ 0 → correctionsOf r ≡ countOf (corrected bs st)) → n < 65536
+  pub count-small : (r : Blocks) (n : ℕ) (fl st : List ℕ) → r ≡ Corrected n → (numberOf r ≡ 0 → correctionsOf r ≡ countOf (corrected bs fl st)) → n < 65536
   unfolding numberOf correctionsOf
-  count-small r n st a c =
-      let k : n ≡ countOf (corrected bs st) = sym (ap correctionsOf a) ∙ c (ap numberOf a) in
-      omega (arith, count-le bs st, row-small (m .version) (m .level) (R .low) (R .high) (R .level) row e)
+  count-small r n fl st a c =
+      let k : n ≡ countOf (corrected bs fl st) = sym (ap correctionsOf a) ∙ c (ap numberOf a) in
+      omega (arith, count-le bs fl st, row-small (m .version) (m .level) (R .low) (R .high) (R .level) row e)
 
-  module _ (st p s sq : List ℕ) (S : HasStream m sq st) where
+  module _ (st fl p s sq : List ℕ) (S : HasStream m sq st) (H : HasFlags (m .version) sq fl) where
     abbrev stream : List ℕ
     stream = streamFrom (m .version) (m .mask) sq
+
+    abbrev flags : List ℕ
+    flags = flagsFrom (m .version) sq
 
     size : length stream ≡ totalSize bs
     size = stream-length (m .version) (m .mask) sq ∙ sym length-is
 
-    taken : take (totalSize bs) st ≡ stream
-    taken = rw (S .is) (take-at stream (S .rest) (totalSize bs) size)
+    -- the flags of the square, or none, come to the same
+    same : (s : List ℕ) → corrected bs fl s ≡ corrected bs flags s
+    same s = elim (ℕ-discrete (length fl) 0) [
+      | yes z ↦ unset-corrected bs fl flags s (λ i. List·getD-eq-default fl 0 {n = i} (omega arith)) (H .none z)
+      | no z ↦
+          let x = H .some (omega arith) in
+          ap (λ (f : List ℕ). corrected bs f s) (x .is)
+          ∙ ap (λ (fs : List (List ℕ)). outcomes bs fs (cut bs s)) (cut-front bs flags (x .rest) (omega (arith, flags-length (m .version) sq, length-is)))
+    ]
+
+    taken : corrected bs fl (take (totalSize bs) st) ≡ corrected bs flags stream
+    taken = same _ ∙ ap (corrected bs flags) (rw (S .is) (take-at stream (S .rest) (totalSize bs) size))
 
     -- the reading by a row's blocks
     abbrev reading : List Shape → Reading
     reading cs =
-        cond (eqb (firstRefused (corrected cs stream)) 0)
-        (outcomeReading (m .version) (m .level) (m .mask) (m .distance) (countOf (corrected cs stream)) (fromData (correctedData cs stream) p s))
-        (refused (firstRefused (corrected cs stream)) p s)
+        cond (eqb (firstRefused (corrected cs flags stream)) 0)
+        (outcomeReading (m .version) (m .level) (m .mask) (m .distance) (countOf (corrected cs flags stream)) (fromData (correctedData cs flags stream) p s))
+        (refused (firstRefused (corrected cs flags stream)) p s)
 
     reading-is : reading bs ≡ bodyOf (m .version) (m .level) (m .mask) (m .distance) sq p s
-    unfolding bodyOf blocksIn shapesOf
+    unfolding bodyOf blocksIn flagsIn shapesOf
     reading-is = ap (λ (r : List ℕ). reading (shapes r)) e
 
-    refused-is : (r : Blocks) (t : SquareAnswer) → r ≡ Refused → numberOf r ≡ firstRefused (corrected bs (take (totalSize bs) st)) → Refuses 6 t
-        → readingIn m t p s ≡ bodyOf (m .version) (m .level) (m .mask) (m .distance) sq p s
+    refused-is : (r : Blocks) (n : ℕ) (t : SquareAnswer) → r ≡ Refused n → 0 < n → numberOf r ≡ firstRefused (corrected bs fl (take (totalSize bs) st))
+        → Refuses n t → readingIn m t p s ≡ bodyOf (m .version) (m .level) (m .mask) (m .distance) sq p s
     unfolding numberOf
-    refused-is r t a b R6 =
-        let six : firstRefused (corrected bs stream) ≡ 6 = rw taken at (sym b ∙ ap numberOf a) in
-        let is : refused 6 p s ≡ reading bs = rw six in
-        refuses-reading m 6 t p s (λ z. omega arith) R6 ∙ is ∙ reading-is
+    refused-is r n t a d b Rn =
+        let number : firstRefused (corrected bs flags stream) ≡ n = ap firstRefused (sym taken) ∙ sym b ∙ ap numberOf a in
+        let is : refused n p s ≡ reading bs = simp (number, ne-eqb n 0 (λ z. omega arith)) in
+        refuses-reading m n t p s (λ z. omega arith) Rn ∙ is ∙ reading-is
 
     corrected-is : (r : Blocks) (n : ℕ) (st′ rest′ : List ℕ) (t : SquareAnswer) (p′ s′ : List ℕ) → r ≡ Corrected n
-        → numberOf r ≡ firstRefused (corrected bs (take (totalSize bs) st))
-        → (numberOf r ≡ 0 → (correctionsOf r ≡ countOf (corrected bs (take (totalSize bs) st)))
-        × (st′ ≡ joined (blocksOf (corrected bs (take (totalSize bs) st))) ++ rest′))
+        → numberOf r ≡ firstRefused (corrected bs fl (take (totalSize bs) st))
+        → (numberOf r ≡ 0 → (correctionsOf r ≡ countOf (corrected bs fl (take (totalSize bs) st)))
+        × (st′ ≡ joined (blocksOf (corrected bs fl (take (totalSize bs) st))) ++ rest′))
         → FromOutcome n (fromData (dataParts bs (cut bs st′)) p s) t p′ s′
         → readingIn m t p′ s′ ≡ bodyOf (m .version) (m .level) (m .mask) (m .distance) sq p s
     unfolding numberOf correctionsOf
     corrected-is r n st′ rest′ t p′ s′ a b c W =
-        let zero : firstRefused (corrected bs stream) ≡ 0 = rw taken at (sym b ∙ ap numberOf a) in
+        let zero : firstRefused (corrected bs flags stream) ≡ 0 = ap firstRefused (sym taken) ∙ sym b ∙ ap numberOf a in
         let k = c (ap numberOf a) in
-        let count : n ≡ countOf (corrected bs stream) = sym (ap correctionsOf a) ∙ (rw taken at (k .0)) in
-        let parts : dataParts bs (cut bs st′) ≡ correctedData bs stream = rw (k .1, taken) (data-left bs sound stream size rest′) in
+        let count : n ≡ countOf (corrected bs flags stream) = sym (ap correctionsOf a) ∙ k .0 ∙ ap countOf taken in
+        let parts : dataParts bs (cut bs st′) ≡ correctedData bs flags stream = rw (k .1, taken) (data-left bs sound flags stream size rest′) in
         let o = outcomeReading (m .version) (m .level) (m .mask) (m .distance) in
         let is : o n (fromData (dataParts bs (cut bs st′)) p s) ≡ reading bs = rw (zero, count, parts) in
         outcome-reading m n _ t p′ s′ W ∙ is ∙ reading-is
 
-  pub blocks-refused : (st p s : List ℕ) (r : Blocks) (t : SquareAnswer) → r ≡ Refused → numberOf r ≡ firstRefused (corrected bs (take (totalSize bs) st))
-      → Refuses 6 t → AnswersStream m st p s t p s
-  blocks-refused st p s r t a b R6 = record { reading = λ sq S. refused-is st p s sq S r t a b R6; small = refuses-small 6 t (omega arith) R6 }
+  pub blocks-refused : (st fl p s : List ℕ) (r : Blocks) (n : ℕ) (t : SquareAnswer) → r ≡ Refused n → Numbered r
+      → numberOf r ≡ firstRefused (corrected bs fl (take (totalSize bs) st)) → Refuses n t → AnswersStream m st fl p s t p s
+  unfolding numberOf
+  blocks-refused st fl p s r n t a N b Rn =
+      let os = corrected bs fl (take (totalSize bs) st) in
+      record {
+        reading = λ sq S H. refused-is st fl p s sq S H r n t a (N .pos n a) b Rn;
+        small = refuses-small n t (omega (arith, b, ap numberOf a, refused-le os (corrected-small bs fl (take (totalSize bs) st)))) Rn;
+      }
 
-  pub blocks-corrected : (st p s : List ℕ) (r : Blocks) (n : ℕ) (st′ rest′ : List ℕ) (t : SquareAnswer) (p′ s′ : List ℕ) → r ≡ Corrected n
-      → numberOf r ≡ firstRefused (corrected bs (take (totalSize bs) st))
-      → (numberOf r ≡ 0 → (correctionsOf r ≡ countOf (corrected bs (take (totalSize bs) st)))
-      × (st′ ≡ joined (blocksOf (corrected bs (take (totalSize bs) st))) ++ rest′))
+  pub blocks-corrected : (st fl p s : List ℕ) (r : Blocks) (n : ℕ) (st′ rest′ : List ℕ) (t : SquareAnswer) (p′ s′ : List ℕ) → r ≡ Corrected n
+      → numberOf r ≡ firstRefused (corrected bs fl (take (totalSize bs) st))
+      → (numberOf r ≡ 0 → (correctionsOf r ≡ countOf (corrected bs fl (take (totalSize bs) st)))
+      × (st′ ≡ joined (blocksOf (corrected bs fl (take (totalSize bs) st))) ++ rest′))
       → FromOutcome n (fromData (dataParts bs (cut bs st′)) p s) t p′ s′
-      → AnswersStream m st p s t p′ s′
-  blocks-corrected st p s r n st′ rest′ t p′ s′ a b c W = record { reading = λ sq S. corrected-is st p s sq S r n st′ rest′ t p′ s′ a b c W; small = W .small }
+      → AnswersStream m st fl p s t p′ s′
+  blocks-corrected st fl p s r n st′ rest′ t p′ s′ a b c W =
+      record { reading = λ sq S H. corrected-is st fl p s sq S H r n st′ rest′ t p′ s′ a b c W; small = W .small }
+
+-- ---- a square with unknown modules, and one without
+
+module _ (f : ℕ → ℕ) (z : f 0 ≡ 0) where
+  getD-by : (xs : List ℕ) (i : ℕ) → getD (map f xs) i 0 ≡ f (getD xs i 0)
+  getD-by [] i = sym z
+  getD-by (x ∷ xs) zero = refl
+  getD-by (x ∷ xs) (suc i) = getD-by xs i
+
+  pub length-by : (xs : List ℕ) → length (map f xs) ≡ length xs
+  length-by [] = refl
+  length-by (x ∷ xs) = ap suc (length-by xs)
+
+  -- each byte of a square mapped, one after the other
+  pub mapped : (g : ℕ → ℕ) (sq out out′ : List ℕ) (n : ℕ) → Each (λ i x. g (getD sq i 0)) n out out′ → length sq ≤ n → n ≤ length sq → length sq ≤ length out
+      → ((i : ℕ) → g (getD sq i 0) ≡ f (getD sq i 0)) → Maps f sq out′
+  mapped g sq out out′ n E a b h e = record {
+    front =
+        let l : length (take (length sq) out′) ≡ length sq = length-take-le (length sq) out′ (omega (arith, E .size)) in
+        ext-getD 0 (take (length sq) out′) (map f sq) (l ∙ sym (length-by sq)) (λ i o.
+        getD-take (length sq) out′ i 0 (omega arith) ∙ E .done i (omega arith) ∙ e i ∙ sym (getD-by sq i));
+  }
+
+-- halves and remainders of modules
+pub dark-is : (x : ℕ) → x < 3 → x % 2 ≡ moduleBit x
+dark-is zero h = refl
+dark-is (suc zero) h = refl
+dark-is (suc (suc zero)) h = refl
+dark-is (suc (suc (suc x))) h = absurd (omega arith)
+
+pub unknown-is : (x : ℕ) → x < 3 → x / 2 ≡ unknownBit x
+unknown-is zero h = refl
+unknown-is (suc zero) h = refl
+unknown-is (suc (suc zero)) h = refl
+unknown-is (suc (suc (suc x))) h = absurd (omega arith)
+
+-- the square in a buffer whose front is f of each module, read with mask k
+module _ (m : Mark) (sq : List ℕ) (F : PassesFirstRefusals m sq) (f : ℕ → ℕ) (z : f 0 ≡ 0) (small : Below 2 (map f sq)) (out : List ℕ) (M : Maps f sq out) where
+  abbrev lent : List ℕ
+  lent = take (length sq) out
+
+  pub lent-bits : Below 2 lent
+  lent-bits = rw (M .front) small
+
+  pub lent-passes : (k : ℕ) → k ≤ 3 → PassesFirstRefusals (record { version = m .version; level = m .level; mask = k; distance = m .distance }) lent
+  lent-passes k h = record {
+    low = F .low;
+    high = F .high;
+    level = F .level;
+    mask = h;
+    near = F .near;
+    size = ap length (M .front) ∙ length-by f z sq ∙ F .size;
+    modules = λ i. omega (arith, lent-bits i);
+  }
+
+-- its stream is that of the square, or its flags
+pub dark-stream : (m : Mark) (sq out st : List ℕ) → Maps moduleBit sq out → HasStream m (take (length sq) out) st → HasStream m sq st
+dark-stream m sq out st M S = record { rest = S .rest; is = S .is ∙ rw (M .front, ← (stream-lit (m .version) sq (m .mask))) }
+
+pub flags-stream : (m r : Mark) (sq out fl : List ℕ) → Unmasked m r → Maps unknownBit sq out → HasStream r (take (length sq) out) fl → FlagsRead (m .version) sq fl
+unfolding flagsFrom
+flags-stream m r sq out fl U M S = record { rest = S .rest; is = S .is ∙ rw (M .front, U .is) }
+
+pub flags-some : {v : ℕ} {sq fl : List ℕ} → FlagsRead v sq fl → 0 < length fl → HasFlags v sq fl
+flags-some R h = record { some = λ _. R; none = λ e. absurd (omega arith) }
+
+-- no flags, where no module is unknown
+pub flags-absent : {v : ℕ} {sq fl : List ℕ} → Below 2 sq → length fl ≡ 0 → HasFlags v sq fl
+flags-absent {v} {sq} b e = record { some = λ h. absurd (omega arith); none = λ _. flags-none v sq b }

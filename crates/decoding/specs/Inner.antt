@@ -1,13 +1,13 @@
 -- What inner functions say of each other. Nobody has to believe it: the contracts of the operations do not cite it.
 use mathlib.Core.Path.{_≡_}
-use mathlib.Core.Bool.{cond}
-use mathlib.Core.List.{List, _++_}
+use mathlib.Core.Bool.{Bool, false, cond}
+use mathlib.Core.List.{List, _++_, map}
 use Prim.Native.Nat.{ℕ, _*_, _<_, _≤_}
 use lib.ListN.{length, getD, take}
 use Rattle.symbol.specs.Version.{sideOf}
 use Rattle.symbol.specs.Layout.{layoutOf}
 use Rattle.block_table.specs.Blocks.{hasBlocks}
-use Rattle.marks.specs.Read.{Reading, readingOf, refused, streamFrom, bodyOf}
+use Rattle.marks.specs.Read.{Reading, readingOf, refused, streamFrom, flagsFrom, bodyOf}
 use Rattle.receipts.specs.declared.Mark.{Mark}
 use Rattle.receipts.specs.declared.SquareAnswer.{SquareAnswer}
 use Rattle.receipts.specs.Inner.{receiptIn, FitsReceipt}
@@ -20,7 +20,7 @@ pub record PassesFirstRefusals (m : Mark) (sq : List ℕ) : Type 0 where
   pub mask : m .mask ≤ 3
   pub near : m .distance ≤ 10
   pub size : length sq ≡ sideOf (m .version) * sideOf (m .version)
-  pub bits : (i : ℕ) → getD sq i 0 < 2
+  pub modules : (i : ℕ) → getD sq i 0 < 3
 
 -- a version and level of the table
 pub record InTable (m : Mark) : Type 0 where
@@ -38,13 +38,31 @@ pub record HasStream (m : Mark) (sq st : List ℕ) : Type 0 where
   pub rest : List ℕ
   pub is : st ≡ streamFrom (m .version) (m .mask) sq ++ rest
 
+-- no module of a square is unknown, unless it is said so
+pub record Tells (unknown : Bool) (sq : List ℕ) : Type 0 where
+  pub none : unknown ≡ false → (i : ℕ) → getD sq i 0 < 2
+
+-- the flags of a square at the front of a buffer
+pub record FlagsRead (v : ℕ) (sq fl : List ℕ) : Type 0 where
+  pub rest : List ℕ
+  pub is : fl ≡ flagsFrom v sq ++ rest
+
+-- the same; or no flags at all, where none is set
+pub record HasFlags (v : ℕ) (sq fl : List ℕ) : Type 0 where
+  pub some : 0 < length fl → FlagsRead v sq fl
+  pub none : length fl ≡ 0 → (i : ℕ) → getD (flagsFrom v sq) i 0 ≡ 0
+
+-- the first bytes of a buffer are f of those of a square
+pub record Maps (f : ℕ → ℕ) (sq out : List ℕ) : Type 0 where
+  pub front : take (length sq) out ≡ map f sq
+
 -- what a square read with m gives, if t is the answer for it
 unfoldable pub readingIn : Mark → SquareAnswer → List ℕ → List ℕ → Reading
 readingIn m t p s = readingOf (t .number) (receiptIn m t) p s
 
--- t is the answer for a stream: it is what each square with this stream gives, p′ and s′ being payload and script afterwards
-pub record AnswersStream (m : Mark) (st p s : List ℕ) (t : SquareAnswer) (p′ s′ : List ℕ) : Type 0 where
-  pub reading : (sq : List ℕ) → HasStream m sq st → readingIn m t p′ s′ ≡ bodyOf (m .version) (m .level) (m .mask) (m .distance) sq p s
+-- t is the answer for a stream with flags: it is what each square with these gives, p′ and s′ being payload and script afterwards
+pub record AnswersStream (m : Mark) (st fl p s : List ℕ) (t : SquareAnswer) (p′ s′ : List ℕ) : Type 0 where
+  pub reading : (sq : List ℕ) → HasStream m sq st → HasFlags (m .version) sq fl → readingIn m t p′ s′ ≡ bodyOf (m .version) (m .level) (m .mask) (m .distance) sq p s
   pub small : FitsReceipt t
 
 -- what the square gives, or 1 for a version and level without blocks

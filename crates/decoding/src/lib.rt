@@ -1,23 +1,48 @@
 // The answer for a square that has passed the first refusals: its stream is read and corrected, and the segments of its data are decoded.
 ghost use mathlib.Core.Path.{_≡_};
-ghost use Prim.Native.Nat.{_*_, _<_, _≤_};
-ghost use lib.ListN.{length};
+ghost use Prim.Native.Nat.{ℕ, _*_, _<_, _≤_};
+ghost use lib.ListN.{length, getD};
 ghost use Rattle.symbol.specs.Version.{sideOf};
 ghost use Rattle.symbol.specs.Layout.{layoutOf};
 ghost use Rattle.block_table.specs.Blocks.{totalOf};
 ghost use Rattle.symbol.specs.Layout.{dataModules};
-ghost use Rattle.marks.specs.Read.{bodyOf};
+ghost use Rattle.marks.specs.Read.{moduleBit, unknownBit, bodyOf};
+ghost use Rattle.blocks.specs.Inner.{Flagged};
 ghost use Rattle.receipts.specs.Inner.{FitsReceipt};
-ghost use Rattle.decoding.specs.Inner.{PassesFirstRefusals, InTable, HasLayout, HasStream, AnswersStream, readingIn, bodyOr1};
+ghost use Rattle.decoding.specs.Inner.{PassesFirstRefusals, Tells, InTable, HasLayout, HasStream, FlagsRead, Maps, AnswersStream, readingIn, bodyOr1};
 use blocks::Blocks;
 use receipts::Mark;
 use receipts::SquareAnswer;
 use symbol::Version;
 
-// The stream of a square whose layout is drawn.
+// The modules of a square as bits: 1 for a dark one, 0 for a light or unknown one.
+fn dark_bits(out: &mut [u8], square: &[u8])
+    requires { ⌜ (length (now square) ≤ length (now out)) × ((i : ℕ) → getD (now square) i 0 < 3) ⌝ }
+    ensures { λ _. ⌜ Maps moduleBit (now (square .entry)) (now (out .exit)) ⌝ }
+{
+    let mut i: usize = 0;
+    while i < square.len() {
+        out[i] = square[i] % 2;
+        i += 1;
+    }
+}
+
+// The same with 1 for an unknown one.
+fn unknown_bits(out: &mut [u8], square: &[u8])
+    requires { ⌜ (length (now square) ≤ length (now out)) × ((i : ℕ) → getD (now square) i 0 < 3) ⌝ }
+    ensures { λ _. ⌜ Maps unknownBit (now (square .entry)) (now (out .exit)) ⌝ }
+{
+    let mut i: usize = 0;
+    while i < square.len() {
+        out[i] = square[i] / 2;
+        i += 1;
+    }
+}
+
+// The stream of a square of bits whose layout is drawn.
 fn read_stream(stream: &mut [u8], kinds: &[u8], square: &[u8], m: Mark)
     requires { ⌜ PassesFirstRefusals m (now square) × HasLayout (m .version) (now kinds) × (8 * totalOf (m .version) ≤ dataModules (layoutOf (m .version)))
-        × (totalOf (m .version) ≤ length (now stream)) ⌝ }
+        × (totalOf (m .version) ≤ length (now stream)) × ((i : ℕ) → getD (now square) i 0 < 2) ⌝ }
     ensures { λ _. ⌜ HasStream m (now (square .entry)) (now (stream .exit)) ⌝ }
 {
     let side = Version { number: m.version }.side();
@@ -29,7 +54,8 @@ fn read_stream(stream: &mut [u8], kinds: &[u8], square: &[u8], m: Mark)
 
 // The same for a version with no alignment patterns, whose layout need not be drawn.
 fn read_open_stream(stream: &mut [u8], square: &[u8], m: Mark)
-    requires { ⌜ PassesFirstRefusals m (now square) × (m .version < 4) × (totalOf (m .version) ≤ length (now stream)) ⌝ }
+    requires { ⌜ PassesFirstRefusals m (now square) × (m .version < 4) × (totalOf (m .version) ≤ length (now stream))
+        × ((i : ℕ) → getD (now square) i 0 < 2) ⌝ }
     ensures { λ _. ⌜ HasStream m (now (square .entry)) (now (stream .exit)) ⌝ }
 {
     let total = block_table::total_codewords(m.version);
@@ -38,19 +64,60 @@ fn read_open_stream(stream: &mut [u8], square: &[u8], m: Mark)
     codewords::to_stream(stream, &found, total);
 }
 
-// A stream corrected, and its segments. The answer holds for every square with this stream.
+// The flags of a square with unknown modules whose layout is drawn: the stream of a square that is dark where modules are unknown, under mask 0.
+// That square is made in a lent buffer.
+fn read_flags(flags: &mut [u8], bits: &mut [u8], kinds: &[u8], square: &[u8], m: Mark)
+    requires { ⌜ PassesFirstRefusals m (now square) × HasLayout (m .version) (now kinds) × (8 * totalOf (m .version) ≤ dataModules (layoutOf (m .version)))
+        × (totalOf (m .version) ≤ length (now flags)) × (length (now square) ≤ length (now bits)) ⌝ }
+    ensures { λ _. ⌜ FlagsRead (m .version) (now (square .entry)) (now (flags .exit)) ⌝ }
+{
+    unknown_bits(bits, square);
+    read_stream(flags, kinds, &bits[..square.len()], receipts::unmasked(m));
+}
+
+// Its stream: that of the square with its unknown modules light.
+fn read_dark(stream: &mut [u8], bits: &mut [u8], kinds: &[u8], square: &[u8], m: Mark)
+    requires { ⌜ PassesFirstRefusals m (now square) × HasLayout (m .version) (now kinds) × (8 * totalOf (m .version) ≤ dataModules (layoutOf (m .version)))
+        × (totalOf (m .version) ≤ length (now stream)) × (length (now square) ≤ length (now bits)) ⌝ }
+    ensures { λ _. ⌜ HasStream m (now (square .entry)) (now (stream .exit)) ⌝ }
+{
+    dark_bits(bits, square);
+    read_stream(stream, kinds, &bits[..square.len()], m);
+}
+
+// The same for a version with no alignment patterns.
+fn read_open_flags(flags: &mut [u8], bits: &mut [u8], square: &[u8], m: Mark)
+    requires { ⌜ PassesFirstRefusals m (now square) × (m .version < 4) × (totalOf (m .version) ≤ length (now flags))
+        × (length (now square) ≤ length (now bits)) ⌝ }
+    ensures { λ _. ⌜ FlagsRead (m .version) (now (square .entry)) (now (flags .exit)) ⌝ }
+{
+    unknown_bits(bits, square);
+    read_open_stream(flags, &bits[..square.len()], receipts::unmasked(m));
+}
+
+fn read_open_dark(stream: &mut [u8], bits: &mut [u8], square: &[u8], m: Mark)
+    requires { ⌜ PassesFirstRefusals m (now square) × (m .version < 4) × (totalOf (m .version) ≤ length (now stream))
+        × (length (now square) ≤ length (now bits)) ⌝ }
+    ensures { λ _. ⌜ HasStream m (now (square .entry)) (now (stream .exit)) ⌝ }
+{
+    dark_bits(bits, square);
+    read_open_stream(stream, &bits[..square.len()], m);
+}
+
+// A stream with its flags corrected, and its segments. The answer holds for every square with these.
 fn decode_stream(
     stream: &mut [u8],
+    flags: &[u8],
     spare: &mut [u8],
     m: Mark,
     payload: &mut [u8],
     script: &mut [u8],
 ) -> SquareAnswer
-    requires { ⌜ InTable m × (totalOf (m .version) ≤ length (now stream)) ⌝ }
-    ensures { λ r. ⌜ AnswersStream m (now (stream .entry)) (now (payload .entry)) (now (script .entry)) r (now (payload .exit)) (now (script .exit)) ⌝ }
+    requires { ⌜ InTable m × (totalOf (m .version) ≤ length (now stream)) × Flagged (now flags) (totalOf (m .version)) ⌝ }
+    ensures { λ r. ⌜ AnswersStream m (now (stream .entry)) (now (flags .entry)) (now (payload .entry)) (now (script .entry)) r (now (payload .exit)) (now (script .exit)) ⌝ }
 {
     let row = block_table::block_row(m.version, m.level);
-    match blocks::correct_blocks(stream, &row) {
+    match blocks::correct_blocks(stream, flags, &row) {
         Blocks::Corrected(count) => receipts::decode_segments(
             stream,
             spare,
@@ -59,12 +126,12 @@ fn decode_stream(
             payload,
             script,
         ),
-        Blocks::Refused => receipts::refused(6),
+        Blocks::Refused(number) => receipts::refused(number),
     }
 }
 
-// The answer for a square whose layout is drawn. A small one has a small buffer, which is sooner cleared.
-fn decode_with_layout(
+// The answer for a square with unknown modules whose layout is drawn.
+fn decode_unknown(
     kinds: &mut [u8],
     square: &[u8],
     m: Mark,
@@ -75,25 +142,51 @@ fn decode_with_layout(
     ensures { λ r. ⌜ (readingIn m r (now (payload .exit)) (now (script .exit))
         ≡ bodyOf (m .version) (m .level) (m .mask) (m .distance) (now (square .entry)) (now (payload .entry)) (now (script .entry))) × FitsReceipt r ⌝ }
 {
+    let mut bits = [0u8; Version::MAX_SQUARE];
+    let mut flags = [0u8; block_table::MAX_CODEWORDS];
+    read_flags(&mut flags, &mut bits, kinds, square, m);
+    let mut stream = [0u8; block_table::MAX_CODEWORDS];
+    read_dark(&mut stream, &mut bits, kinds, square, m);
+    decode_stream(&mut stream, &flags, kinds, m, payload, script)
+}
+
+// The answer for a square whose layout is drawn. A small one has a small buffer, which is sooner cleared.
+fn decode_with_layout(
+    kinds: &mut [u8],
+    square: &[u8],
+    unknown: bool,
+    m: Mark,
+    payload: &mut [u8],
+    script: &mut [u8],
+) -> SquareAnswer
+    requires { ⌜ PassesFirstRefusals m (now square) × HasLayout (m .version) (now kinds) × (8 * totalOf (m .version) ≤ dataModules (layoutOf (m .version)))
+        × Tells unknown (now square) ⌝ }
+    ensures { λ r. ⌜ (readingIn m r (now (payload .exit)) (now (script .exit))
+        ≡ bodyOf (m .version) (m .level) (m .mask) (m .distance) (now (square .entry)) (now (payload .entry)) (now (script .entry))) × FitsReceipt r ⌝ }
+{
+    if unknown {
+        return decode_unknown(kinds, square, m, payload, script);
+    }
     if m.version <= 10 {
         let mut stream = [0u8; 155];
         read_stream(&mut stream, kinds, square, m);
-        return decode_stream(&mut stream, kinds, m, payload, script);
+        return decode_stream(&mut stream, &square[..0], kinds, m, payload, script);
     }
     let mut stream = [0u8; block_table::MAX_CODEWORDS];
     read_stream(&mut stream, kinds, square, m);
-    decode_stream(&mut stream, kinds, m, payload, script)
+    decode_stream(&mut stream, &square[..0], kinds, m, payload, script)
 }
 
 // The same, or 1 for a version with too few data modules: the rows of the table hold their rule.
 fn decode_or_refuse(
     kinds: &mut [u8],
     square: &[u8],
+    unknown: bool,
     m: Mark,
     payload: &mut [u8],
     script: &mut [u8],
 ) -> SquareAnswer
-    requires { ⌜ PassesFirstRefusals m (now square) × HasLayout (m .version) (now kinds) ⌝ }
+    requires { ⌜ PassesFirstRefusals m (now square) × HasLayout (m .version) (now kinds) × Tells unknown (now square) ⌝ }
     ensures { λ r. ⌜ (readingIn m r (now (payload .exit)) (now (script .exit))
         ≡ bodyOr1 m (now (square .entry)) (now (payload .entry)) (now (script .entry))) × FitsReceipt r ⌝ }
 {
@@ -102,11 +195,11 @@ fn decode_or_refuse(
     {
         return receipts::refused(1);
     }
-    decode_with_layout(kinds, square, m, payload, script)
+    decode_with_layout(kinds, square, unknown, m, payload, script)
 }
 
-// The answer for a square of version 1 to 3, which have no alignment patterns: no layout, and a small buffer, which is sooner cleared.
-fn decode_open(
+// The answer for a square of version 1 to 3 with unknown modules.
+fn decode_open_unknown(
     spare: &mut [u8],
     square: &[u8],
     m: Mark,
@@ -115,28 +208,53 @@ fn decode_open(
 ) -> SquareAnswer
     requires { ⌜ PassesFirstRefusals m (now square) × (m .version < 4) ⌝ }
     ensures { λ r. ⌜ (readingIn m r (now (payload .exit)) (now (script .exit))
-        ≡ bodyOr1 m (now (square .entry)) (now (payload .entry)) (now (script .entry))) × FitsReceipt r ⌝ }
+        ≡ bodyOf (m .version) (m .level) (m .mask) (m .distance) (now (square .entry)) (now (payload .entry)) (now (script .entry))) × FitsReceipt r ⌝ }
 {
+    let mut bits = [0u8; 729];
+    let mut flags = [0u8; 50];
+    read_open_flags(&mut flags, &mut bits, square, m);
     let mut stream = [0u8; 50];
-    read_open_stream(&mut stream, square, m);
-    decode_stream(&mut stream, spare, m, payload, script)
+    read_open_dark(&mut stream, &mut bits, square, m);
+    decode_stream(&mut stream, &flags, spare, m, payload, script)
 }
 
-// The answer for a square that has passed the first refusals. The buffer for its layout is lent.
-pub fn decode(
-    kinds: &mut [u8],
+// The answer for a square of version 1 to 3, which have no alignment patterns: no layout, and a small buffer, which is sooner cleared.
+fn decode_open(
+    spare: &mut [u8],
     square: &[u8],
+    unknown: bool,
     m: Mark,
     payload: &mut [u8],
     script: &mut [u8],
 ) -> SquareAnswer
-    requires { ⌜ PassesFirstRefusals m (now square) × (sideOf (m .version) * sideOf (m .version) ≤ length (now kinds)) ⌝ }
+    requires { ⌜ PassesFirstRefusals m (now square) × (m .version < 4) × Tells unknown (now square) ⌝ }
+    ensures { λ r. ⌜ (readingIn m r (now (payload .exit)) (now (script .exit))
+        ≡ bodyOr1 m (now (square .entry)) (now (payload .entry)) (now (script .entry))) × FitsReceipt r ⌝ }
+{
+    if unknown {
+        return decode_open_unknown(spare, square, m, payload, script);
+    }
+    let mut stream = [0u8; 50];
+    read_open_stream(&mut stream, square, m);
+    decode_stream(&mut stream, &square[..0], spare, m, payload, script)
+}
+
+// The answer for a square that has passed the first refusals, and whether it has unknown modules. The buffer for its layout is lent.
+pub fn decode(
+    kinds: &mut [u8],
+    square: &[u8],
+    unknown: bool,
+    m: Mark,
+    payload: &mut [u8],
+    script: &mut [u8],
+) -> SquareAnswer
+    requires { ⌜ PassesFirstRefusals m (now square) × (sideOf (m .version) * sideOf (m .version) ≤ length (now kinds)) × Tells unknown (now square) ⌝ }
     ensures { λ r. ⌜ (readingIn m r (now (payload .exit)) (now (script .exit))
         ≡ bodyOr1 m (now (square .entry)) (now (payload .entry)) (now (script .entry))) × FitsReceipt r ⌝ }
 {
     if m.version < 4 {
-        return decode_open(kinds, square, m, payload, script);
+        return decode_open(kinds, square, unknown, m, payload, script);
     }
     symbol::layout(m.version, kinds);
-    decode_or_refuse(kinds, square, m, payload, script)
+    decode_or_refuse(kinds, square, unknown, m, payload, script)
 }

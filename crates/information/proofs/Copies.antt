@@ -1,9 +1,9 @@
 -- What the functions on information modules need of numbers.
-use Rattle.general.proofs.Names.{_≡_, refl, sym, ap, ap₂, subst, _∙_, Bool, true, false, List, ℕ, zero, suc, _+_, _-_, _*_, _^_, _<_, _≤_, mul-le-mul}
-use Rattle.general.proofs.Names.{pow-suc, add-one, arith, lit<, set}
+use Rattle.general.proofs.Names.{_≡_, refl, sym, ap, ap₂, subst, _∙_, Bool, true, false, List, [], _∷_, ℕ, zero, suc, _+_, _-_, _*_, _^_, _<_, _≤_, mul-le-mul}
+use Rattle.general.proofs.Names.{pow-suc, add-one, arith, lit<, getD, set, _%_}
 use lib.Pow.{pow-mono}
 use Rattle.information.specs.Information.{positionRow, positionColumn, infoPosition}
-use Rattle.information.specs.Inner.{ArmWritten, numberFrom, bitOf, stored, bitsWritten, copyWritten}
+use Rattle.information.specs.Inner.{ArmWritten, lowest, numberFrom, bitOf, stored, bitsWritten, copyWritten}
 use Rattle.information.proofs.Read.{copy-written}
 use Rattle.information.proofs.Distinct.{row-lt, place-lt}
 
@@ -22,6 +22,15 @@ module _ (s n : ℕ) (big : 23 ≤ s) (hi : s ≤ 189) (h : n < 34) {r : ℕ} (d
 
     pub first-lt : r * s + c < s * s
     first-lt = subst (λ (k : ℕ). k < s * s) (sym first-is) (place-lt s big false n h)
+
+-- the lowest bit of a byte, and that it is one
+pub lowest-at : (g : List ℕ) (i : ℕ) → getD g i 0 % 2 ≡ getD (lowest g) i 0
+lowest-at [] i = refl
+lowest-at (m ∷ g) zero = refl
+lowest-at (m ∷ g) (suc i) = lowest-at g i
+
+pub lowest-lt : (g : List ℕ) (i : ℕ) → getD (lowest g) i 0 < 2
+lowest-lt g i = omega (arith, lowest-at g i)
 
 number-lt : (f : ℕ → ℕ) → ((k : ℕ) → f k < 2) → (n : ℕ) → numberFrom f n < 2 ^ n
 unfolding numberFrom

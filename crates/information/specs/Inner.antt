@@ -1,7 +1,7 @@
 -- What only inner functions use. Nobody has to believe it.
 use mathlib.Core.Path.{_≡_}
 use mathlib.Core.Bool.{Bool, cond}
-use mathlib.Core.List.{List, [], _∷_}
+use mathlib.Core.List.{List, [], _∷_, map}
 use Prim.Native.Nat.{ℕ, zero, suc, _+_, _-_, _*_, _/_, _%_, _^_, _<_}
 use lib.Dec.{eqb}
 use lib.Bits.{bitXor}
@@ -29,6 +29,10 @@ pub record Found (d : ℕ → ℕ) (k : ℕ) (b : Best) : Type 0 where
 -- a word written into a copy
 abbrev pub copyWritten : ℕ → Bool → ℕ → List ℕ → List ℕ
 copyWritten s second w g = storeAt (positions s second) (lowBits 34 w) g
+
+-- the lowest bit of each byte
+abbrev pub lowest : List ℕ → List ℕ
+lowest g = map (λ m. m % 2) g
 
 -- module n of a copy in a square
 abbrev pub moduleOf : ℕ → Bool → List ℕ → ℕ → ℕ

@@ -8,7 +8,7 @@ ghost use lib.Bits.{bitXor};
 ghost use lib.Count.{ones};
 ghost use lib.ListN.{length, getD};
 ghost use Rattle.information.specs.Information.{timesX, gf16Mul, generatorTimes, remainder, wordOf, wordDistance, nearestWord, positionRow, positionColumn, infoPosition, copyOf, infoWritten, isInfo, infoOf, infoAnswer, nearestOf, nearestAnswer};
-ghost use Rattle.information.specs.Inner.{Found, ArmWritten, moduleOf, numberFrom, bitOf, plusIfOdd, copyWritten};
+ghost use Rattle.information.specs.Inner.{Found, ArmWritten, lowest, moduleOf, numberFrom, bitOf, plusIfOdd, copyWritten};
 use symbol::Version;
 
 // What operation Information word answers.
@@ -261,24 +261,24 @@ fn byte_as_u64(x: u8) -> u64
 // The bits from to below to of a copy, behind those before. Called for one arm at a time: the compiler then knows the row or the column of
 // each bit and unrolls the loop.
 fn read_arm(square: &[u8], side: usize, second: bool, word: u64, from: usize, to: usize) -> u64
-    requires { ⌜ (23 ≤ side) × (side ≤ 189) × (side * side ≤ length (now square)) × ((i : ℕ) → getD (now square) i 0 < 2) × (from ≤ to) × (to ≤ 34)
-        × (word ≡ numberFrom (moduleOf side second (now square)) from) ⌝ }
-    ensures { λ r. ⌜ r ≡ numberFrom (moduleOf side second (now (square .entry))) to ⌝ }
+    requires { ⌜ (23 ≤ side) × (side ≤ 189) × (side * side ≤ length (now square)) × (from ≤ to) × (to ≤ 34)
+        × (word ≡ numberFrom (moduleOf side second (lowest (now square))) from) ⌝ }
+    ensures { λ r. ⌜ r ≡ numberFrom (moduleOf side second (lowest (now (square .entry)))) to ⌝ }
 {
     let mut w = word;
     let mut n = from;
     while n < to {
         let i = info_position(side, second, n);
-        w = w * 2 + byte_as_u64(square[i]);
+        w = w * 2 + byte_as_u64(square[i] % 2);
         n += 1;
     }
     w
 }
 
-// A copy, read out of a square of 0 and 1.
+// A copy, read out of the lowest bits of a square: of its modules an unknown one is light.
 pub fn read_copy(square: &[u8], side: usize, second: bool) -> u64
-    requires { ⌜ (23 ≤ side) × (side ≤ 189) × (side * side ≤ length (now square)) × ((i : ℕ) → getD (now square) i 0 < 2) ⌝ }
-    ensures { λ r. ⌜ r ≡ copyOf side second (now (square .entry)) ⌝ }
+    requires { ⌜ (23 ≤ side) × (side ≤ 189) × (side * side ≤ length (now square)) ⌝ }
+    ensures { λ r. ⌜ r ≡ copyOf side second (lowest (now (square .entry))) ⌝ }
 {
     let a = read_arm(square, side, second, 0, 0, 9);
     let b = read_arm(square, side, second, a, 9, 17);

@@ -1,7 +1,8 @@
 -- The greatest byte of a square says whether all are modules. Assumes nothing.
 use Rattle.general.proofs.Names.{_≡_, refl, sym, ap, _∙_, inl, inr, _≢_, Bool, true, false, List, [], _∷_, ℕ, _+_, _*_, _≤_, _<_, arith, ℕ-discrete, decLt}
-use Rattle.general.proofs.Names.{eq-eqb, ne-eqb, eqb, length, getD, List·getD-eq-default}
+use Rattle.general.proofs.Names.{eq-eqb, ne-eqb, eqb, ltb, ltb-false, true≢false, length, getD, List·getD-eq-default}
 use Rattle.marks.specs.Read.{firstRefusal, unless}
+use Rattle.decoding.specs.Inner.{Tells}
 use Rattle.reader.specs.Inner.{GreaterOf, GreatestByte}
 use Rattle.marks.proofs.Refusals.{unless-true, first-skips, first-takes}
 use Rattle.marks.proofs.Modules.{modules-below, below-modules}
@@ -36,15 +37,22 @@ greatest-end sq n r G h = record {
   some = G .some;
 }
 
-pub all-modules : (sq : List ℕ) (r : ℕ) → GreatestByte sq r → r ≤ 1 → areModules sq ≡ true
+pub all-modules : (sq : List ℕ) (r : ℕ) → GreatestByte sq r → r ≤ 2 → areModules sq ≡ true
 all-modules sq r G h = below-modules sq (λ i. omega (arith, G .all i))
 
-pub not-modules : (sq : List ℕ) (r : ℕ) → GreatestByte sq r → 1 < r → areModules sq ≡ false
+pub not-modules : (sq : List ℕ) (r : ℕ) → GreatestByte sq r → 2 < r → areModules sq ≡ false
 not-modules sq r G h = go (areModules sq) refl
   where
     go : (b : Bool) → areModules sq ≡ b → b ≡ false
     go false e = refl
     go true e = (let f = G .some (omega arith) in absurd (omega (arith, modules-below sq e (f .0), f .1)))
+
+-- whether a module is unknown: it may be said that one is, and that none is where the greatest byte is 1 or 0
+pub told : (sq : List ℕ) → Tells true sq
+told sq = record { none = λ e. absurd (true≢false e) }
+
+pub untold : (sq : List ℕ) (r : ℕ) → GreatestByte sq r → Tells (ltb 1 r) sq
+untold sq r G = record { none = λ e i. omega (arith, G .all i, ltb-false 1 r e) }
 
 -- ---- the refusals 2 and 3
 

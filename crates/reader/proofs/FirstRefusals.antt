@@ -1,6 +1,6 @@
 -- How a reading begins: the receipt, the first refusals, and what is read when they are passed. Assumes nothing.
 use Rattle.general.proofs.Names.{_≡_, refl, sym, ap, _∙_, _≢_, Bool, true, false, cond, List, [], _∷_, ℕ, _*_, _≤_, _<_, arith, ℕ-discrete, le-leb, eqb-true}
-use Rattle.general.proofs.Names.{lt-leb, eqb, leb, length, getD}
+use Rattle.general.proofs.Names.{lt-leb, eqb, leb, length, getD, ap₂, map, suc}
 use Rattle.symbol.specs.Version.{sideOf, isSide, sideVersion, sideRefusal, versionOf}
 use Rattle.symbol.specs.Version.{sideNumber as sideNumber}
 use Rattle.symbol.specs.declared.Version.{Version}
@@ -12,9 +12,11 @@ use Rattle.information.specs.Information.{isInfo, copyOf, NearestAnswer, neares
 use Rattle.block_table.specs.Blocks.{hasBlocks}
 use Rattle.marks.specs.Receipt.{refusalReceipt}
 use Rattle.marks.specs.Read.{Reading, readingOf, refused, firstRefusal, unless, readRefusal, knownRefusal, bodyOf}
-use Rattle.marks.specs.Read.{withReceipt, readOf, readKnownOf, nearestIn}
+use Rattle.marks.specs.Read.{moduleBit, withReceipt, readOf, readKnownOf, nearestIn}
 use Rattle.marks.proofs.Refusals.{true-unless, unless-true, unless-false, first-skips, first-takes, first-left, first-none}
-use Rattle.marks.proofs.Modules.{modules-below, nearest-bits}
+use Rattle.marks.proofs.Modules.{modules-below}
+use Rattle.information.specs.Inner.{lowest}
+use Rattle.decoding.proofs.Readings.{dark-is}
 use Rattle.marks.proofs.Marks.{ranges, version-is}
 use Rattle.marks.proofs.Starts.{in-body, no-receipt, in-refusal, side-range, side-back, level-range, mask-range}
 use Rattle.receipts.specs.declared.Mark.{Mark}
@@ -117,7 +119,7 @@ module _ (sq : List ℕ) (v l k : ℕ) (p s r : List ℕ) where
             mask = R .mask;
             near = omega arith;
             size = eqb-true (length sq) (sideOf v * sideOf v) (true-unless (eqb (length sq) (sideOf v * sideOf v)) 1 (t .0));
-            bits = modules-below sq (true-unless (areModules sq) 2 (t .1));
+            modules = modules-below sq (true-unless (areModules sq) 2 (t .1));
           }
 
       pub known-left : bodyOr1 mark sq p s ≡ known
@@ -127,14 +129,20 @@ module _ (sq : List ℕ) (v l k : ℕ) (p s r : List ℕ) where
 -- ---- the nearest level and mask
 
 -- what reading the copies asks
-pub in-square : (v side : ℕ) (sq : List ℕ) → 1 ≤ v → v ≤ 84 → side ≡ sideOf v → length sq ≡ sideOf v * sideOf v → ((i : ℕ) → getD sq i 0 < 2)
-    → (23 ≤ side) × (side ≤ 189) × (side * side ≤ length sq) × ((i : ℕ) → getD sq i 0 < 2)
-in-square v side sq low high es h b = (omega arith, omega arith, omega (arith, ap (λ (x : ℕ). x * x) es), b)
+pub in-square : (v side : ℕ) (sq : List ℕ) → 1 ≤ v → v ≤ 84 → side ≡ sideOf v → length sq ≡ sideOf v * sideOf v
+    → (23 ≤ side) × (side ≤ 189) × (side * side ≤ length sq)
+in-square v side sq low high es h = (omega arith, omega arith, omega (arith, ap (λ (x : ℕ). x * x) es))
 
-module _ (v side a b : ℕ) (sq : List ℕ) (bits : (i : ℕ) → getD sq i 0 < 2) (es : side ≡ sideOf v) (ea : a ≡ copyOf side false sq) (eb : b ≡ copyOf side true sq)
-    (r : NearestInfo) where
+-- the lowest bit of a module is 1 where it is dark
+lowest-is : (sq : List ℕ) → ((i : ℕ) → getD sq i 0 < 3) → lowest sq ≡ map moduleBit sq
+lowest-is [] h = refl
+lowest-is (m ∷ ms) h = ap₂ (λ (x : ℕ) (xs : List ℕ). x ∷ xs) (dark-is m (h 0)) (lowest-is ms (λ i. h (suc i)))
+
+module _ (v side a b : ℕ) (sq : List ℕ) (modules : (i : ℕ) → getD sq i 0 < 3) (es : side ≡ sideOf v) (ea : a ≡ copyOf side false (lowest sq))
+    (eb : b ≡ copyOf side true (lowest sq)) (r : NearestInfo) where
   nearest-is : (l k d : ℕ) → r ≡ Nearest l k d → nearestAnswer r ≡ nearestOf v a b → record { number = 0; level = l; mask = k; distance = d } ≡ nearestIn v sq
-  nearest-is l k d e f = sym (ap nearestAnswer e) ∙ f ∙ rw (ea, eb, es) (sym (nearest-bits v sq bits))
+  unfolding nearestIn
+  nearest-is l k d e f = sym (ap nearestAnswer e) ∙ f ∙ rw (ea, eb, es, lowest-is sq modules)
 
   pub nearest-mark : (l k d : ℕ) → r ≡ Nearest l k d → nearestAnswer r ≡ nearestOf v a b
       → near.Nearest v sq (record { version = v; level = l; mask = k; distance = d })
@@ -205,14 +213,14 @@ module _ (sq : List ℕ) (side : ℕ) (p s r : List ℕ) where
           length-is : length sq ≡ sideOf v * sideOf v
           length-is = rw (side-back side is-side) (eqb-true _ _ (true-unless (eqb (length sq) (side * side)) 1 (two-skipped sized moduled n [] en z .0)))
 
-          bits-are : (i : ℕ) → getD sq i 0 < 2
-          bits-are = modules-below sq (true-unless (areModules sq) 2 (two-skipped sized moduled n [] en z .1))
+          modules-are : (i : ℕ) → getD sq i 0 < 3
+          modules-are = modules-below sq (true-unless (areModules sq) 2 (two-skipped sized moduled n [] en z .1))
 
           -- what `mark_in` asks
-          pub read-square-fits : (1 ≤ w .number) × (w .number ≤ 84) × (length sq ≡ sideOf (w .number) * sideOf (w .number)) × ((i : ℕ) → getD sq i 0 < 2)
+          pub read-square-fits : (1 ≤ w .number) × (w .number ≤ 84) × (length sq ≡ sideOf (w .number) * sideOf (w .number)) × ((i : ℕ) → getD sq i 0 < 3)
           read-square-fits =
               let g = side-range side is-side in
-              (omega (arith, g .0, number-is), omega (arith, g .1, number-is), rw number-is length-is, bits-are)
+              (omega (arith, g .0, number-is), omega (arith, g .1, number-is), rw number-is length-is, modules-are)
 
           module _ (m : Mark) (N : near.Nearest (w .number) sq m) where
             nearest : near.Nearest v sq m
@@ -237,7 +245,7 @@ module _ (sq : List ℕ) (side : ℕ) (p s r : List ℕ) where
                     mask = omega (arith, nearest .mask, mask-range v sq);
                     near = d;
                     size = rw (nearest .version) length-is;
-                    bits = bits-are;
+                    modules = modules-are;
                   }
 
               only-blocks : readRefusal side sq ≡ firstRefusal (unless (hasBlocks (m .version) (m .level)) 1 ∷ [])

@@ -6,7 +6,7 @@ ghost use lib.Dec.{eqb};
 ghost use lib.ListN.{length, getD};
 ghost use Rattle.symbol.specs.Version.{sideOf};
 ghost use Rattle.marks.specs.Read.{firstRefusal, unless, readingOf, readOf, readKnownOf};
-ghost use Rattle.decoding.specs.Inner.{PassesFirstRefusals, bodyOr1};
+ghost use Rattle.decoding.specs.Inner.{PassesFirstRefusals, Tells, bodyOr1};
 ghost use Rattle.reader.specs.Inner.{GreaterOf, GreatestByte, Nearest, FitsLayout};
 ghost use Rattle.marks.specs.Inner.{areModules};
 use information::NearestInfo;
@@ -33,34 +33,53 @@ fn greatest(square: &[u8]) -> u8
     top
 }
 
-// 2 if the square has not side × side bytes, 3 if a byte is above 1, else 0.
-fn square_refusal(square: &[u8], side: usize) -> usize
+// The refusal of a square, or 0, and whether it has unknown modules.
+pub struct Looked {
+    pub refusal: usize,
+    pub unknown: bool,
+}
+
+// 2 if the square has not side × side bytes, 3 if a byte is above 2, else 0.
+fn look_at(square: &[u8], side: usize) -> Looked
     requires { ⌜ side ≤ 189 ⌝ }
-    ensures { λ r. ⌜ r ≡ firstRefusal (unless (eqb (length (now (square .entry))) (side * side)) 2 ∷ unless (areModules (now (square .entry))) 3 ∷ []) ⌝ }
+    ensures { λ r. ⌜ (r .refusal ≡ firstRefusal (unless (eqb (length (now (square .entry))) (side * side)) 2 ∷ unless (areModules (now (square .entry))) 3 ∷ []))
+        × Tells (r .unknown) (now (square .entry)) ⌝ }
 {
     if square.len() != side * side {
-        return 2;
+        return Looked {
+            refusal: 2,
+            unknown: true,
+        };
     }
-    if 1 < greatest(square) {
-        return 3;
+    let top = greatest(square);
+    if 2 < top {
+        return Looked {
+            refusal: 3,
+            unknown: true,
+        };
     }
-    0
+    Looked {
+        refusal: 0,
+        unknown: 1 < top,
+    }
 }
 
 // A square that has passed the first refusals is read and the receipt written. The buffer for its layout is lent.
 fn finish_in(
     kinds: &mut [u8],
     square: &[u8],
+    unknown: bool,
     m: Mark,
     payload: &mut [u8],
     script: &mut [u8],
     receipt: &mut [u8],
 ) -> usize
-    requires { ⌜ PassesFirstRefusals m (now square) × (length (now receipt) ≡ 12) × (sideOf (m .version) * sideOf (m .version) ≤ length (now kinds)) ⌝ }
+    requires { ⌜ PassesFirstRefusals m (now square) × (length (now receipt) ≡ 12) × (sideOf (m .version) * sideOf (m .version) ≤ length (now kinds))
+        × Tells unknown (now square) ⌝ }
     ensures { λ r. ⌜ readingOf r (now (receipt .exit)) (now (payload .exit)) (now (script .exit))
         ≡ bodyOr1 m (now (square .entry)) (now (payload .entry)) (now (script .entry)) ⌝ }
 {
-    let t = decoding::decode(kinds, square, m, payload, script);
+    let t = decoding::decode(kinds, square, unknown, m, payload, script);
     let number = t.number;
     receipts::write_receipt(receipt, m, t);
     number
@@ -68,7 +87,7 @@ fn finish_in(
 
 // The nearest level and mask of a square, and how far they are.
 fn mark_in(square: &[u8], version: usize) -> Mark
-    requires { ⌜ (1 ≤ version) × (version ≤ 84) × (length (now square) ≡ sideOf version * sideOf version) × ((i : ℕ) → getD (now square) i 0 < 2) ⌝ }
+    requires { ⌜ (1 ≤ version) × (version ≤ 84) × (length (now square) ≡ sideOf version * sideOf version) × ((i : ℕ) → getD (now square) i 0 < 3) ⌝ }
     ensures { λ r. ⌜ Nearest version (now (square .entry)) r ⌝ }
 {
     let side = Version { number: version }.side();
@@ -113,15 +132,15 @@ fn read_square_in(
     let FromSide::Found(v) = Version::from_side(side) else {
         return receipts::refuse(receipt, 1);
     };
-    let early = square_refusal(square, side);
-    if early != 0 {
-        return receipts::refuse(receipt, early);
+    let early = look_at(square, side);
+    if early.refusal != 0 {
+        return receipts::refuse(receipt, early.refusal);
     }
     let m = mark_in(square, v.number);
     if 10 < m.distance {
         return receipts::refuse(receipt, 4);
     }
-    finish_in(kinds, square, m, payload, script, receipt)
+    finish_in(kinds, square, early.unknown, m, payload, script, receipt)
 }
 
 // Read with known version, level, mask, likewise: the information modules are not looked at.
@@ -143,11 +162,11 @@ fn read_known_in(
     if !information::is_info(m.version, m.level, m.mask) {
         return receipts::refuse(receipt, 1);
     }
-    let early = square_refusal(square, Version { number: m.version }.side());
-    if early != 0 {
-        return receipts::refuse(receipt, early);
+    let early = look_at(square, Version { number: m.version }.side());
+    if early.refusal != 0 {
+        return receipts::refuse(receipt, early.refusal);
     }
-    finish_in(kinds, square, m, payload, script, receipt)
+    finish_in(kinds, square, early.unknown, m, payload, script, receipt)
 }
 
 // Read a square. One of version 1 to 10 has a small buffer for its layout, one up to version 40 a larger one: to clear a buffer for any

@@ -19,6 +19,7 @@ decode-with-layout-requires c κs =
       a .pre .1,
       enough (a .args .m) _ _ (a .pre .0) (a .pre .1) _ _ (data-modules .ensures)
           (c .before .before .before .before .total-codewords .ensures .0) (a .args .payload .now) (a .args .script .now) (c .before .before .before .if1 .left),
+      a .pre .2,
     )
 
 returns-2 : tie.Need-returns-2

@@ -12,7 +12,7 @@ read-open-requires c κs =
     let a = c .before .before .before .before in
     let f = a .pre .0 in
     let total = c .before .total-codewords in (
-      (f .low, omega (arith, a .pre .1), f .mask, f .size, f .bits),
+      (f .low, omega (arith, a .pre .1), f .mask, f .size, a .pre .3),
       (
         omega (arith, total .ensures .0, total-open _ (f .low) (a .pre .1)),
         enough-bits (a .args .m) _ _ f (open-layout _) _ (total .result)
@@ -31,7 +31,7 @@ returns : tie.Need-returns
 returns c =
     let a = c .before .before .before .before .before .before .before .before .before .before .before in
     let total = c .before .before .before .before .before .before .before .before .total-codewords in
-    stream-is (a .args .m) _ _ (a .pre .0) (open-layout _) _ _ _ _ refl (total .ensures .0)
+    stream-is (a .args .m) _ _ (a .pre .0) (open-layout _) (a .pre .3) _ _ _ _ refl (total .ensures .0)
     (c .before .before .to-stream .ensures ∙ ap (λ (x : List ℕ). toStream x ++ drop (total .result) (a .args .stream .now))
     (codewords-taken _ _ _ _ (c .before .before .before .before .before .before .read-open .ensures)))
 

@@ -13,7 +13,7 @@ read-codewords-requires c κs =
     let total = c .before .total-codewords .ensures in
     let side = c .before .before .side .ensures in
     let size = f .size ∙ sym (ap (λ (n : ℕ). n * n) side) in (
-      (bits-and-kinds (a .args .m) _ _ f d, omega (arith, side), omega (arith, side, f .high), size),
+      (bits-and-kinds (a .args .m) _ _ f d (a .pre .4), omega (arith, side), omega (arith, side, f .high), size),
       (total .1, enough-bits (a .args .m) _ _ f d _ (c .before .total-codewords .result) (total .0) (a .pre .2)),
     )
 
@@ -21,7 +21,7 @@ returns : tie.Need-returns
 returns c =
     let a = c .before .before .before .before .before .before .before .before .before .before .before .before .before in
     let total = c .before .before .before .before .before .before .before .before .total-codewords in
-    stream-is (a .args .m) _ _ (a .pre .0) (a .pre .1) _ _ _ _ (c .before .before .before .before .before .before .before .before .before .side
+    stream-is (a .args .m) _ _ (a .pre .0) (a .pre .1) (a .pre .4) _ _ _ _ (c .before .before .before .before .before .before .before .before .before .side
     .ensures) (total .ensures .0)
     (c .before .before .to-stream .ensures ∙ ap (λ (x : List ℕ). toStream x ++ drop (total .result) (a .args .stream .now))
     (codewords-taken _ _ _ _ (c .before .before .before .before .before .before .read-codewords .ensures)))

@@ -6,12 +6,12 @@ use Rattle.reader.proofs.mark_in.Tie as tie
 read-copy-requires : tie.Need-read-copy-requires
 read-copy-requires c κs =
     let a = c .before .before .pre in
-    in-square _ _ (c .before .before .args .square .now) (a .0) (a .1) (c .side .ensures) (a .2) (a .3)
+    in-square _ _ (c .before .before .args .square .now) (a .0) (a .1) (c .side .ensures) (a .2)
 
 read-copy-requires-2 : tie.Need-read-copy-requires-2
 read-copy-requires-2 c κs =
     let a = c .before .before .before .pre in
-    in-square _ _ (c .before .before .before .args .square .now) (a .0) (a .1) (c .before .side .ensures) (a .2) (a .3)
+    in-square _ _ (c .before .before .before .args .square .now) (a .0) (a .1) (c .before .side .ensures) (a .2)
 
 returns : tie.Need-returns
 returns c =
@@ -29,7 +29,7 @@ returns-2 c =
     let side = c .before .before .before .before .before .side in
     let read-copy = c .before .before .before .before .read-copy in
     let a = start .pre in
-    absurd (no-version _ _ _ _ _ (a .3) (side .ensures) (read-copy .ensures) (c .before .before .before .read-copy2 .ensures) _ (a .0) (a .1)
+    absurd (no-version _ _ _ _ (start .args .square .now) (a .3) (side .ensures) (read-copy .ensures) (c .before .before .before .read-copy2 .ensures) _ (a .0) (a .1)
     (c .enum-told .given .1) (c .before .before .nearest-info .ensures))
 
 pub mark-in-spec : {M : Type 1} → Rattle.reader.proofs.mark_in.Statement.statement M

@@ -25,28 +25,28 @@ ranged c = let e = not-false _ (c .if2 .left) in (sym (c .before .is-info .ensur
 
 refuse-requires-2 : tie.Need-refuse-requires-2
 refuse-requires-2 c κs =
-    let early = c .before .before in
+    let early = c .before .before .before in
     let test = early .before .before in
     let a = test .before .before .before .before .before .before .before .before .args in
-    (test .before .before .if1 .left, early-small (a .square .now) (early .before .side .result) _ (early .square-refusal .ensures))
+    (test .before .before .if1 .left, early-small (a .square .now) (early .before .side .result) _ (early .look-at .ensures .0))
 
 returns-3 : tie.Need-returns-3
 returns-3 c =
-    let early = c .before .before .before .before .before in
+    let early = c .before .before .before .before .before .before in
     let test = early .before .before in
     let a = test .before .before .before .before .before .before .before .before .args in
     known-early (a .square .now) (a .m .version) (a .m .level) (a .m .mask) _ _ _ (test .before .before .if1 .left) (ranged test .0) _ _
-    (early .before .side .ensures) (early .square-refusal .ensures) (c .before .before .before .before .if3 .taken) _ _ (c .before .before .refuse2 .ensures)
+    (early .before .side .ensures) (early .look-at .ensures .0) (c .before .before .before .before .if3 .taken) _ _ (c .before .before .refuse2 .ensures)
 
 finish-in-requires : tie.Need-finish-in-requires
 finish-in-requires c κs =
-    let early = c .before .before .before .before .before in
+    let early = c .before .before .before .before .before .before in
     let test = early .before .before in
     let start = test .before .before .before .before .before .before .before .before in
     let if1 = test .before .before .if1 in
     let a = start .args in
     let fits = known-fits (a .square .now) (a .m .version) (a .m .level) (a .m .mask) (a .payload .now) (a .script .now) (a .receipt .now)
-    (if1 .left) (ranged test .0) _ _ (early .before .side .ensures) (early .square-refusal .ensures) (c .before .before .before .before .if3 .left) in
+    (if1 .left) (ranged test .0) _ _ (early .before .side .ensures) (early .look-at .ensures .0) (c .before .before .before .before .if3 .left) in
     let passes-first : PassesFirstRefusals (a .m) (a .square .now) = record {
       low = fits .low;
       high = fits .high;
@@ -54,15 +54,15 @@ finish-in-requires c κs =
       mask = fits .mask;
       near = omega (arith, start .pre .1);
       size = fits .size;
-      bits = fits .bits;
+      modules = fits .modules;
     } in
-    (passes-first, if1 .left, start .pre .0 .room _ (fits .high) (fits .size))
+    (passes-first, if1 .left, start .pre .0 .room _ (fits .high) (fits .size), early .look-at .ensures .1)
 
 returns-4 : tie.Need-returns-4
 returns-4 c =
     let finish = c .before .before .before .before .before .before .before .before in
     let if3 = finish .before .before .before .before .before .if3 in
-    let early = finish .before .before .before .before .before .before in
+    let early = finish .before .before .before .before .before .before .before in
     let test = early .before .before in
     let start = test .before .before .before .before .before .before .before .before in
     let a = start .args in
@@ -70,7 +70,7 @@ returns-4 c =
     ∙ ap (λ (d : ℕ). bodyOr1 (record { version = a .m .version; level = a .m .level; mask = a .m .mask; distance = d }) (a .square .now)
     (a .payload .now) (a .script .now)) (start .pre .1)
     ∙ known-left (a .square .now) (a .m .version) (a .m .level) (a .m .mask) _ _ _ (test .before .before .if1 .left) (ranged test .0) _ _
-    (early .before .side .ensures) (early .square-refusal .ensures) (if3 .left)
+    (early .before .side .ensures) (early .look-at .ensures .0) (if3 .left)
 
 pub read-known-in-spec : {M : Type 1} → Rattle.reader.proofs.read_known_in.Statement.statement M
 read-known-in-spec =
