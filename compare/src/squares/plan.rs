@@ -129,7 +129,8 @@ impl Plan {
         self.codewords.iter().map(|c| c.iter().fold(0, |byte, i| byte << 1 | bit(i))).collect()
     }
 
-    /// The refusal number for a square that the original refuses with this level and mask: 6 where it refuses a block, else that of the data.
+    /// The refusal number for a square that the original refuses with this level and mask: 6 where it refuses a block, else that of the
+    /// data.
     pub fn refusal(&self, square: &[u8], level: usize, mask: usize) -> usize {
         let (mut stream, mut data) = (self.bytes(square, mask), Vec::new());
         for b in self.blocks(level) {

@@ -1,6 +1,6 @@
 //! Squares with unknown modules: both readings against a plain one (unknown/reading.rs) that is put together from parts of the original, on
-//! number, receipt, payload, script and all other bytes of the lent buffers. And marks that meet the premises of the theorem are read as they
-//! were written, with a count of their changed codewords.
+//! number, receipt, payload, script and all other bytes of the lent buffers. And marks that meet the premises of the theorem are read as
+//! they were written, with a count of their changed codewords.
 mod damage;
 mod faults;
 mod reading;
@@ -23,8 +23,8 @@ const OFTEN: [(usize, usize); 9] =
 struct Unknowns<'a> {
     both: &'a mut Both,
     numbers: [usize; NUMBERS],
-    /// Readings of marks that meet the premises; of those with a block with erased codewords that hardly does; and of marks that are refused
-    /// with 6 and have a block that hardly misses them.
+    /// Readings of marks that meet the premises; of those with a block with erased codewords that hardly does; and of marks that are
+    /// refused with 6 and have a block that hardly misses them.
     promised: usize,
     hardly: usize,
     beyond: usize,
@@ -313,8 +313,8 @@ fn all(unknowns: &mut Unknowns, random: &mut Random) {
     unknowns.report("squares unknown altogether, but for their information, and but for their codewords");
 }
 
-/// One block of a mark at its full reach, and then one module unknown: 6 where it belongs to a codeword of this block, else the mark is read.
-/// So each module is seen to erase a codeword of its block alone, or none. Each module of small versions, some of the others.
+/// One block of a mark at its full reach, and then one module unknown: 6 where it belongs to a codeword of this block, else the mark is
+/// read. So each module is seen to erase a codeword of its block alone, or none. Each module of small versions, some of the others.
 fn each_module(unknowns: &mut Unknowns, random: &mut Random) {
     for [version, level, mask] in each_choice().filter(|&[version, level, mask]| mask == (version + level) % 4) {
         let mut mark = unknowns.both.random_mark(random, version, level, mask);

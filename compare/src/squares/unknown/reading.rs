@@ -1,5 +1,6 @@
-//! The reading of a square some of whose modules are unknown, put together from parts of the original: its `decode_matrix` and `decode_data`
-//! with a flag beside each codeword, and its `correct_with_erasures` for a block that has flags. Nothing of our library has a part in it.
+//! The reading of a square some of whose modules are unknown, put together from parts of the original: its `decode_matrix` and
+//! `decode_data` with a flag beside each codeword, and its `correct_with_erasures` for a block that has flags. Nothing of our library has a
+//! part in it.
 use crate::han_xin::{MAX_INFO_ERRORS, Module, access, info_positions, layout, nearest_info, size, version};
 use crate::reed_solomon::gf256;
 use crate::squares::bad::Lengths;
@@ -159,7 +160,8 @@ impl Bits<'_> {
     }
 }
 
-/// The script of data that the original accepts, which tells none: for each segment its mode, with the number of its payload bytes or its ECI.
+/// The script of data that the original accepts, which tells none: for each segment its mode, with the number of its payload bytes or its
+/// ECI.
 fn script_of(data: &[u8]) -> Vec<u8> {
     let (mut bits, mut script) = (Bits { data, at: 0 }, Vec::new());
     while bits.left() >= 4 {
