@@ -1,6 +1,7 @@
 //! Whole squares: both readings against `decode_matrix` and `decode_data` of the original, on acceptance, payload, count of corrections,
 //! level, mask and information distance. The marks are written by our writer and held to those that plan.rs makes. What the original does
-//! not tell, the script and the number of a refusal, is held to the script that was written and to the original's own steps.
+//! not tell, the script and the number of a refusal, is held to the script that was written and to the original's own steps. Squares with
+//! unknown modules, which the original does not read, are held to a reading out of its parts (unknown.rs).
 mod bad;
 mod instructions;
 mod kinds;
@@ -10,6 +11,7 @@ mod record;
 mod smallest;
 mod speed;
 mod stack;
+mod unknown;
 mod writing;
 
 use crate::han_xin::{Read, decode_data, decode_matrix, nearest_info};
@@ -43,7 +45,7 @@ unsafe extern "C" {
 }
 
 /// One more than the greatest refusal number.
-const NUMBERS: usize = 15;
+const NUMBERS: usize = 16;
 
 /// What the smallest mark answers: a refusal number, and the version that was found.
 #[repr(C)]

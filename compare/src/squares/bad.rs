@@ -6,10 +6,10 @@ use crate::written::Bits;
 
 /// How long the three lent buffers are.
 #[derive(Clone, Copy, Debug)]
-struct Lengths {
-    payload: usize,
-    script: usize,
-    receipt: usize,
+pub struct Lengths {
+    pub payload: usize,
+    pub script: usize,
+    pub receipt: usize,
 }
 
 const PLENTY: Lengths = Lengths { payload: 300, script: 300, receipt: 12 };
@@ -83,7 +83,7 @@ fn differences(both: &Both, random: &mut Random) {
 }
 
 /// The two readings of a mark.
-fn both_readings(mark: &Mark) -> [Reading; 2] {
+pub fn both_readings(mark: &Mark) -> [Reading; 2] {
     [Reading::Side(2 * mark.version + 21), Reading::Known(mark.version, mark.level, mark.mask)]
 }
 
@@ -114,7 +114,7 @@ fn inputs(both: &Both, mark: &Mark) -> usize {
         turn("one byte short", &square[1..], how, PLENTY, 2);
         turn("one byte long", &[&square[..], &[0]].concat(), how, PLENTY, 2);
         turn("empty square", &[], how, PLENTY, 2);
-        for (place, byte) in [(0, 2), (0, 255), (side * side / 2, 3), (side * side - 1, 2), (side * side - 1, 255)] {
+        for (place, byte) in [(0, 3), (0, 255), (side * side / 2, 4), (side * side - 1, 3), (side * side - 1, 255)] {
             let mut other = square.clone();
             other[place] = byte;
             turn("module", &other, how, PLENTY, 3);
@@ -138,7 +138,7 @@ fn lent(mark: &Mark) -> usize {
 }
 
 /// A square of data bits with their parity.
-fn square_of(both: &Both, mark: &Mark, fields: &[(usize, usize)]) -> Vec<u8> {
+pub fn square_of(both: &Both, mark: &Mark, fields: &[(usize, usize)]) -> Vec<u8> {
     let mut bits = Bits::default();
     for &(n, v) in fields {
         bits.put(n, v);
@@ -172,12 +172,12 @@ fn orders(both: &mut Both, version: usize, level: usize, random: &mut Random) ->
     let out = beyond(both, &mark, &broken, random);
     let short = Lengths { payload: 0, script: 0, receipt: 12 };
     let none = Lengths { receipt: 11, ..short };
-    let mut two = mark.square.clone();
-    two[both.plan(version).informed(0)] = 2;
-    let mut count = early(both, &mark, &two, &out, none);
+    let mut three = mark.square.clone();
+    three[both.plan(version).informed(0)] = 3;
+    let mut count = early(both, &mark, &three, &out, none);
     for how in both_readings(&mark) {
         let cases: [(&str, &[u8], usize); 6] = [
-            ("2 before 3", &two[1..], 2),
+            ("2 before 3", &three[1..], 2),
             ("6 before 7", &out, 6),
             ("7 before 8", &broken, 7),
             ("7 before 9", &cut, 7),
@@ -195,27 +195,27 @@ fn orders(both: &mut Both, version: usize, level: usize, random: &mut Random) ->
 }
 
 /// The first refusals: receipt before side, side before length, a module before the distance, the distance before the blocks.
-fn early(both: &Both, mark: &Mark, two: &[u8], out: &[u8], none: Lengths) -> usize {
+fn early(both: &Both, mark: &Mark, three: &[u8], out: &[u8], none: Lengths) -> usize {
     let short = Lengths { receipt: 12, ..none };
     let mut far = out.to_vec();
     let plan = both.plan(mark.version);
     let word = (0..1 << 34).step_by(0x1234_567).find(|&w| nearest_info(mark.version, [w, w]).2 > 10);
     plan.inform(&mut far, word.unwrap());
-    let mut far_two = far.clone();
-    far_two[plan.informed(40)] = 2;
+    let mut far_three = far.clone();
+    far_three[plan.informed(40)] = 3;
     let side = Reading::Side(plan.side);
-    refused("receipt before side", two, Reading::Side(22), none, 2);
-    refused("receipt before version", two, Reading::Known(0, 4, 4), none, 2);
-    refused("receipt before length", &two[1..], side, none, 2);
-    refused("side before length", &two[1..], Reading::Side(22), short, 1);
-    refused("version before length", &two[1..], Reading::Known(85, 0, 0), short, 1);
-    refused("level before length", &two[1..], Reading::Known(mark.version, 4, 0), short, 1);
-    refused("mask before length", &two[1..], Reading::Known(mark.version, 0, 4), short, 1);
+    refused("receipt before side", three, Reading::Side(22), none, 2);
+    refused("receipt before version", three, Reading::Known(0, 4, 4), none, 2);
+    refused("receipt before length", &three[1..], side, none, 2);
+    refused("side before length", &three[1..], Reading::Side(22), short, 1);
+    refused("version before length", &three[1..], Reading::Known(85, 0, 0), short, 1);
+    refused("level before length", &three[1..], Reading::Known(mark.version, 4, 0), short, 1);
+    refused("mask before length", &three[1..], Reading::Known(mark.version, 0, 4), short, 1);
     refused("4 before 6", &far, side, short, 4);
-    refused("3 before 4", &far_two, side, short, 3);
+    refused("3 before 4", &far_three, side, short, 3);
     refused("no 4 with known numbers", &far, Reading::Known(mark.version, mark.level, mark.mask), short, 6);
-    let mut out_two = out.to_vec();
-    out_two[plan.side * plan.side - 1] = 2;
-    refused("3 before 6", &out_two, Reading::Known(mark.version, mark.level, mark.mask), short, 3);
+    let mut out_three = out.to_vec();
+    out_three[plan.side * plan.side - 1] = 3;
+    refused("3 before 6", &out_three, Reading::Known(mark.version, mark.level, mark.mask), short, 3);
     11
 }

@@ -1,6 +1,6 @@
 //! The kinds of squares that are compared.
 use super::plan::{Block, Plan};
-use super::{Both, Mark, Reading, bad, outside, smallest, writing};
+use super::{Both, Mark, Reading, bad, outside, smallest, unknown, writing};
 use crate::blocks::our_parity;
 use crate::han_xin::{info_bits, nearest_info};
 use crate::tools::{Random, hex, same};
@@ -28,6 +28,7 @@ pub fn compare() {
     let mut random = Random::new(11);
     outside::compare(&mut both);
     bad::compare(&mut both);
+    unknown::compare(&mut both);
     nine(&mut both, &mut random);
     plain(&mut both);
     clean(&mut both, &mut random);
@@ -92,7 +93,7 @@ pub fn damage_all(plan: &Plan, random: &mut Random, square: &mut [u8], level: us
     corrected
 }
 
-fn random_mark(both: &Both, random: &mut Random) -> Mark {
+pub fn random_mark(both: &Both, random: &mut Random) -> Mark {
     let (version, level, mask) = (version(random), random.below(4), random.below(4));
     both.random_mark(random, version, level, mask)
 }
@@ -203,10 +204,8 @@ fn mistaken(both: &mut Both, random: &mut Random) {
     both.as_any(&mark.square, how);
 }
 
-/// Data of segments with some bits changed, or random data; with their parity, so that the segments are reached.
-fn any_data(both: &mut Both, random: &mut Random) {
-    let (version, level, mask) = (version(random), random.below(4), random.below(4));
-    let plan = both.plan(version);
+/// A square of data with their parity, so that the segments are reached: segments with some bits changed, or random data.
+pub fn data_square(plan: &Plan, random: &mut Random, level: usize, mask: usize) -> Vec<u8> {
     let room = plan.room(level);
     let mut data = vec![0; room];
     let turn = random.below(8);
@@ -220,7 +219,13 @@ fn any_data(both: &mut Both, random: &mut Random) {
             data[random.below(bytes.len().max(1))] ^= 1 << random.below(8);
         }
     }
-    let mut square = plan.square(level, mask, &plan.stream(level, &data));
+    plan.square(level, mask, &plan.stream(level, &data))
+}
+
+fn any_data(both: &mut Both, random: &mut Random) {
+    let (version, level, mask) = (version(random), random.below(4), random.below(4));
+    let plan = both.plan(version);
+    let mut square = data_square(plan, random, level, mask);
     if random.below(2) == 0 {
         damage_all(plan, random, &mut square, level);
     }

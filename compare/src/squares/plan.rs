@@ -106,9 +106,9 @@ impl Plan {
         }
     }
 
-    /// The two copies of the information as they are read.
+    /// The two copies of the information as they are read. An unknown module is light.
     pub fn copies(&self, square: &[u8]) -> [u64; 2] {
-        [0, 1].map(|copy| self.information.iter().fold(0, |word, pair| word << 1 | u64::from(square[pair[copy]])))
+        [0, 1].map(|copy| self.information.iter().fold(0, |word, pair| word << 1 | u64::from(square[pair[copy]] == 1)))
     }
 
     /// The module of information bit n of 68: bits 33 down to 0 of the first copy, then of the second.
@@ -123,12 +123,16 @@ impl Plan {
         }
     }
 
-    /// The refusal number for a square that the original refuses with this level and mask: 6 where it refuses a block; 8 where its
-    /// parse of the same data behind some payload is accepted; else 7.
+    /// The codewords of a square in stream order. An unknown module is light before it is unmasked.
+    pub fn bytes(&self, square: &[u8], mask: usize) -> Vec<u8> {
+        let bit = |&i: &usize| u8::from(square[i] == 1) ^ self.masks[mask][i];
+        self.codewords.iter().map(|c| c.iter().fold(0, |byte, i| byte << 1 | bit(i))).collect()
+    }
+
+    /// The refusal number for a square that the original refuses with this level and mask: 6 where it refuses a block, else that of the
+    /// data.
     pub fn refusal(&self, square: &[u8], level: usize, mask: usize) -> usize {
-        let bit = |&i: &usize| square[i] ^ self.masks[mask][i];
-        let mut stream: Vec<u8> = self.codewords.iter().map(|c| c.iter().fold(0, |byte, i| byte << 1 | bit(i))).collect();
-        let mut data = payload();
+        let (mut stream, mut data) = (self.bytes(square, mask), Vec::new());
         for b in self.blocks(level) {
             let block = &mut stream[b.start..b.start + b.data + b.parity];
             if gf256(0x163).correct(block, b.parity, 1).is_none() {
@@ -136,8 +140,13 @@ impl Plan {
             }
             data.extend_from_slice(&block[..b.data]);
         }
-        if access::parse(&data).is_some() { 8 } else { 7 }
+        data_refusal(&data)
     }
+}
+
+/// The refusal number for data that the original refuses: 8 where its parse of the same data behind some payload is accepted, else 7.
+pub fn data_refusal(data: &[u8]) -> usize {
+    if access::parse(&[&payload()[..], data].concat()).is_some() { 8 } else { 7 }
 }
 
 /// Segments with some payload, of 64 bits: a four-byte character, no bytes, and text of two.

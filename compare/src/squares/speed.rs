@@ -1,6 +1,7 @@
 //! Times of whole squares: both readings beside the original, writing beside zint's library, and the smallest mark beside writing.
+//! Readings of squares with unknown modules are in unknown/speed.rs.
 use super::kinds::{damage, damage_full};
-use super::{Both, Found, Mark, Reading, read, write, write_smallest};
+use super::{Both, Found, Mark, Reading, read, unknown, write, write_smallest};
 use crate::han_xin::{decode_data, decode_matrix};
 use crate::others::Zint;
 use crate::sheet::{Line, Sheet, Times, time};
@@ -75,6 +76,7 @@ pub fn reading(sheet: &mut Sheet) {
             }
         }
     }
+    unknown::bench(sheet, &both, &marks);
 }
 
 fn read_both(square: &[u8], how: Reading, number: usize) -> Times {

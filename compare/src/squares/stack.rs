@@ -1,6 +1,6 @@
 //! How much stack our calls take.
 use super::speed::filled;
-use super::{Both, Reading, read, write, write_smallest};
+use super::{Both, Reading, read, unknown, write, write_smallest};
 use crate::tools::{ROOM, Random};
 
 /// How far below a call's caller the stack is written.
@@ -41,15 +41,21 @@ fn switches(both: &Both) -> Vec<u8> {
     plan.square(0, 0, &plan.stream(0, &bits.bytes()))
 }
 
-/// The four calls, on full squares and on the deepest reading.
+/// The four calls, on full squares, on one with erased codewords and on the deepest reading.
 pub fn stack() {
     let both = Both::new();
     let mut random = Random::new(14);
-    let [small, large] = [1, 84].map(|version| filled(&both, &mut random, version, 0, 0).square);
-    let deep = switches(&both);
+    let [small, large] = [1, 84].map(|version| filled(&both, &mut random, version, 0, 0));
+    let erased = unknown::most_each(both.plan(84), &mut random, &large);
+    let squares = [
+        ("version 1", small.square),
+        ("version 84", large.square),
+        ("version 84, parity - 2 erased in each block", erased),
+        ("version 84, region switches without end", switches(&both)),
+    ];
     println!();
     let (mut payload, mut script, mut receipt) = (vec![0; ROOM], vec![0; ROOM], [0; 12]);
-    for (name, square) in [("version 1", small), ("version 84", large), ("version 84, region switches without end", deep)] {
+    for (name, square) in squares {
         let side = square.len().isqrt();
         for (call, how) in [("hx_read_square", Reading::Side(side)), ("hx_read_known", Reading::Known((side - 21) / 2, 0, 0))] {
             let bytes = stack_of(|| {
