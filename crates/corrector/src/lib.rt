@@ -110,7 +110,7 @@ fn correct_plain(block: &mut [u8], parity: usize) -> Correction
 
 // The same where `left` is what division leaves of the block: a block of which nothing is left has no error, and the syndromes of any
 // other are those of the few bytes that are left.
-fn correct_left(block: &mut [u8], parity: usize, left: Register) -> Correction
+pub fn correct_left(block: &mut [u8], parity: usize, left: Register) -> Correction
     requires { ⌜ tabled parity × (parity < length (now block)) × (length (now block) ≤ 255) ⌝ }
     requires { ⌜ Remains 0x163 1 parity (now block) left ⌝ }
     ensures { λ r. ⌜ outcome r (now (block .exit)) ≡ correctOf 0x163 1 parity (now (block .entry)) ⌝ }

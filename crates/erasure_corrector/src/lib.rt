@@ -210,17 +210,17 @@ pub fn correct_with(rows: &[u64], block: &mut [u8], flags: &[u8], parity: usize)
     requires { ⌜ Prepared parity (now rows) × (length (now flags) ≡ length (now block)) ⌝ }
     ensures { λ r. ⌜ outcome r (now (block .exit)) ≡ correctErasedOf 0x163 1 parity (now (flags .entry)) (now (block .entry)) ⌝ }
 {
-    let f = erased(flags);
-    if f == 0 {
-        return corrector::correct_with(rows, block, parity);
-    }
     if corrector::is_untabled(block.len(), parity) {
         return correct_plain(block, flags, parity);
     }
+    let f = erased(flags);
     if parity < f {
         return Correction::TooManyErased;
     }
     let left = remainder::remainder(rows, block, block.len());
+    if f == 0 {
+        return corrector::correct_left(block, parity, left);
+    }
     correct_left(rows, block, flags, parity, f, left)
 }
 
