@@ -167,11 +167,16 @@ module _ (sq : List ℕ) (side : ℕ) (p s r : List ℕ) (receipt : length r ≡
     pub admits-is-in-reach : (j : ℕ) (w : List ℕ) → Admits version level mask sq j w ≡ InReach version level mask sq j w
     admits-is-in-reach = any.in-admits version level mask flips sq p s low high (level-range version sq) modules
 
+    abbrev back-in : (j : ℕ) (w : List ℕ) → InReach version level mask sq j w → Admits version level mask sq j w
+    back-in j w = subst (λ (X : Type 0). X) (sym (admits-is-in-reach j w))
+
     pub no-block-has-two : (j : ℕ) → j < blockCount version level → (u w : List ℕ) → InReach version level mask sq j u → InReach version level mask sq j w → u ≡ w
     no-block-has-two j h u w a b = no-block-admits-two j h u w (back-in j u a) (back-in j w b)
-      where
-        back-in : (j : ℕ) (w : List ℕ) → InReach version level mask sq j w → Admits version level mask sq j w
-        back-in j w = subst (λ (X : Type 0). X) (sym (admits-is-in-reach j w))
+
+    -- The corrections of a block are the places in which it differs from its codeword within floor(parity / 2) places.
+    pub in-reach-corrections-are : (j : ℕ) → j < blockCount version level → (w : List ℕ) → InReach version level mask sq j w
+        → correctionsAt version level mask sq j ≡ distance (blockIn version level mask sq j) w
+    in-reach-corrections-are j h w a = corrections-are j h w (back-in j w a)
 
     -- When each has one, each is set to it ..
     pub each-in-reach-is-set : (ws : List (List ℕ)) → EachInReach version level mask sq ws → readOf sq side p s r ≡ setTo version level mask flips sq ws p s
@@ -252,11 +257,16 @@ module _ (sq : List ℕ) (v l k : ℕ) (p s r : List ℕ) (receipt : length r �
     pub known-admits-is-in-reach : (j : ℕ) (w : List ℕ) → Admits v l k sq j w ≡ InReach v l k sq j w
     known-admits-is-in-reach = any.in-admits v l k 0 sq p s (in-range .low) (in-range .high) (in-range .level) modules
 
+    abbrev known-back-in : (j : ℕ) (w : List ℕ) → InReach v l k sq j w → Admits v l k sq j w
+    known-back-in j w = subst (λ (X : Type 0). X) (sym (known-admits-is-in-reach j w))
+
     pub known-no-block-has-two : (j : ℕ) → j < blockCount v l → (u w : List ℕ) → InReach v l k sq j u → InReach v l k sq j w → u ≡ w
-    known-no-block-has-two j h u w a b = known-no-block-admits-two j h u w (back-in j u a) (back-in j w b)
-      where
-        back-in : (j : ℕ) (w : List ℕ) → InReach v l k sq j w → Admits v l k sq j w
-        back-in j w = subst (λ (X : Type 0). X) (sym (known-admits-is-in-reach j w))
+    known-no-block-has-two j h u w a b = known-no-block-admits-two j h u w (known-back-in j u a) (known-back-in j w b)
+
+    -- The corrections of a block are the places in which it differs from its codeword within floor(parity / 2) places.
+    pub known-in-reach-corrections-are : (j : ℕ) → j < blockCount v l → (w : List ℕ) → InReach v l k sq j w
+        → correctionsAt v l k sq j ≡ distance (blockIn v l k sq j) w
+    known-in-reach-corrections-are j h w a = known-corrections-are j h w (known-back-in j w a)
 
     -- When each has one, each is set to it ..
     pub known-each-in-reach-is-set : (ws : List (List ℕ)) → EachInReach v l k sq ws → readKnownOf sq v l k p s r ≡ setTo v l k 0 sq ws p s
