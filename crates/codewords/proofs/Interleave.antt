@@ -84,7 +84,7 @@ unfolding each starts
 starts-are n zero = refl
 starts-are n (suc k) = rw (starts-are n k, steps-are k ((n + 12 - k) / 13), starts-last n 0 k, zero-add)
 
-order-is : (n : ℕ) → order n ≡ starts n 0 13
+pub order-is : (n : ℕ) → order n ≡ starts n 0 13
 unfolding order
 order-is n = starts-are n 13
 

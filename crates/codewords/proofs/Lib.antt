@@ -2,6 +2,7 @@
 pub mod Bits
 pub mod Masks
 pub mod Interleave
+pub mod Apart
 pub mod Placement
 pub mod Back
 pub mod Theorems

@@ -79,3 +79,28 @@ module _ (m : ℕ → ℕ) where
   data-front i (k ∷ ks) [] = refl
   data-front i (zero ∷ ks) (b ∷ sq) = ap (λ (r : List ℕ). bitXor b (m i) ∷ r) (data-front (suc i) ks sq)
   data-front i (suc k ∷ ks) (b ∷ sq) = data-front (suc i) ks sq
+
+  -- the bit of a data module is the one with as many before it as data modules before that
+  pub data-at : (i : ℕ) (ks sq : List ℕ) (p : ℕ) → p < length ks → p < length sq → getD ks p 0 ≡ 0
+      → getD (dataBits m i ks sq) (dataModules (take p ks)) 0 ≡ bitXor (getD sq p 0) (m (i + p))
+  unfolding dataBits dataModules
+  data-at i [] sq p l h z = absurd (omega arith)
+  data-at i (k ∷ ks) [] p l h z = absurd (omega arith)
+  data-at i (zero ∷ ks) (b ∷ sq) zero l h z = rw add-zero
+  data-at i (suc k ∷ ks) (b ∷ sq) zero l h z = absurd (omega arith)
+  data-at i (zero ∷ ks) (b ∷ sq) (suc p) l h z = rw (add-suc, ← suc-add) (data-at (suc i) ks sq p (omega arith) (omega arith) z)
+  data-at i (suc k ∷ ks) (b ∷ sq) (suc p) l h z =
+      rw (module-miss (suc k) (take p ks) (λ z. omega arith), add-suc, ← suc-add) (data-at (suc i) ks sq p (omega arith) (omega arith) z)
+
+  -- and each bit is that of a data module
+  pub data-from : (i : ℕ) (ks sq : List ℕ) (n : ℕ) → n < length (dataBits m i ks sq)
+      → (p : ℕ) × (p < length ks) × (p < length sq) × (getD ks p 0 ≡ 0) × (dataModules (take p ks) ≡ n)
+  unfolding dataBits dataModules
+  data-from i [] sq n h = absurd (omega arith)
+  data-from i (k ∷ ks) [] n h = absurd (omega arith)
+  data-from i (zero ∷ ks) (b ∷ sq) zero h = (0, omega arith, omega arith, refl, refl)
+  data-from i (zero ∷ ks) (b ∷ sq) (suc n) h =
+      let x = data-from (suc i) ks sq n (omega arith) in (suc (x .0), omega arith, omega arith, x .3, ap suc (x .4))
+  data-from i (suc k ∷ ks) (b ∷ sq) n h =
+      let x = data-from (suc i) ks sq n h in
+      (suc (x .0), omega arith, omega arith, x .3, module-miss (suc k) (take (x .0) ks) (λ z. omega arith) ∙ x .4)
