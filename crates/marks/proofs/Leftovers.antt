@@ -55,12 +55,12 @@ unfolding withReceipt
 refused-alike r p s n x y d = simp (ne-eqb n 0 d)
 
 -- an element by a test that 0 fails
-getD-by : (f : ℕ → ℕ) → f 0 ≡ 0 → (xs : List ℕ) (i : ℕ) → getD (map f xs) i 0 ≡ f (getD xs i 0)
+pub getD-by : (f : ℕ → ℕ) → f 0 ≡ 0 → (xs : List ℕ) (i : ℕ) → getD (map f xs) i 0 ≡ f (getD xs i 0)
 getD-by f z [] i = sym z
 getD-by f z (x ∷ xs) zero = refl
 getD-by f z (x ∷ xs) (suc i) = getD-by f z xs i
 
-length-by : (f : ℕ → ℕ) (xs : List ℕ) → length (map f xs) ≡ length xs
+pub length-by : (f : ℕ → ℕ) (xs : List ℕ) → length (map f xs) ≡ length xs
 length-by f [] = refl
 length-by f (x ∷ xs) = ap suc (length-by f xs)
 

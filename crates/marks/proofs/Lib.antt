@@ -7,6 +7,7 @@ pub mod ReadBack
 pub mod Smallest
 pub mod Starts
 pub mod Leftovers
+pub mod Flags
 pub mod AnySquare
 pub mod Theorems
 pub mod Instance

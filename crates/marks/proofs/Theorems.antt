@@ -1,7 +1,7 @@
 -- A WRITTEN MARK IS READ BACK (SPECIFICATION 11), by Read a square and by Read with known version, level, mask, over the definitions that
 -- the contracts cite; its words are those of specs/Promise.antt. First: a mark made by the writer is read as it was written, whichever
 -- modules flip or turn unknown within reach. Second: what a reading answers for any square at all that passes its first refusals. Third:
--- leftover modules. Fourth: the smallest mark. Assumes nothing.
+-- leftover modules. Fourth: the smallest mark. Fifth: which codewords are erased. Assumes nothing.
 use Rattle.general.proofs.Names.{_≡_, sym, ap, _∙_, _≢_, subst, List, _++_, ℕ, _*_, _/_, _≤_, _<_, arith, length, getD, take, drop}
 use Rattle.symbol.specs.Version.{sideOf, sideVersion}
 use Rattle.symbol.specs.Layout.{layoutOf}
@@ -9,16 +9,17 @@ use Rattle.information.specs.Information.{infoFlips}
 use Rattle.codewords.specs.Codewords.{maskBit}
 use Rattle.script.specs.Check.{commandsOf}
 use Rattle.marks.specs.Receipt.{receiptOf}
-use Rattle.marks.specs.Read.{Reading, refused, nearestIn, readRefusal, knownRefusal, bodyOf, readOf, readKnownOf}
+use Rattle.marks.specs.Read.{Reading, refused, nearestIn, flagsFrom, readRefusal, knownRefusal, bodyOf, readOf, readKnownOf}
 use Rattle.marks.specs.Write.{segmentsRefusal, writeOf}
 use Rattle.marks.specs.Smallest.{smallestOf}
 use Rattle.marks.specs.Promise.{blockCount, blockIn, parityIn, erasedAt, infoChanged, changedAt, changed, MeetsAt, Admits, EachAdmitted, FirstRefused}
-use Rattle.marks.specs.Promise.{InReach, EachInReach, setTo, correctionsAt, Leftover, Holds}
+use Rattle.marks.specs.Promise.{InReach, EachInReach, setTo, correctionsAt, Leftover, ModuleOf, Holds}
 use Rattle.reed_solomon.specs.Block.{distance}
 use Rattle.marks.proofs.Marks.{Ranges}
 use Rattle.marks.proofs.Starts.{level-range}
 use Rattle.marks.proofs.ReadBack as back
 use Rattle.marks.proofs.Leftovers as leftovers
+use Rattle.marks.proofs.Flags as flags
 use Rattle.marks.proofs.AnySquare as any
 use Rattle.marks.proofs.Smallest as small
 
@@ -349,3 +350,14 @@ module _ (level mask : ℕ) (script payload before : List ℕ) where
   pub written-is-found : (v : ℕ) (square mark : List ℕ) → writeOf v level mask script payload square ≡ record { number = 0; square = mark }
       → length square ≤ length before → smallestOf level mask script payload before .number ≡ 0
   written-is-found = small.written-found level mask script payload before
+
+-- ---- 5. Erased codewords (6.5)
+
+module _ (v : ℕ) (sq : List ℕ) where
+  -- The codeword at stream place q has a flag that is not 0 where one of its modules is unknown ..
+  pub unknown-is-erased : (q i : ℕ) → ModuleOf v q i → getD sq i 0 ≡ 2 → getD (flagsFrom v sq) q 0 ≢ 0
+  unknown-is-erased = flags.unknown-erased v sq
+
+  -- .. and only there.
+  pub erased-is-unknown : (q : ℕ) → getD (flagsFrom v sq) q 0 ≢ 0 → (i : ℕ) × ModuleOf v q i × (getD sq i 0 ≡ 2)
+  erased-is-unknown = flags.erased-unknown v sq

@@ -2,7 +2,7 @@
 use mathlib.Core.Path.{_≡_}
 use mathlib.Core.Bool.{true}
 use mathlib.Core.List.{List, [], map}
-use Prim.Native.Nat.{ℕ, _*_, _<_, _≤_}
+use Prim.Native.Nat.{ℕ, _*_, _/_, _<_, _≤_}
 use lib.Dec.{T}
 use lib.ListN.{length, getD, take}
 use Rattle.symbol.specs.Layout.{layoutOf, data-kind, dataModules}
@@ -11,6 +11,7 @@ use Rattle.reed_solomon.specs.Block.{distance, inReach}
 use Rattle.reed_solomon.specs.Erased.{erasures, admits, Meets}
 use Rattle.erasure_corrector.specs.Erased.{correctErasedOf}
 use Rattle.block_table.specs.Blocks.{totalOf, shapesOf, dataParts}
+use Rattle.codewords.specs.Codewords.{order}
 use Rattle.blocks.specs.Blockwise.{differences}
 use Rattle.segments.specs.FromData.{fromData}
 use Rattle.marks.specs.Read.{Reading, moduleBit, blocksIn, flagsIn, outcomeReading}
@@ -86,6 +87,13 @@ correctionsAt v level mask sq j = correctErasedOf 0x163 1 (parityIn v level j) (
 -- SPECIFICATION 6.3: place i of a square of version v is a leftover module, a data module with 8 T or more data modules before it
 abbrev pub Leftover : ℕ → ℕ → Type 0
 Leftover v i = (i < length (layoutOf v)) × (getD (layoutOf v) i 0 ≡ data-kind) × (8 * totalOf v ≤ dataModules (take i (layoutOf v)))
+
+-- SPECIFICATION 6.2, 6.4 and 6.5: place i of a square of version v is a module of the codeword at stream place q. It is a data module; with n
+-- data modules before it, n below 8 T, it is one of the eight of codeword n / 8 of the square, which goes to q.
+abbrev pub ModuleOf : ℕ → ℕ → ℕ → Type 0
+ModuleOf v q i =
+    (i < length (layoutOf v)) × (getD (layoutOf v) i 0 ≡ data-kind) × (dataModules (take i (layoutOf v)) < 8 * totalOf v)
+    × (getD (order (totalOf v)) (dataModules (take i (layoutOf v)) / 8) 0 ≡ q)
 
 -- SPECIFICATION 10.12: v is a version that holds a script and payload at a level
 abbrev pub Holds : ℕ → List ℕ → List ℕ → ℕ → Type 0

@@ -57,7 +57,7 @@ unfoldable pub streamFrom : ℕ → ℕ → List ℕ → List ℕ
 streamFrom v mask sq = toStream (firstWords 8 (totalOf v) (dataBits (maskBit (sideOf v) mask) 0 (layoutOf v) (map moduleBit sq)))
 
 -- SPECIFICATION 6.5: the flags of that stream, one beside each codeword: the stream of a square that is dark where modules are unknown, under
--- mask 0, which inverts nothing. So a flag is not 0 exactly where one of the eight modules of its codeword is unknown.
+-- mask 0, which inverts nothing. So a flag is not 0 exactly where one of the eight modules of its codeword is unknown (proofs/Theorems.antt, 5).
 unfoldable pub flagsFrom : ℕ → List ℕ → List ℕ
 flagsFrom v sq = streamFrom v 0 (map unknownBit sq)
 
