@@ -9,13 +9,14 @@ use Rattle.information.specs.Information.{isInfo, infoFlips}
 use Rattle.block_table.specs.Table.{blocks, totals}
 use Rattle.block_table.specs.Blocks.{hasBlocks, rowHolds, blockHolds, rowOf, totalOf, shapesOf, shapes, batch, totalSize, totalData}
 use Rattle.symbol.specs.Layout.{dataModules}
+use Rattle.codewords.specs.Codewords.{order}
 use Rattle.script.specs.Writer.{isDigit, modeHas, numericWords, modeBits, encodings}
 use Rattle.script.specs.Check.{allowed, segmentAt, commands, commandsOf}
 use Rattle.reed_solomon.proofs.Distance.{distance-self}
 use Rattle.marks.specs.Read.{Reading, firstRefusal, unless, readOf, readKnownOf}
 use Rattle.marks.specs.Write.{markOf, segmentsRefusal, fits, writeRefusal, writeOf}
 use Rattle.marks.specs.Smallest.{smallestOf}
-use Rattle.marks.specs.Promise.{blockIn, Leftover}
+use Rattle.marks.specs.Promise.{blockIn, Leftover, ModuleOf}
 use Rattle.marks.proofs.Marks.{Ranges, mark-below}
 use Rattle.marks.proofs.Theorems.{mark-is-read, mark-is-read-known, written-is-found}
 use Rattle.general.specs.Lists.{each}
@@ -89,6 +90,16 @@ some-leftover =
     let before-it : dataModules (take 519 (layoutOf 1)) ≡ 204 = refl in
     let total : totalOf 1 ≡ 25 = refl in
     (omega arith, refl, omega arith)
+
+-- Codewords have modules: in version 1 the last data module of the row above it, with 199 before it, is one of codeword 24, which goes to
+-- stream place 12.
+pub some-module : ModuleOf 1 12 496
+unfolding order totalOf dataModules totals layoutOf plotAll corners each cornerAt ring edge finderAt finderRow half within finders
+some-module =
+    let size : length (layoutOf 1) ≡ 529 = refl in
+    let before-it : dataModules (take 496 (layoutOf 1)) ≡ 199 = refl in
+    let total : totalOf 1 ≡ 25 = refl in
+    (omega arith, refl, omega arith, refl)
 
 -- The digit is written as the smallest mark, too.
 pub some-smallest-is-written : smallestOf 0 0 script payload before .number ≡ 0
