@@ -14,12 +14,13 @@ use Rattle.corrector.specs.declared.Correction.{Correction}
 use Rattle.corrector.specs.declared.Correction.the-variants as Correction
 use Rattle.parity.proofs.ParityBytes.{distance-le}
 use Rattle.block_table.specs.Blocks.{Shape, size, totalSize, batch, cut, joined}
-use Rattle.block_table.proofs.Rows.{total-append}
+use Rattle.block_table.proofs.Rows.{total-append, total-batch}
 use Rattle.block_table.proofs.Cuts.{Shaped, cut-shaped, length-joined}
 use Rattle.blocks.specs.declared.Blocks.{Blocks}
 use Rattle.blocks.specs.declared.Blocks.the-variants.{Corrected, Refused}
 use Rattle.blocks.specs.Blockwise.{outcomes, firstRefused, countOf, blocksOf, corrected, leftOf, correctionsOf, blockAt}
-use Rattle.blocks.specs.Inner.{spliced, StreamOutcome, answerOf, more, addCorrections, onward, outcomeAt, leftAt, outcomeFrom, Corrects, Flagged}
+use Rattle.blocks.specs.Inner.{spliced, StreamOutcome, answerOf, more, addCorrections, onward, outcomeAt, leftAt, outcomeFrom, Corrects}
+use Rattle.blocks.proofs.Rule.{batch-next}
 use Rattle.blocks.proofs.Splice.{part-back, opened, spliced-front, spliced-behind, spliced-length}
 
 -- all numbers are small
@@ -200,20 +201,16 @@ pub record BlocksLeft (fl : List ℕ) (bs : List Shape) (a : ℕ) (s : List ℕ)
   pub same : outcomeFrom fl bs a s ≡ addCorrections n (outcomeFrom fl rest a′ s′)
   pub size : length s′ ≡ length s
   pub room : a′ + totalSize rest ≤ length s
-  pub flagged : Flagged fl (a′ + totalSize rest)
+  pub place : a′ + totalSize rest ≡ a + totalSize bs
   pub few : n ≤ a′
 
-pub blocks-left-start : (fl : List ℕ) (bs : List Shape) (a : ℕ) (s : List ℕ) → a + totalSize bs ≤ length s → Flagged fl (a + totalSize bs)
-    → BlocksLeft fl bs a s bs a 0 s
-blocks-left-start fl bs a s h F =
-    record { same = sym (add-corrections-zero (outcomeFrom fl bs a s)); size = refl; room = h; flagged = F; few = zero-le }
+pub blocks-left-start : (fl : List ℕ) (bs : List Shape) (a : ℕ) (s : List ℕ) → a + totalSize bs ≤ length s → BlocksLeft fl bs a s bs a 0 s
+blocks-left-start fl bs a s h = record { same = sym (add-corrections-zero (outcomeFrom fl bs a s)); size = refl; room = h; place = refl; few = zero-le }
 
 module _ {fl : List ℕ} {bs : List Shape} {a : ℕ} {s : List ℕ} {rest : List Shape} {a′ n : ℕ} {s′ : List ℕ} (P : BlocksLeft fl bs a s rest a′ n s′)
     (cs ds : List Shape) (e : rest ≡ cs ++ ds) where
-  pub blocks-left-room : (a′ + totalSize cs + totalSize ds ≤ length s) × Flagged fl (a′ + totalSize cs)
-  blocks-left-room =
-      let t = ap totalSize e ∙ total-append cs ds in
-      (omega (arith, P .room, t), record { enough = λ h. omega (arith, P .flagged .enough h, t) })
+  pub blocks-left-room : (a′ + totalSize cs + totalSize ds ≤ length s) × (a′ + totalSize cs + totalSize ds ≡ a + totalSize bs)
+  blocks-left-room = let t = ap totalSize e ∙ total-append cs ds in (omega (arith, P .room, t), omega (arith, P .place, t))
 
   whole : {s″ : List ℕ} {r : Blocks} → Corrects fl cs a′ s′ s″ r → outcomeFrom fl bs a s ≡ addCorrections n (follow r s″ (outcomeFrom fl ds (a′ + totalSize cs)))
   whole C = P .same ∙ rw (e, outcome-append fl cs ds a′ s′, ← C .is)
@@ -225,7 +222,7 @@ module _ {fl : List ℕ} {bs : List Shape} {a : ℕ} {s : List ℕ} {rest : List
     same = (rw (f, ← l) at (whole C)) ∙ rw more-more;
     size = k ∙ P .size;
     room = omega (arith, blocks-left-room .0);
-    flagged = record { enough = λ h. omega (arith, P .flagged .enough h, ap totalSize e ∙ total-append cs ds) };
+    place = omega (arith, blocks-left-room .1);
     few = omega (arith, ap correctionsOf f, corrects-le C (omega (arith, blocks-left-room .0, P .size)));
   }
 
@@ -237,6 +234,23 @@ pub blocks-left-end : {fl : List ℕ} {bs : List Shape} {a : ℕ} {s : List ℕ}
     → rest ≡ [] → Corrects fl bs a s s′ (Corrected n)
 unfolding outcomeFrom
 blocks-left-end {n = n} P e = record { is = sym ((rw e at (P .same)) ∙ rw add-zero) }
+
+-- ---- one block of a batch after the other
+
+module _ (left d p : ℕ) {fl : List ℕ} {bs : List Shape} {a : ℕ} {s : List ℕ} {a′ n : ℕ} {s′ : List ℕ} (P : BlocksLeft fl bs a s (batch left d p) a′ n s′)
+    (h : 0 < left) where
+  pub block-room : (a′ + (d + p) ≤ length s′) × (a′ + (d + p) ≤ a + totalSize bs)
+  block-room =
+      let room = blocks-left-room P (batch 1 d p) (batch (left - 1) d p) (batch-next left d p h) in
+      let t = total-batch 1 d p in
+      (omega (arith, P .size), omega arith)
+
+  pub block-next : {s″ : List ℕ} {r : Blocks} (m : ℕ) → Corrects fl (batch 1 d p) a′ s′ s″ r → r ≡ Corrected m → length s″ ≡ length s′
+      → BlocksLeft fl bs a s (batch (left - 1) d p) (a′ + (d + p)) (n + m) s″
+  block-next m C f k = blocks-left-next P (batch 1 d p) (batch (left - 1) d p) (batch-next left d p h) m (a′ + (d + p)) C f k (omega (arith, total-batch 1 d p))
+
+  pub block-stop : {s″ : List ℕ} {r : Blocks} (k : ℕ) → Corrects fl (batch 1 d p) a′ s′ s″ r → r ≡ Refused k → Corrects fl bs a s s″ r
+  block-stop = blocks-left-stop P (batch 1 d p) (batch (left - 1) d p) (batch-next left d p h)
 
 -- ---- one block, as the corrector leaves it
 
@@ -272,10 +286,6 @@ part-unset n a fl z i = elim (decLt i n) [
 unset-block : (p n a : ℕ) (fl w : List ℕ) → ((i : ℕ) → seq fl i ≡ 0) → correctOf 0x163 1 p w ≡ correctErasedOf 0x163 1 p (take n (drop a fl)) w
 unset-block p n a fl w z = none-erased 0x163 1 p (take n (drop a fl)) w (unset-erasures (take n (drop a fl)) (part-unset n a fl z))
 
--- there are no flags at all
-unflagged : (fl : List ℕ) → length fl ≡ 0 → (i : ℕ) → seq fl i ≡ 0
-unflagged fl e i = List·getD-eq-default fl 0 {n = i} (omega arith)
-
 pub unset-part : (bs : List Shape) (fl : List ℕ) → ((i : ℕ) → seq fl i ≡ 0) → (j : ℕ) → erasures (blockAt (cut bs fl) j) ≡ 0
 unfolding cut erasures
 unset-part [] fl z j = refl
@@ -292,7 +302,10 @@ unset (b ∷ bs) fl gl s y z =
     (unset bs (drop (size b) fl) (drop (size b) gl) (drop (size b) s) (λ i. getD-drop (size b) fl i 0 ∙ y (size b + i)) (λ i. getD-drop (size b) gl i 0 ∙ z (size b + i)))
 
 -- one block, where there are no flags
-pub one-unflagged : (fl : List ℕ) (d p a e : ℕ) (s xs : List ℕ) (c : Correction) (r : Blocks) → e ≡ a + (d + p) → r ≡ answerOf c → length fl ≡ 0
-    → outcome c xs ≡ correctOf 0x163 1 p (take (e - a) (drop a s)) → Corrects fl (batch 1 d p) a s (take a s ++ (xs ++ drop (e - a) (drop a s))) r
-one-unflagged fl d p a e s xs c r h f z g =
-    one-corrects fl d p a e s xs c r h f (g ∙ unset-block p (e - a) a fl (take (e - a) (drop a s)) (unflagged fl z))
+pub one-unflagged : (d p a e : ℕ) (s xs : List ℕ) (c : Correction) (r : Blocks) → e ≡ a + (d + p) → r ≡ answerOf c
+    → outcome c xs ≡ correctOf 0x163 1 p (take (e - a) (drop a s)) → Corrects [] (batch 1 d p) a s (take a s ++ (xs ++ drop (e - a) (drop a s))) r
+one-unflagged d p a e s xs c r h f g = one-corrects [] d p a e s xs c r h f (g ∙ unset-block p (e - a) a [] (take (e - a) (drop a s)) (λ i. refl))
+
+pub without-flags : (fl : List ℕ) {bs : List Shape} {a : ℕ} {s s′ : List ℕ} {r : Blocks} → length fl ≡ 0 → Corrects [] bs a s s′ r → Corrects fl bs a s s′ r
+without-flags [] e C = C
+without-flags (f ∷ fl) e C = absurd (omega arith)

@@ -2,10 +2,11 @@
 // batches of count, data, parity. The crate `block_writer` makes blocks of data.
 ghost use mathlib.Core.Path.{_≡_};
 ghost use mathlib.Core.Bool.{true};
-ghost use mathlib.Core.List.{_++_};
+ghost use mathlib.Core.List.{[], _++_};
 ghost use Prim.Native.Nat.{_+_, _≤_, _<_};
 ghost use lib.Dec.{T};
 ghost use lib.ListN.{length, take, drop};
+ghost use Rattle.field.specs.Table.{Field, polyOf};
 ghost use Rattle.remainder.specs.Words.{Prepared};
 ghost use Rattle.block_table.specs.Blocks.{batch, shapes, totalSize, totalData, rowHolds, cut, joined, dataParts};
 ghost use Rattle.blocks.specs.Blockwise.{corrected, firstRefused, countOf, blocksOf, leftOf, numberOf, correctionsOf};
@@ -60,24 +61,19 @@ fn answer(c: Correction) -> Blocks
     }
 }
 
-// One block, lent to the corrector as a part of the stream from its place on, with as many flags. There are no flags where nothing is erased
-// in the whole stream.
-fn correct_block(rows: &[u64], stream: &mut [u8], flags: &[u8], from: usize, b: Batch) -> Blocks
-    requires { ⌜ Prepared (b .parity) (now rows) × (from + (b .info + b .parity) ≤ length (now stream))
-        × Flagged (now flags) (from + (b .info + b .parity)) ⌝ }
-    ensures { λ r. ⌜ Corrects (now (flags .entry)) (batch 1 (b .info) (b .parity)) from (now (stream .entry)) (now (stream .exit)) r ⌝ }
+// One block, lent to the corrector as a part of the stream from its place on. Nothing is erased in the whole stream, so there are no flags.
+fn correct_block(rows: &[u64], stream: &mut [u8], from: usize, b: Batch) -> Blocks
+    requires { ⌜ Prepared (b .parity) (now rows) × (from + (b .info + b .parity) ≤ length (now stream)) ⌝ }
+    ensures { λ r. ⌜ Corrects [] (batch 1 (b .info) (b .parity)) from (now (stream .entry)) (now (stream .exit)) r ⌝ }
 {
     let to = from + (b.info + b.parity);
-    if flags.len() == 0 {
-        return answer(corrector::correct_with(rows, &mut stream[from..to], b.parity));
-    }
-    answer(erasure_corrector::correct_with(rows, &mut stream[from..to], &flags[from..to], b.parity))
+    answer(corrector::correct_with(rows, &mut stream[from..to], b.parity))
 }
 
 // The blocks of a batch, whose first begins at `from`. The corrector's table is made once for all of them.
-fn correct_many(stream: &mut [u8], flags: &[u8], from: usize, b: Batch) -> Blocks
-    requires { ⌜ (from + totalSize (blocksIn b) ≤ length (now stream)) × Flagged (now flags) (from + totalSize (blocksIn b)) ⌝ }
-    ensures { λ r. ⌜ Corrects (now (flags .entry)) (blocksIn b) from (now (stream .entry)) (now (stream .exit)) r ⌝ }
+fn correct_many(stream: &mut [u8], from: usize, b: Batch) -> Blocks
+    requires { ⌜ from + totalSize (blocksIn b) ≤ length (now stream) ⌝ }
+    ensures { λ r. ⌜ Corrects [] (blocksIn b) from (now (stream .entry)) (now (stream .exit)) r ⌝ }
 {
     if b.count == 0 {
         return Blocks::Corrected(0);
@@ -88,7 +84,7 @@ fn correct_many(stream: &mut [u8], flags: &[u8], from: usize, b: Batch) -> Block
     let mut at = from;
     let mut left = b.count;
     while 0 < left {
-        let r = correct_block(&rows, stream, flags, at, b);
+        let r = correct_block(&rows, stream, at, b);
         let Blocks::Corrected(m) = r else {
             return r;
         };
@@ -100,27 +96,76 @@ fn correct_many(stream: &mut [u8], flags: &[u8], from: usize, b: Batch) -> Block
 }
 
 // The only block of a batch, which is short.
-fn correct_one(stream: &mut [u8], flags: &[u8], from: usize, b: Batch) -> Blocks
-    requires { ⌜ (from + (b .info + b .parity) ≤ length (now stream)) × Flagged (now flags) (from + (b .info + b .parity)) ⌝ }
+fn correct_one(stream: &mut [u8], from: usize, b: Batch) -> Blocks
+    requires { ⌜ from + (b .info + b .parity) ≤ length (now stream) ⌝ }
+    ensures { λ r. ⌜ Corrects [] (batch 1 (b .info) (b .parity)) from (now (stream .entry)) (now (stream .exit)) r ⌝ }
+{
+    let to = from + (b.info + b.parity);
+    answer(corrector::correct_short(&mut stream[from..to], b.parity))
+}
+
+// One block with its flags.
+fn correct_flagged(
+    field: &[u16; 1280],
+    rows: &[u64],
+    stream: &mut [u8],
+    flags: &[u8],
+    from: usize,
+    b: Batch,
+) -> Blocks
+    requires { ⌜ Field (now field) × (polyOf (now field) ≡ 0x163) × Prepared (b .parity) (now rows)
+        × (from + (b .info + b .parity) ≤ length (now stream)) × (from + (b .info + b .parity) ≤ length (now flags)) ⌝ }
     ensures { λ r. ⌜ Corrects (now (flags .entry)) (batch 1 (b .info) (b .parity)) from (now (stream .entry)) (now (stream .exit)) r ⌝ }
 {
     let to = from + (b.info + b.parity);
-    if flags.len() == 0 {
-        return answer(corrector::correct_short(&mut stream[from..to], b.parity));
-    }
-    answer(erasure_corrector::correct_plain(&mut stream[from..to], &flags[from..to], b.parity))
+    answer(erasure_corrector::correct_with(
+        field,
+        rows,
+        &mut stream[from..to],
+        &flags[from..to],
+        b.parity,
+    ))
 }
 
-// The blocks of a batch, whose first begins at `from`.
+// The blocks of a batch with their flags. The table of the field, too, is copied once for all of them: most are repaired.
+fn correct_many_flagged(stream: &mut [u8], flags: &[u8], from: usize, b: Batch) -> Blocks
+    requires { ⌜ (from + totalSize (blocksIn b) ≤ length (now stream)) × (from + totalSize (blocksIn b) ≤ length (now flags)) ⌝ }
+    ensures { λ r. ⌜ Corrects (now (flags .entry)) (blocksIn b) from (now (stream .entry)) (now (stream .exit)) r ⌝ }
+{
+    if b.count == 0 {
+        return Blocks::Corrected(0);
+    }
+    let mut rows = [0u64; 512];
+    remainder::prepare(&mut rows, b.parity);
+    let field = field::han_xin();
+    let mut n: usize = 0;
+    let mut at = from;
+    let mut left = b.count;
+    while 0 < left {
+        let r = correct_flagged(&field, &rows, stream, flags, at, b);
+        let Blocks::Corrected(m) = r else {
+            return r;
+        };
+        n += m;
+        at += b.info + b.parity;
+        left -= 1;
+    }
+    Blocks::Corrected(n)
+}
+
+// The blocks of a batch, whose first begins at `from`. There are no flags where nothing is erased in the whole stream.
 fn correct_batch(stream: &mut [u8], flags: &[u8], from: usize, b: Batch) -> Blocks
     requires { ⌜ (b .info ≤ 255) × (b .parity ≤ 255) × (from + totalSize (blocksIn b) ≤ length (now stream))
         × Flagged (now flags) (from + totalSize (blocksIn b)) ⌝ }
     ensures { λ r. ⌜ Corrects (now (flags .entry)) (blocksIn b) from (now (stream .entry)) (now (stream .exit)) r ⌝ }
 {
-    if is_one_short(b) {
-        return correct_one(stream, flags, from, b);
+    if flags.len() != 0 {
+        return correct_many_flagged(stream, flags, from, b);
     }
-    correct_many(stream, flags, from, b)
+    if is_one_short(b) {
+        return correct_one(stream, from, b);
+    }
+    correct_many(stream, from, b)
 }
 
 // All blocks of the stream, first to last, each set to the codeword that its rule admits; the first that has none ends it. A flag stands

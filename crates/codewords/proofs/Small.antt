@@ -49,7 +49,7 @@ store-below n [] cs s h g = g
 store-below n (p ∷ ps) [] s h g = g
 store-below n (p ∷ ps) (c ∷ cs) s h g = store-below n ps cs (set s p c) (λ i. h (suc i)) (λ i. set-any (λ y. y < n) s p c i (h 0) (g i))
 
-zeros-below : (n k : ℕ) → 0 < n → Below n (replicate k 0)
+pub zeros-below : (n k : ℕ) → 0 < n → Below n (replicate k 0)
 zeros-below n k h i = elim (decLt i k) [
   | yes l ↦ subst (λ (x : ℕ). x < n) (sym (getD-replicate k i 0 0 l)) h
   | no l ↦ subst (λ (x : ℕ). x < n) (sym (List·getD-eq-default (replicate k 0) 0 (omega (arith, length-replicate {A = ℕ} k 0)))) h
@@ -81,7 +81,7 @@ value-none (suc k) [] h = refl
 value-none (suc k) (b ∷ bs) h =
     let e : 2 * 0 + b ≡ 0 = omega (arith, h 0) in ap (λ (a : ℕ). value a (take k bs)) e ∙ value-none k bs (λ i. h (suc i))
 
-words-none : (n : ℕ) (bs : List ℕ) → Below 1 bs → Below 1 (firstWords 8 n bs)
+pub words-none : (n : ℕ) (bs : List ℕ) → Below 1 bs → Below 1 (firstWords 8 n bs)
 unfolding firstWords groups
 words-none zero bs h j = omega arith
 words-none (suc n) bs h zero = omega (arith, value-none 8 bs h)

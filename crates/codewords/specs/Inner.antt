@@ -2,7 +2,7 @@
 use mathlib.Core.Path.{_≡_}
 use mathlib.Core.Bool.{Bool, true, false}
 use mathlib.Core.List.{List, [], _∷_, _++_, map}
-use Prim.Native.Nat.{ℕ, zero, suc, _+_, _-_, _/_, _≤_}
+use Prim.Native.Nat.{ℕ, zero, suc, _+_, _-_, _/_, _<_, _≤_}
 use lib.ListN.{length, getD, take, drop}
 use Rattle.bits.specs.Bits.{bitsOf, firstWords, storeAt}
 use Rattle.codewords.specs.Codewords.{placed, dataBits, toStream, fromStream}
@@ -53,3 +53,9 @@ pub record Moves (d : Bool) (total : ℕ) (cs out : List ℕ) (start i : ℕ) : 
   pub room : total ≤ length out
   pub whole : total ≤ length cs
   pub moving : Moving d (take total cs) (take total out) (starts (length (take total cs)) start (13 - start)) i
+
+-- a square of modules, of which 2 is unknown, and at least as many kinds
+pub record ModulesAndKinds (ks sq : List ℕ) : Type 0 where
+  pub kinds : length sq ≤ length ks
+  pub few : length sq ≤ 65535
+  pub modules : (k : ℕ) → getD sq k 0 < 3

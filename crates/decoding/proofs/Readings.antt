@@ -1,5 +1,5 @@
 -- The answer for the corrected blocks of a square is what its reading gives. Assumes nothing.
-use Rattle.general.proofs.Names.{_≡_, sym, ap, _∙_, _≢_, cond, List, _++_, ℕ, _*_, _≤_, _<_, arith, ℕ-discrete, eq-eqb, ne-eqb, eqb, length, take}
+use Rattle.general.proofs.Names.{_≡_, sym, ap, ap₂, _∙_, _≢_, cond, List, _++_, ℕ, _*_, _≤_, _<_, arith, ℕ-discrete, eq-eqb, ne-eqb, eqb, length, take}
 use Rattle.general.proofs.Names.{take-at, take-all, refl, map, [], _∷_, zero, suc, getD, _%_, _/_, ext-getD, mul-le-mul, getD-take, length-take-le, List·getD-eq-default}
 use Rattle.symbol.specs.Version.{sideOf}
 use Rattle.symbol.specs.Layout.{layoutOf, layoutWritten}
@@ -9,8 +9,9 @@ use Rattle.block_table.specs.Blocks.{totalOf, rowOf, Shape, shapes, shapesOf, t
 use Rattle.symbol.specs.Layout.{dataModules}
 use Rattle.block_table.specs.Inner.{Sound}
 use Rattle.block_table.proofs.Theorems.{shapes-sound}
-use Rattle.codewords.specs.Codewords.{maskBit, dataBits, toStream}
-use Rattle.placement.specs.Walk.{BitsAndKinds}
+use Rattle.codewords.specs.Codewords.{maskAt, maskBit, dataBits, toStream}
+use Rattle.information.specs.Inner.{lowest}
+use Rattle.codewords.specs.Inner.{ModulesAndKinds}
 use Rattle.small_marks.proofs.Open.{open-enough}
 use Rattle.codewords.proofs.Placement.{data-front, length-data}
 use Rattle.blocks.specs.declared.Blocks.{Blocks}
@@ -22,15 +23,14 @@ use Rattle.blocks.proofs.Theorems.{data-left, unset-corrected}
 use Rattle.segments.specs.FromData.{DataOutcome, fromData}
 use Rattle.marks.specs.Receipt.{receiptOf, refusalReceipt}
 use Rattle.marks.specs.Read.{Reading, readingOf, refused, moduleBit, unknownBit, streamFrom, flagsFrom, outcomeReading, bodyOf, blocksIn, flagsIn}
-use Rattle.marks.proofs.Modules.{stream-bits, stream-lit, stream-length, flags-length, flags-none}
+use Rattle.marks.proofs.Modules.{unknown-below, stream-bits, stream-length, flags-length, flags-none}
 use Rattle.codewords.proofs.Small.{Below}
-use Rattle.general.specs.Each.{Each}
 use Rattle.marks.proofs.Starts.{layout-front, has-blocks, no-blocks, row-total, row-small}
 use Rattle.receipts.specs.declared.Mark.{Mark}
 use Rattle.receipts.specs.declared.SquareAnswer.{SquareAnswer}
-use Rattle.receipts.specs.Inner.{Unmasked, receiptIn, FitsReceipt, Refuses, FromOutcome}
+use Rattle.receipts.specs.Inner.{receiptIn, FitsReceipt, Refuses, FromOutcome}
 use Rattle.receipts.proofs.Receipts.{in-accepted, in-refused}
-use Rattle.decoding.specs.Inner.{PassesFirstRefusals, InTable, HasLayout, HasStream, FlagsRead, HasFlags, Maps, AnswersStream, readingIn, bodyOr1}
+use Rattle.decoding.specs.Inner.{PassesFirstRefusals, InTable, HasLayout, HasStream, FlagsRead, HasFlags, AnswersStream, readingIn, bodyOr1}
 use Rattle.bits.specs.Bits.{firstWords}
 use Rattle.blocks.specs.Inner.{correctedData, Numbered}
 
@@ -75,10 +75,29 @@ has-layout m sq out ks F h e =
     let f = layout-front (m .version) out ks (F .low) (F .high) h e in
     record { room = f .0; front = f .1 }
 
-pub square-fits : {m : Mark} {sq : List ℕ} → PassesFirstRefusals m sq → length sq ≤ 35721
-square-fits {m} F = omega (arith, F .size, square-le (sideOf (m .version)) (omega (arith, F .high)))
-
 -- ---- the stream of a square
+
+-- the lowest bit of a module is 1 where it is dark
+pub lowest-is : (sq : List ℕ) → Below 3 sq → lowest sq ≡ map moduleBit sq
+lowest-is [] h = refl
+lowest-is (m ∷ ms) h = ap₂ _∷_ (one m (h 0)) (lowest-is ms (λ i. h (suc i)))
+  where
+    one : (x : ℕ) → x < 3 → x % 2 ≡ moduleBit x
+    one zero h = refl
+    one (suc zero) h = refl
+    one (suc (suc zero)) h = refl
+    one (suc (suc (suc x))) h = absurd (omega arith)
+
+-- half of it is 1 where it is unknown
+pub halves-are : (sq : List ℕ) → Below 3 sq → map (λ m. m / 2) sq ≡ map unknownBit sq
+halves-are [] h = refl
+halves-are (m ∷ ms) h = ap₂ _∷_ (one m (h 0)) (halves-are ms (λ i. h (suc i)))
+  where
+    one : (x : ℕ) → x < 3 → x / 2 ≡ unknownBit x
+    one zero h = refl
+    one (suc zero) h = refl
+    one (suc (suc zero)) h = refl
+    one (suc (suc (suc x))) h = absurd (omega arith)
 
 module _ (m : Mark) (sq ks : List ℕ) (F : PassesFirstRefusals m sq) (D : HasLayout (m .version) ks) where
   abbrev v : ℕ
@@ -87,21 +106,33 @@ module _ (m : Mark) (sq ks : List ℕ) (F : PassesFirstRefusals m sq) (D : HasLa
   front-is : take (length sq) ks ≡ layoutOf v
   front-is = rw (F .size) (D .front)
 
-  bits-are : (f : ℕ → ℕ) → dataBits f 0 ks sq ≡ dataBits f 0 (layoutOf v) sq
-  bits-are f = data-front f 0 ks sq ∙ rw front-is
-
-  pub bits-and-kinds : Below 2 sq → BitsAndKinds ks sq
-  bits-and-kinds b = record { kinds = omega (arith, D .room, F .size); few = omega (arith, F .size, square-le (sideOf v) (omega (arith, F .high))); bits = b }
-
-  pub enough-bits : (f : ℕ → ℕ) (total : ℕ) → total ≡ totalOf v → 8 * totalOf v ≤ dataModules (layoutOf v) → 8 * total ≤ length (dataBits f 0 ks sq)
-  enough-bits f total e h = omega (arith, length-data f 0 ks sq, ap dataModules front-is)
-
-  pub stream-is : Below 2 sq → (side total : ℕ) (st rest : List ℕ) → side ≡ sideOf v → total ≡ totalOf v
-      → st ≡ toStream (firstWords 8 total (dataBits (maskBit side (m .mask)) 0 ks sq)) ++ rest → HasStream m sq st
-  stream-is b side total st rest e f g = record {
-    rest = rest;
-    is = g ∙ rw (f, e, bits-are (maskBit (sideOf v) (m .mask)), stream-bits v sq b (m .mask));
+  pub modules-and-kinds : ModulesAndKinds ks sq
+  modules-and-kinds = record {
+    kinds = omega (arith, D .room, F .size);
+    few = omega (arith, F .size, square-le (sideOf v) (omega (arith, F .high)));
+    modules = F .modules;
   }
+
+  -- something of each module of the square
+  module _ (xs : List ℕ) (size : length xs ≡ length sq) where
+    bits-are : (f : ℕ → ℕ) → dataBits f 0 ks xs ≡ dataBits f 0 (layoutOf v) xs
+    bits-are f = data-front f 0 ks xs ∙ rw (size, front-is)
+
+    pub enough-bits : (f : ℕ → ℕ) (total : ℕ) → total ≡ totalOf v → 8 * totalOf v ≤ dataModules (layoutOf v) → 8 * total ≤ length (dataBits f 0 ks xs)
+    enough-bits f total e h = omega (arith, length-data f 0 ks xs, ap (λ (n : ℕ). dataModules (take n ks)) size, ap dataModules front-is)
+
+    pub stream-is : (side total : ℕ) (st rest : List ℕ) → xs ≡ map moduleBit sq → side ≡ sideOf v → total ≡ totalOf v
+        → st ≡ toStream (firstWords 8 total (dataBits (maskBit side (m .mask)) 0 ks xs)) ++ rest → HasStream m sq st
+    unfolding streamFrom
+    stream-is side total st rest d e f g = record { rest = rest; is = g ∙ rw (f, e, bits-are (maskBit (sideOf v) (m .mask)), d) }
+
+    pub flags-are : (total : ℕ) (fl rest : List ℕ) → xs ≡ map unknownBit sq → total ≡ totalOf v
+        → fl ≡ toStream (firstWords 8 total (dataBits (λ i. 0) 0 ks xs)) ++ rest → FlagsRead v sq fl
+    unfolding flagsFrom maskBit maskAt
+    flags-are total fl rest d f g = record {
+      rest = rest;
+      is = g ∙ rw (f, bits-are (λ i. 0), d, stream-bits v (map unknownBit sq) (unknown-below sq) 0);
+    }
 
   -- ---- whether there are enough data modules
 
@@ -125,10 +156,6 @@ module _ (m : Mark) (sq ks : List ℕ) (F : PassesFirstRefusals m sq) (D : HasLa
 
 pub open-layout : (v : ℕ) → HasLayout v (layoutOf v)
 open-layout v = record { room = omega (arith, layout-length v); front = take-all (sideOf v * sideOf v) (layoutOf v) (omega (arith, layout-length v)) }
-
--- its squares are small
-pub open-square : (v : ℕ) → v < 4 → sideOf v * sideOf v ≤ 729
-open-square v h = let a : sideOf v ≤ 27 = omega arith in mul-le-mul a a
 
 pub open-blocks : (m : Mark) (sq p s : List ℕ) (r : Reading) → PassesFirstRefusals m sq → m .version < 4
     → r ≡ bodyOf (m .version) (m .level) (m .mask) (m .distance) sq p s → r ≡ bodyOr1 m sq p s
@@ -234,67 +261,7 @@ module _ (m : Mark) (R : InTable m) (row : List ℕ) (e : row ≡ rowOf (m .vers
   blocks-corrected st fl p s r n st′ rest′ t p′ s′ a b c W =
       record { reading = λ sq S H. corrected-is st fl p s sq S H r n st′ rest′ t p′ s′ a b c W; small = W .small }
 
--- ---- a square with unknown modules, and one without
-
-module _ (f : ℕ → ℕ) (z : f 0 ≡ 0) where
-  getD-by : (xs : List ℕ) (i : ℕ) → getD (map f xs) i 0 ≡ f (getD xs i 0)
-  getD-by [] i = sym z
-  getD-by (x ∷ xs) zero = refl
-  getD-by (x ∷ xs) (suc i) = getD-by xs i
-
-  pub length-by : (xs : List ℕ) → length (map f xs) ≡ length xs
-  length-by [] = refl
-  length-by (x ∷ xs) = ap suc (length-by xs)
-
-  -- each byte of a square mapped, one after the other
-  pub mapped : (g : ℕ → ℕ) (sq out out′ : List ℕ) (n : ℕ) → Each (λ i x. g (getD sq i 0)) n out out′ → length sq ≤ n → n ≤ length sq → length sq ≤ length out
-      → ((i : ℕ) → g (getD sq i 0) ≡ f (getD sq i 0)) → Maps f sq out′
-  mapped g sq out out′ n E a b h e = record {
-    front =
-        let l : length (take (length sq) out′) ≡ length sq = length-take-le (length sq) out′ (omega (arith, E .size)) in
-        ext-getD 0 (take (length sq) out′) (map f sq) (l ∙ sym (length-by sq)) (λ i o.
-        getD-take (length sq) out′ i 0 (omega arith) ∙ E .done i (omega arith) ∙ e i ∙ sym (getD-by sq i));
-  }
-
--- halves and remainders of modules
-pub dark-is : (x : ℕ) → x < 3 → x % 2 ≡ moduleBit x
-dark-is zero h = refl
-dark-is (suc zero) h = refl
-dark-is (suc (suc zero)) h = refl
-dark-is (suc (suc (suc x))) h = absurd (omega arith)
-
-pub unknown-is : (x : ℕ) → x < 3 → x / 2 ≡ unknownBit x
-unknown-is zero h = refl
-unknown-is (suc zero) h = refl
-unknown-is (suc (suc zero)) h = refl
-unknown-is (suc (suc (suc x))) h = absurd (omega arith)
-
--- the square in a buffer whose front is f of each module, read with mask k
-module _ (m : Mark) (sq : List ℕ) (F : PassesFirstRefusals m sq) (f : ℕ → ℕ) (z : f 0 ≡ 0) (small : Below 2 (map f sq)) (out : List ℕ) (M : Maps f sq out) where
-  abbrev lent : List ℕ
-  lent = take (length sq) out
-
-  pub lent-bits : Below 2 lent
-  lent-bits = rw (M .front) small
-
-  pub lent-passes : (k : ℕ) → k ≤ 3 → PassesFirstRefusals (record { version = m .version; level = m .level; mask = k; distance = m .distance }) lent
-  lent-passes k h = record {
-    low = F .low;
-    high = F .high;
-    level = F .level;
-    mask = h;
-    near = F .near;
-    size = ap length (M .front) ∙ length-by f z sq ∙ F .size;
-    modules = λ i. omega (arith, lent-bits i);
-  }
-
--- its stream is that of the square, or its flags
-pub dark-stream : (m : Mark) (sq out st : List ℕ) → Maps moduleBit sq out → HasStream m (take (length sq) out) st → HasStream m sq st
-dark-stream m sq out st M S = record { rest = S .rest; is = S .is ∙ rw (M .front, ← (stream-lit (m .version) sq (m .mask))) }
-
-pub flags-stream : (m r : Mark) (sq out fl : List ℕ) → Unmasked m r → Maps unknownBit sq out → HasStream r (take (length sq) out) fl → FlagsRead (m .version) sq fl
-unfolding flagsFrom
-flags-stream m r sq out fl U M S = record { rest = S .rest; is = S .is ∙ rw (M .front, U .is) }
+-- ---- flags, and none
 
 pub flags-some : {v : ℕ} {sq fl : List ℕ} → FlagsRead v sq fl → 0 < length fl → HasFlags v sq fl
 flags-some R h = record { some = λ _. R; none = λ e. absurd (omega arith) }

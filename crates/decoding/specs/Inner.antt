@@ -1,7 +1,7 @@
 -- What inner functions say of each other. Nobody has to believe it: the contracts of the operations do not cite it.
 use mathlib.Core.Path.{_≡_}
 use mathlib.Core.Bool.{Bool, false, cond}
-use mathlib.Core.List.{List, _++_, map}
+use mathlib.Core.List.{List, _++_}
 use Prim.Native.Nat.{ℕ, _*_, _<_, _≤_}
 use lib.ListN.{length, getD, take}
 use Rattle.symbol.specs.Version.{sideOf}
@@ -51,10 +51,6 @@ pub record FlagsRead (v : ℕ) (sq fl : List ℕ) : Type 0 where
 pub record HasFlags (v : ℕ) (sq fl : List ℕ) : Type 0 where
   pub some : 0 < length fl → FlagsRead v sq fl
   pub none : length fl ≡ 0 → (i : ℕ) → getD (flagsFrom v sq) i 0 ≡ 0
-
--- the first bytes of a buffer are f of those of a square
-pub record Maps (f : ℕ → ℕ) (sq out : List ℕ) : Type 0 where
-  pub front : take (length sq) out ≡ map f sq
 
 -- what a square read with m gives, if t is the answer for it
 unfoldable pub readingIn : Mark → SquareAnswer → List ℕ → List ℕ → Reading

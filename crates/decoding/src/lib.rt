@@ -6,43 +6,19 @@ ghost use Rattle.symbol.specs.Version.{sideOf};
 ghost use Rattle.symbol.specs.Layout.{layoutOf};
 ghost use Rattle.block_table.specs.Blocks.{totalOf};
 ghost use Rattle.symbol.specs.Layout.{dataModules};
-ghost use Rattle.marks.specs.Read.{moduleBit, unknownBit, bodyOf};
+ghost use Rattle.marks.specs.Read.{bodyOf};
 ghost use Rattle.blocks.specs.Inner.{Flagged};
 ghost use Rattle.receipts.specs.Inner.{FitsReceipt};
-ghost use Rattle.decoding.specs.Inner.{PassesFirstRefusals, Tells, InTable, HasLayout, HasStream, FlagsRead, Maps, AnswersStream, readingIn, bodyOr1};
+ghost use Rattle.decoding.specs.Inner.{PassesFirstRefusals, Tells, InTable, HasLayout, HasStream, FlagsRead, AnswersStream, readingIn, bodyOr1};
 use blocks::Blocks;
 use receipts::Mark;
 use receipts::SquareAnswer;
 use symbol::Version;
 
-// The modules of a square as bits: 1 for a dark one, 0 for a light or unknown one.
-fn dark_bits(out: &mut [u8], square: &[u8])
-    requires { ⌜ (length (now square) ≤ length (now out)) × ((i : ℕ) → getD (now square) i 0 < 3) ⌝ }
-    ensures { λ _. ⌜ Maps moduleBit (now (square .entry)) (now (out .exit)) ⌝ }
-{
-    let mut i: usize = 0;
-    while i < square.len() {
-        out[i] = square[i] % 2;
-        i += 1;
-    }
-}
-
-// The same with 1 for an unknown one.
-fn unknown_bits(out: &mut [u8], square: &[u8])
-    requires { ⌜ (length (now square) ≤ length (now out)) × ((i : ℕ) → getD (now square) i 0 < 3) ⌝ }
-    ensures { λ _. ⌜ Maps unknownBit (now (square .entry)) (now (out .exit)) ⌝ }
-{
-    let mut i: usize = 0;
-    while i < square.len() {
-        out[i] = square[i] / 2;
-        i += 1;
-    }
-}
-
-// The stream of a square of bits whose layout is drawn.
+// The stream of a square whose layout is drawn.
 fn read_stream(stream: &mut [u8], kinds: &[u8], square: &[u8], m: Mark)
     requires { ⌜ PassesFirstRefusals m (now square) × HasLayout (m .version) (now kinds) × (8 * totalOf (m .version) ≤ dataModules (layoutOf (m .version)))
-        × (totalOf (m .version) ≤ length (now stream)) × ((i : ℕ) → getD (now square) i 0 < 2) ⌝ }
+        × (totalOf (m .version) ≤ length (now stream)) ⌝ }
     ensures { λ _. ⌜ HasStream m (now (square .entry)) (now (stream .exit)) ⌝ }
 {
     let side = Version { number: m.version }.side();
@@ -52,7 +28,19 @@ fn read_stream(stream: &mut [u8], kinds: &[u8], square: &[u8], m: Mark)
     codewords::to_stream(stream, &found, total);
 }
 
-// The same for a version with no alignment patterns, whose layout need not be drawn.
+// The flags of such a square.
+fn read_flags(flags: &mut [u8], kinds: &[u8], square: &[u8], m: Mark)
+    requires { ⌜ PassesFirstRefusals m (now square) × HasLayout (m .version) (now kinds) × (8 * totalOf (m .version) ≤ dataModules (layoutOf (m .version)))
+        × (totalOf (m .version) ≤ length (now flags)) ⌝ }
+    ensures { λ _. ⌜ FlagsRead (m .version) (now (square .entry)) (now (flags .exit)) ⌝ }
+{
+    let total = block_table::total_codewords(m.version);
+    let mut found = [0u8; block_table::MAX_CODEWORDS];
+    flags::read_flags(&mut found, total, kinds, square);
+    codewords::to_stream(flags, &found, total);
+}
+
+// The stream of a square of bits of version 1 to 3, which have no alignment patterns: its layout need not be drawn.
 fn read_open_stream(stream: &mut [u8], square: &[u8], m: Mark)
     requires { ⌜ PassesFirstRefusals m (now square) × (m .version < 4) × (totalOf (m .version) ≤ length (now stream))
         × ((i : ℕ) → getD (now square) i 0 < 2) ⌝ }
@@ -62,46 +50,6 @@ fn read_open_stream(stream: &mut [u8], square: &[u8], m: Mark)
     let mut found = [0u8; 50];
     small_marks::read_open(&mut found, total, square, m.version, m.mask);
     codewords::to_stream(stream, &found, total);
-}
-
-// The flags of a square with unknown modules whose layout is drawn: the stream of a square that is dark where modules are unknown, under mask 0.
-// That square is made in a lent buffer.
-fn read_flags(flags: &mut [u8], bits: &mut [u8], kinds: &[u8], square: &[u8], m: Mark)
-    requires { ⌜ PassesFirstRefusals m (now square) × HasLayout (m .version) (now kinds) × (8 * totalOf (m .version) ≤ dataModules (layoutOf (m .version)))
-        × (totalOf (m .version) ≤ length (now flags)) × (length (now square) ≤ length (now bits)) ⌝ }
-    ensures { λ _. ⌜ FlagsRead (m .version) (now (square .entry)) (now (flags .exit)) ⌝ }
-{
-    unknown_bits(bits, square);
-    read_stream(flags, kinds, &bits[..square.len()], receipts::unmasked(m));
-}
-
-// Its stream: that of the square with its unknown modules light.
-fn read_dark(stream: &mut [u8], bits: &mut [u8], kinds: &[u8], square: &[u8], m: Mark)
-    requires { ⌜ PassesFirstRefusals m (now square) × HasLayout (m .version) (now kinds) × (8 * totalOf (m .version) ≤ dataModules (layoutOf (m .version)))
-        × (totalOf (m .version) ≤ length (now stream)) × (length (now square) ≤ length (now bits)) ⌝ }
-    ensures { λ _. ⌜ HasStream m (now (square .entry)) (now (stream .exit)) ⌝ }
-{
-    dark_bits(bits, square);
-    read_stream(stream, kinds, &bits[..square.len()], m);
-}
-
-// The same for a version with no alignment patterns.
-fn read_open_flags(flags: &mut [u8], bits: &mut [u8], square: &[u8], m: Mark)
-    requires { ⌜ PassesFirstRefusals m (now square) × (m .version < 4) × (totalOf (m .version) ≤ length (now flags))
-        × (length (now square) ≤ length (now bits)) ⌝ }
-    ensures { λ _. ⌜ FlagsRead (m .version) (now (square .entry)) (now (flags .exit)) ⌝ }
-{
-    unknown_bits(bits, square);
-    read_open_stream(flags, &bits[..square.len()], receipts::unmasked(m));
-}
-
-fn read_open_dark(stream: &mut [u8], bits: &mut [u8], square: &[u8], m: Mark)
-    requires { ⌜ PassesFirstRefusals m (now square) × (m .version < 4) × (totalOf (m .version) ≤ length (now stream))
-        × (length (now square) ≤ length (now bits)) ⌝ }
-    ensures { λ _. ⌜ HasStream m (now (square .entry)) (now (stream .exit)) ⌝ }
-{
-    dark_bits(bits, square);
-    read_open_stream(stream, &bits[..square.len()], m);
 }
 
 // A stream with its flags corrected, and its segments. The answer holds for every square with these.
@@ -142,11 +90,10 @@ fn decode_unknown(
     ensures { λ r. ⌜ (readingIn m r (now (payload .exit)) (now (script .exit))
         ≡ bodyOf (m .version) (m .level) (m .mask) (m .distance) (now (square .entry)) (now (payload .entry)) (now (script .entry))) × FitsReceipt r ⌝ }
 {
-    let mut bits = [0u8; Version::MAX_SQUARE];
     let mut flags = [0u8; block_table::MAX_CODEWORDS];
-    read_flags(&mut flags, &mut bits, kinds, square, m);
+    read_flags(&mut flags, kinds, square, m);
     let mut stream = [0u8; block_table::MAX_CODEWORDS];
-    read_dark(&mut stream, &mut bits, kinds, square, m);
+    read_stream(&mut stream, kinds, square, m);
     decode_stream(&mut stream, &flags, kinds, m, payload, script)
 }
 
@@ -198,42 +145,18 @@ fn decode_or_refuse(
     decode_with_layout(kinds, square, unknown, m, payload, script)
 }
 
-// The answer for a square of version 1 to 3 with unknown modules.
-fn decode_open_unknown(
-    spare: &mut [u8],
-    square: &[u8],
-    m: Mark,
-    payload: &mut [u8],
-    script: &mut [u8],
-) -> SquareAnswer
-    requires { ⌜ PassesFirstRefusals m (now square) × (m .version < 4) ⌝ }
-    ensures { λ r. ⌜ (readingIn m r (now (payload .exit)) (now (script .exit))
-        ≡ bodyOf (m .version) (m .level) (m .mask) (m .distance) (now (square .entry)) (now (payload .entry)) (now (script .entry))) × FitsReceipt r ⌝ }
-{
-    let mut bits = [0u8; 729];
-    let mut flags = [0u8; 50];
-    read_open_flags(&mut flags, &mut bits, square, m);
-    let mut stream = [0u8; 50];
-    read_open_dark(&mut stream, &mut bits, square, m);
-    decode_stream(&mut stream, &flags, spare, m, payload, script)
-}
-
-// The answer for a square of version 1 to 3, which have no alignment patterns: no layout, and a small buffer, which is sooner cleared.
+// The answer for a square of version 1 to 3 with no unknown modules: no layout, and a small buffer, which is sooner cleared.
 fn decode_open(
     spare: &mut [u8],
     square: &[u8],
-    unknown: bool,
     m: Mark,
     payload: &mut [u8],
     script: &mut [u8],
 ) -> SquareAnswer
-    requires { ⌜ PassesFirstRefusals m (now square) × (m .version < 4) × Tells unknown (now square) ⌝ }
+    requires { ⌜ PassesFirstRefusals m (now square) × (m .version < 4) × ((i : ℕ) → getD (now square) i 0 < 2) ⌝ }
     ensures { λ r. ⌜ (readingIn m r (now (payload .exit)) (now (script .exit))
         ≡ bodyOr1 m (now (square .entry)) (now (payload .entry)) (now (script .entry))) × FitsReceipt r ⌝ }
 {
-    if unknown {
-        return decode_open_unknown(spare, square, m, payload, script);
-    }
     let mut stream = [0u8; 50];
     read_open_stream(&mut stream, square, m);
     decode_stream(&mut stream, &square[..0], spare, m, payload, script)
@@ -252,8 +175,10 @@ pub fn decode(
     ensures { λ r. ⌜ (readingIn m r (now (payload .exit)) (now (script .exit))
         ≡ bodyOr1 m (now (square .entry)) (now (payload .entry)) (now (script .entry))) × FitsReceipt r ⌝ }
 {
-    if m.version < 4 {
-        return decode_open(kinds, square, unknown, m, payload, script);
+    if !unknown {
+        if m.version < 4 {
+            return decode_open(kinds, square, m, payload, script);
+        }
     }
     symbol::layout(m.version, kinds);
     decode_or_refuse(kinds, square, unknown, m, payload, script)

@@ -1,13 +1,13 @@
 -- A block with erased places is repaired exactly where it has a codeword that its rule admits. Assumes nothing.
 use Rattle.general.proofs.Names.{_≡_, refl, sym, ap, _∙_, subst, _≢_, inl, inr, Bool, true, false, cond, true≢false, List, ℕ, _+_, _*_, _≤_, _<_, arith, eq-eqb, ne-eqb}
-use Rattle.general.proofs.Names.{T, ltb, lt-ltb, le-ltb, zero-le, length}
+use Rattle.general.proofs.Names.{T, eqb, ltb, lt-ltb, le-ltb, zero-le, ℕ-discrete, length}
 use Rattle.field.proofs.Field.{Primitive, primitive}
 use Rattle.field.proofs.Instances.{primitive-163}
-use Rattle.reed_solomon.specs.Block.{isCodeword, distance, unfit, nearest}
+use Rattle.reed_solomon.specs.Block.{isCodeword, distance, unfit}
 use Rattle.reed_solomon.specs.Erased.{erasures, unerasedDistance, admitted}
-use Rattle.reed_solomon.specs.Inner.{Syndromes, isClean, Locates}
+use Rattle.reed_solomon.specs.Inner.{Syndromes, isClean, Locates, zerosOf}
 use Rattle.reed_solomon.proofs.Search.{Bytes}
-use Rattle.reed_solomon.proofs.Distance.{distance-self}
+use Rattle.reed_solomon.proofs.Distance.{distance-self, zeros-more, zeros-same}
 use Rattle.reed_solomon.proofs.Codeword.{codeword-zero, zero-codeword, difference}
 use Rattle.reed_solomon.proofs.Clean.{clean-yes, clean-zero}
 use Rattle.reed_solomon.proofs.Erased.{NearErased, none-admitted, near-admits, erased-none, admits-found}
@@ -21,6 +21,15 @@ use Rattle.erasures.specs.Inner.{Rooted, Reduction}
 use Rattle.erasures.proofs.Locating.{l-le, few-unerased, locates}
 use Rattle.erasure_corrector.specs.Erased.{correctErasedOf}
 use Rattle.erasure_corrector.specs.Inner.{HasErased}
+
+-- ---- what is counted
+
+-- one place more: r is 1 if it is erased
+pub erased-next : (f : ℕ → ℕ) (k n r : ℕ) → n + zerosOf k f ≡ k → r ≡ cond (eqb (f k) 0) 0 1 → n + r + zerosOf (k + 1) f ≡ k + 1
+erased-next f k n r e q = elim (ℕ-discrete (f k) 0) [
+  | yes z ↦ omega (arith, zeros-more f k z, rw (eq-eqb (f k) 0 z) at q)
+  | no d ↦ omega (arith, zeros-same f k d, rw (ne-eqb (f k) 0 d) at q)
+]
 
 -- ---- which rule a block has
 
@@ -46,6 +55,11 @@ module _ (poly first parity : ℕ) (flags w : List ℕ) where
   none-erased e = sym (simp (none-admitted poly first parity flags w e, e, le-ltb parity 0 zero-le))
 
 -- ---- a block with erased places
+
+-- what a locator that was applied makes of a block is the answer for it, whether the block was repaired or not
+pub record Settles (answer : BlockOutcome) (done : Bool) (m : ℕ) (w′ : List ℕ) : Type 0 where
+  pub repaired : true ≡ done → record { number = 0; count = m; block = w′ } ≡ answer
+  pub lost : false ≡ done → refusedBlock 6 w′ ≡ answer
 
 module _ {poly parity : ℕ} {flags w : List ℕ} {f : ℕ} (P : Primitive poly) (first : ℕ) (bw : Bytes w) (B : HasErased parity flags w f) where
   abbrev answer : BlockOutcome
@@ -98,27 +112,26 @@ module _ {poly parity : ℕ} {flags w : List ℕ} {f : ℕ} (P : Primitive poly)
         located c N =
             locates poly P first parity flags w (B .size) (B .small) bw s Y f (B .fit) p l A h L H c (N .size) (N .bytes) (N .code) (omega (arith, cost c N))
 
-        pub left-settled : false ≡ b → refusedBlock 6 w′ ≡ answer
-        left-settled e =
-            ap (refusedBlock 6) (X .left e) ∙ lost-settled (λ c N. true≢false (X .found c (N .size) (located c N) .0 ∙ sym e))
-
         -- what is repaired is a codeword in reach
-        pub repaired-settled : true ≡ b → l + l + f + 2 ≤ parity → record { number = 0; count = m; block = w′ } ≡ answer
-        repaired-settled e near =
-            let x = X .fixed e in
-            near-settled w′
-            (record {
-              size = x .size;
-              bytes = x .bytes;
-              code = x .code;
-              few = omega (arith, B .fit, B .are);
-              near = inr (omega (
-                arith,
-                B .are,
-                few-unerased poly P first parity flags w (B .size) (B .small) bw s Y f (B .fit) p l A h L H w′ (x .size) (x .root),
-              ));
-            })
-            m (x .counted)
+        pub applied-settled : l + l + f + 2 ≤ parity → Settles answer b m w′
+        applied-settled near = record {
+          repaired = λ e.
+              let x = X .fixed e in
+              near-settled w′
+              (record {
+                size = x .size;
+                bytes = x .bytes;
+                code = x .code;
+                few = omega (arith, B .fit, B .are);
+                near = inr (omega (
+                  arith,
+                  B .are,
+                  few-unerased poly P first parity flags w (B .size) (B .small) bw s Y f (B .fit) p l A h L H w′ (x .size) (x .root),
+                ));
+              })
+              m (x .counted);
+          lost = λ e. ap (refusedBlock 6) (X .left e) ∙ lost-settled (λ c N. true≢false (X .found c (N .size) (located c N) .0 ∙ sym e));
+        }
 
 -- a block of which division leaves nothing
 pub none-settled : {parity : ℕ} {flags w : List ℕ} {f : ℕ} {r : Register} → Bytes w → HasErased parity flags w f → Remains 0x163 1 parity w r → r ≡ Words.none

@@ -17,23 +17,28 @@ ghost use Rattle.erasure_corrector.specs.Inner.{HasErased, OnlyErased, T
 use corrector::Correction;
 use corrector::apply;
 use corrector::apply::Fix;
-use reed_solomon::errors;
 use reed_solomon::syndromes;
 use remainder::Register;
 
-// How many of the places are erased.
-fn erased(flags: &[u8]) -> usize
-    ensures { λ r. ⌜ r ≡ erasures (now (flags .entry)) ⌝ }
+// 1 if two bytes differ, else 0.
+fn differ(a: u8, b: u8) -> u8
+    ensures { λ r. ⌜ r ≡ cond (eqb a b) 0 1 ⌝ }
 {
-    let n = flags.len();
-    n - errors::zeros(flags, n)
+    if a == b { 0 } else { 1 }
 }
 
-// 1 if a byte has changed, else 0.
-fn changed(old: u8, new: u8) -> usize
-    ensures { λ r. ⌜ r ≡ cond (eqb old new) 0 1 ⌝ }
+// How many of the places are erased. The count is a byte, so that the compiler counts sixteen places at once.
+fn erased(flags: &[u8]) -> usize
+    requires { ⌜ length (now flags) ≤ 255 ⌝ }
+    ensures { λ r. ⌜ r ≡ erasures (now (flags .entry)) ⌝ }
 {
-    if old == new { 0 } else { 1 }
+    let mut count: u8 = 0;
+    let mut k: usize = 0;
+    while k < flags.len() {
+        count += differ(flags[k], 0);
+        k += 1;
+    }
+    count as usize
 }
 
 // The block, of which f places are erased, set to the codeword that its rule admits; its syndromes are s.
@@ -81,10 +86,6 @@ pub fn correct_over(
         ≡ correctErasedOf (polyOf (now (field .entry))) first parity (now (flags .entry)) (now (block .entry)) ⌝ }
 {
     let n = block.len();
-    let f = erased(flags);
-    if f == 0 {
-        return corrector::correct_over(field, first, block, parity);
-    }
     if parity == 0 {
         return Correction::Unfit;
     }
@@ -93,6 +94,10 @@ pub fn correct_over(
     }
     if 255 < n {
         return Correction::Unfit;
+    }
+    let f = erased(flags);
+    if f == 0 {
+        return corrector::correct_over(field, first, block, parity);
     }
     if parity < f {
         return Correction::TooManyErased;
@@ -103,7 +108,7 @@ pub fn correct_over(
 }
 
 // A block of the field of Han Xin.
-pub fn correct_plain(block: &mut [u8], flags: &[u8], parity: usize) -> Correction
+fn correct_plain(block: &mut [u8], flags: &[u8], parity: usize) -> Correction
     requires { ⌜ length (now flags) ≡ length (now block) ⌝ }
     ensures { λ r. ⌜ outcome r (now (block .exit)) ≡ correctErasedOf 0x163 1 parity (now (flags .entry)) (now (block .entry)) ⌝ }
 {
@@ -169,7 +174,7 @@ fn try_one(
     if remainder::is_none(remainder::remainder(rows, block, n)) {
         return Fix {
             done: true,
-            count: changed(old, new),
+            count: differ(old, new) as usize,
         };
     }
     block[k] = old;
@@ -181,6 +186,7 @@ fn try_one(
 
 // A block of which f places are erased and division leaves `left`: one of which nothing is left is a codeword.
 fn correct_left(
+    field: &[u16; 1280],
     rows: &[u64],
     block: &mut [u8],
     flags: &[u8],
@@ -188,30 +194,35 @@ fn correct_left(
     f: usize,
     left: Register,
 ) -> Correction
-    requires { ⌜ Prepared parity (now rows) × tabled parity ⌝ }
+    requires { ⌜ Field (now field) × (polyOf (now field) ≡ 0x163) × Prepared parity (now rows) × tabled parity ⌝ }
     requires { ⌜ HasErased parity (now flags) (now block) f × Remains 0x163 1 parity (now block) left ⌝ }
     ensures { λ r. ⌜ outcome r (now (block .exit)) ≡ settled (now (block .entry)) (admitted 0x163 1 parity (now (flags .entry)) (now (block .entry))) ⌝ }
 {
     if remainder::is_none(left) {
         return Correction::Corrected(0);
     }
-    let field = field::han_xin();
-    let fix = try_one(&field, rows, block, flags, parity, f, left);
+    let fix = try_one(field, rows, block, flags, parity, f, left);
     if fix.done {
         return Correction::Corrected(fix.count);
     }
     let mut s = [0u8; 256];
-    remainder::syndromes(&field, 1, left, parity, &mut s);
-    repair(&field, 1, block, flags, parity, f, &mut s)
+    remainder::syndromes(field, 1, left, parity, &mut s);
+    repair(field, 1, block, flags, parity, f, &mut s)
 }
 
-// A block of the field of Han Xin, by a table that is prepared once for all blocks of one parity.
-pub fn correct_with(rows: &[u64], block: &mut [u8], flags: &[u8], parity: usize) -> Correction
-    requires { ⌜ Prepared parity (now rows) × (length (now flags) ≡ length (now block)) ⌝ }
+// A block of the field of Han Xin, by its table and one that is prepared once for all blocks of one parity.
+pub fn correct_with(
+    field: &[u16; 1280],
+    rows: &[u64],
+    block: &mut [u8],
+    flags: &[u8],
+    parity: usize,
+) -> Correction
+    requires { ⌜ Field (now field) × (polyOf (now field) ≡ 0x163) × Prepared parity (now rows) × (length (now flags) ≡ length (now block)) ⌝ }
     ensures { λ r. ⌜ outcome r (now (block .exit)) ≡ correctErasedOf 0x163 1 parity (now (flags .entry)) (now (block .entry)) ⌝ }
 {
     if corrector::is_untabled(block.len(), parity) {
-        return correct_plain(block, flags, parity);
+        return correct_over(field, 1, block, flags, parity);
     }
     let f = erased(flags);
     if parity < f {
@@ -221,7 +232,7 @@ pub fn correct_with(rows: &[u64], block: &mut [u8], flags: &[u8], parity: usize)
     if f == 0 {
         return corrector::correct_left(block, parity, left);
     }
-    correct_left(rows, block, flags, parity, f, left)
+    correct_left(field, rows, block, flags, parity, f, left)
 }
 
 // SPECIFICATION 3.10, Correct a block with erased places: GF(256) under 163 hex, first root α^1. A table for one short block costs more than
@@ -235,5 +246,6 @@ pub fn correct(block: &mut [u8], flags: &[u8], parity: usize) -> Correction
     }
     let mut rows = [0u64; 512];
     remainder::prepare(&mut rows, parity);
-    correct_with(&rows, block, flags, parity)
+    let field = field::han_xin();
+    correct_with(&field, &rows, block, flags, parity)
 }

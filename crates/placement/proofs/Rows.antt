@@ -1,15 +1,18 @@
 -- A square as its rows.
-use Rattle.general.proofs.Names.{_≡_, refl, ap, ap₂, _∙_, sym, subst, List, [], _∷_, _++_, append-nil, ℕ, zero, suc, _+_, _-_, _*_, _<_, _≤_, add-mul, one-mul}
-use Rattle.general.proofs.Names.{mul-le-mul-left, zero-add, add-zero, add-suc, suc-add, arith, length, getD, take, drop, length-append, length-drop}
+use Rattle.general.proofs.Names.{_≡_, refl, ap, ap₂, _∙_, sym, subst, List, [], _∷_, _++_, append-nil, ℕ, zero, suc, _+_, _-_, _*_, _%_, _<_, _≤_, add-mul, one-mul}
+use Rattle.general.proofs.Names.{mul-le-mul-left, zero-add, add-zero, add-suc, suc-add, arith, decLt, lit<, length, length-take, List·getD-eq-default, getD, take, drop, length-append, length-drop}
 use Rattle.general.proofs.Names.{take-append-drop, drop-of-length-le, length-take-le, take-all, drop-drop, getD-drop, getD-take, bitXor}
 use lib.Arith.{digits-div, digits-mod}
 use lib.Pow.{pow-pos}
 use Rattle.bits.specs.Bits.{lowBits, firstWords, groups}
 use Rattle.bits.proofs.Words.{length-low}
-use Rattle.bits.proofs.Bytes.{take-small}
 use Rattle.codewords.specs.Codewords.{maskAt, maskBit, dataBits}
+use Rattle.information.specs.Inner.{lowest}
+use Rattle.information.proofs.Copies.{lowest-lt}
+use Rattle.codewords.specs.Inner.{ModulesAndKinds}
+use Rattle.placement.proofs.Walk.{length-lowest}
 use Rattle.masks.specs.Columns.{Row}
-use Rattle.placement.specs.Walk.{bitsFrom, BitsAndKinds, FewPending, Walk, Masked, Aligned, rowBits, ReadsColumns}
+use Rattle.placement.specs.Walk.{bitsFrom, FewPending, Walk, Masked, Aligned, rowBits, ReadsColumns}
 use Rattle.placement.specs.declared.Run.{Run}
 
 -- Parts of a list.
@@ -29,8 +32,25 @@ part-length at side l h = length-take-le (at + side - at) (drop at l) (omega (ar
 pub part-at : (at side k : ℕ) (l : List ℕ) → k < side → getD (part at (at + side) l) k 0 ≡ getD l (at + k) 0
 part-at at side k l h = getD-take (at + side - at) (drop at l) k 0 (omega arith) ∙ getD-drop at l k 0
 
-part-small : (at end : ℕ) (l : List ℕ) → ((k : ℕ) → getD l k 0 < 2) → (k : ℕ) → getD (part at end l) k 0 < 2
-part-small at end l h = take-small (end - at) (drop at l) (λ k. subst (λ (x : ℕ). x < 2) (sym (getD-drop at l k 0)) (h (at + k)))
+part-small : (m at end : ℕ) (l : List ℕ) → 0 < m → ((k : ℕ) → getD l k 0 < m) → (k : ℕ) → getD (part at end l) k 0 < m
+part-small m at end l p h k = elim (decLt k (end - at)) [
+  | yes q ↦ rw (getD-take (end - at) (drop at l) k 0 q, getD-drop at l k 0) (h (at + k))
+  | no q ↦ rw (List·getD-eq-default (part at end l) 0 {n = k} (omega (arith, length-take (end - at) (drop at l)))) p
+]
+
+-- the lowest bits of a part
+pub lowest-part : (at end : ℕ) (l : List ℕ) → lowest (part at end l) ≡ part at end (lowest l)
+lowest-part at end l = front (end - at) (drop at l) ∙ ap (take (end - at)) (rest at l)
+  where
+    front : (n : ℕ) (l : List ℕ) → lowest (take n l) ≡ take n (lowest l)
+    front zero l = refl
+    front (suc n) [] = refl
+    front (suc n) (x ∷ l) = ap (λ (r : List ℕ). (x % 2) ∷ r) (front n l)
+
+    rest : (n : ℕ) (l : List ℕ) → lowest (drop n l) ≡ drop n (lowest l)
+    rest zero l = refl
+    rest (suc n) [] = refl
+    rest (suc n) (x ∷ l) = rest n l
 
 -- Rows of a square of side s.
 
@@ -46,14 +66,19 @@ row-mask mask i s c h = sym (ap₂ (λ (x y : ℕ). maskAt mask (x + 1) (y + 1))
 
 pub masked : {row : List ℕ} (sq : List ℕ) (at side : ℕ) → ((k : ℕ) → getD sq k 0 < 2) → ((k : ℕ) → getD row k 0 < 2) → side ≤ 189 → at + side ≤ length sq
     → Masked (part at (at + side) sq) row
-masked sq at side g r s h = record { side = omega (arith, part-length at side sq h); modules = part-small at (at + side) sq g; masks = r }
+masked sq at side g r s h = record { side = omega (arith, part-length at side sq h); modules = part-small 2 at (at + side) sq (lit< tt) g; masks = r }
 
-pub aligned : {mask : ℕ} {ks sq row : List ℕ} (at side : ℕ) → BitsAndKinds ks sq → Row mask row → side ≤ 189 → at + side ≤ length sq
+pub aligned : {mask : ℕ} {ks sq row : List ℕ} (at side : ℕ) → ModulesAndKinds ks sq → Row mask row → side ≤ 189 → at + side ≤ length sq
     → Aligned (part at (at + side) ks) (part at (at + side) sq) row
 aligned {mask} {ks} {sq} {row} at side g r s h =
-    let k : length (part at (at + side) ks) ≡ side = part-length at side ks (omega arith) in
+    let k : length (part at (at + side) ks) ≡ side = part-length at side ks (omega (arith, g .kinds)) in
     let l : length (part at (at + side) sq) ≡ side = part-length at side sq h in
-    record { masked = masked sq at side (g .bits) (r .small) s h; size = l ∙ sym k; room = r .size }
+    record {
+      masked = rw (lowest-part at (at + side) sq) (masked (lowest sq) at side (lowest-lt sq) (r .small) s (omega (arith, length-lowest sq)));
+      size = l ∙ sym k;
+      room = r .size;
+      modules = part-small 3 at (at + side) sq (lit< tt) (g .modules);
+    }
 
 -- The data bits of a square are those of its rows.
 

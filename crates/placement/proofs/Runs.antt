@@ -1,15 +1,16 @@
 -- Runs of modules of one sort.
 use Rattle.general.proofs.Names.{_≡_, refl, ap, ap₂, _∙_, sym, subst, _≢_, List, ℕ, zero, suc, _+_, _-_, _*_, _/_, _%_, _^_, _<_, _≤_, zero-le, suc-le-suc}
-use Rattle.general.proofs.Names.{mod-one, zero-div, zero-mod, add-one, arith, decLt, bitXor, bitAnd, bitOr, or-shr, and-shr, xor-shr, or-mod, and-mod, xor-mod}
+use Rattle.general.proofs.Names.{mod-one, zero-div, zero-mod, add-one, mod-lt, lit<, arith, decLt, bitXor, bitAnd, bitOr, or-shr, and-shr, xor-shr, or-mod, and-mod, xor-mod}
 use Rattle.general.proofs.Names.{and-zero-r, xor-zero-r, T, eqb, eqb→eq, length, getD, List·getD-eq-default}
 use lib.Count.{trailingZeros, under, trailing-le}
 use lib.Pow.{shr-shr, mod-pow-add, mod-mod-pow, field}
 use Rattle.general.proofs.Finite.{upTo, every}
+use Rattle.information.specs.Inner.{lowest}
 use Rattle.bits.specs.Bits.{value}
 use Rattle.placement.specs.Walk.{eightOf, run, behind, unmaskedAt, Gathered, Pushed, Aligned, Skipped, ReadsColumns, ZeroBytesFirst, NoData, Next, ReadsNext}
 use Rattle.placement.specs.declared.Run.{Run}
 use Rattle.placement.proofs.Eights.{eight-byte, eight-down}
-use Rattle.placement.proofs.Walk.{run-small, run-at, run-front, first-value, gathered-is, bits-small, reads-push, reads-skip}
+use Rattle.placement.proofs.Walk.{run-small, run-at, run-front, first-value, gathered-lowest, modules-small, modules-bits, lowest-size, reads-push, reads-skip}
 
 -- Zeros at a number's end.
 
@@ -115,11 +116,12 @@ module _ (ks : List ℕ) (c : ℕ) {k : ℕ} (bytes : (i : ℕ) → getD ks i 0 
       kind (suc j) q z = u .none (suc j) (omega arith) q (byte-is (suc j) (omega arith) ∙ z)
 
 first-are : {ks sq row : List ℕ} {b : ℕ → ℕ} {c k x left g : ℕ} → Next ks sq row b c k x left → Gathered x g → (w : ℕ) → w ≤ left → left ≤ 8
-    → g / 2 ^ (8 - w) ≡ value 0 (run w (unmaskedAt sq row c))
+    → g / 2 ^ (8 - w) ≡ value 0 (run w (unmaskedAt (lowest sq) row c))
 first-are {sq = sq} {row = row} {b = b} {c = c} n g w h l =
     let e : 8 ≡ w + (8 - w) = omega arith in
-    ap (λ (y : ℕ). y / 2 ^ (8 - w)) (gathered-is b (n .small) (n .modules) g ∙ ap (λ (i : ℕ). value 0 (run i b)) e) ∙ first-value b (n .small) w (8 - w)
-    ∙ ap (value 0) (run-front w b (unmaskedAt sq row c) (λ i q. n .bits i (omega arith)))
+    ap (λ (y : ℕ). y / 2 ^ (8 - w)) (gathered-lowest b (n .small) (n .modules) g ∙ ap (λ (i : ℕ). value 0 (run i (λ k. b k % 2))) e)
+    ∙ first-value (λ k. b k % 2) (λ k. mod-lt (b k) (lit< tt)) w (8 - w)
+    ∙ ap (value 0) (run-front w (λ k. b k % 2) (unmaskedAt (lowest sq) row c) (λ i q. n .bits i (omega arith)))
 
 module _ {k x left : ℕ} {out : List ℕ} {r s : Run} (some : 0 < left) (few : left ≤ 8) where
   pub reads-next-push : {out′ : List ℕ} {l g : ℕ} (w : ℕ) → ZeroBytesFirst k l → w ≤ l → w ≤ left → 0 < w → Gathered x g → s .column ≡ r .column + w
@@ -128,7 +130,7 @@ module _ {k x left : ℕ} {out : List ℕ} {r s : Run} (some : 0 < left) (few : 
     go = λ ks sq row u n. (
       omega arith,
       omega arith,
-      reads-push (n .aligned .masked) (n .aligned .size) w (g / 2 ^ (8 - w)) (omega arith)
+      reads-push (n .aligned .masked) (lowest-size (n .aligned)) w (g / 2 ^ (8 - w)) (omega arith)
           (λ j h. sym (byte-is ks (r .column) (n .bytes) (n .kinds) j (omega arith)) ∙ first-byte-zero l j (omega arith)) (first-are n e w b few) f q,
     );
   }
@@ -138,7 +140,7 @@ module _ {k x left : ℕ} {out : List ℕ} {r s : Run} (some : 0 < left) (few : 
   reads-next-skip {w} l u e f g h = record {
     go = λ ks sq row b n.
         let q = subst (Skipped ks (r .column)) (sym e) (passed ks (r .column) (n .bytes) (n .kinds) (omega arith) (λ z. omega (arith, l .first z)) u) in
-        (omega arith, q .most, reads-skip (n .aligned .masked) (n .aligned .size) q f g h);
+        (omega arith, q .most, reads-skip (n .aligned .masked) (lowest-size (n .aligned)) q f g h);
   }
 
 -- Eight bytes of a list that end with it, shifted down.
@@ -150,18 +152,18 @@ down s c left {x} few big e bytes f =
     (λ y h. List·getD-eq-default s 0 {n = length s - 8 + y} (omega arith)) (λ y. let j : length s - 8 + (8 - left + y) ≡ c + y = omega arith in rw j))
 
 module _ {ks sq row : List ℕ} (a : Aligned ks sq row) (bytes : (i : ℕ) → getD ks i 0 < 256) (big : 8 ≤ length ks) where
-  -- the bits of the eight columns that end a row
+  -- the eight modules that end a row, unmasked
   abbrev tail : List ℕ
   tail = run 8 (unmaskedAt sq row (length ks - 8))
 
   pub last-moves : {out out′ : List ℕ} {r s : Run} {k x : ℕ} → r .column < length ks → length ks ≤ r .column + 8
       → k ≡ eightOf (behind ks (length ks - 8)) → x ≡ eightOf (unmaskedAt sq row (length ks - 8))
       → ReadsNext (k / 2 ^ (64 - 8 * (length ks - r .column))) (x / 2 ^ (64 - 8 * (length ks - r .column))) (length ks - r .column) out out′ r s
-      → (r .column < s .column) × (s .column ≤ length ks) × ReadsColumns ks sq row out out′ r s
+      → (r .column < s .column) × (s .column ≤ length ks) × ReadsColumns ks (lowest sq) row out out′ r s
   unfolding run
   last-moves {r = r} lo hi e f m =
       let left = length ks - r .column in
-      let small = run-small 8 (unmaskedAt sq row (length ks - 8)) (bits-small (a .masked) (length ks - 8)) in
+      let small = run-small 4 8 (unmaskedAt sq row (length ks - 8)) (lit< tt) (modules-small a (length ks - 8)) in
       m .go ks sq row (behind tail (8 - left))
       (record {
         aligned = a;
@@ -171,5 +173,6 @@ module _ {ks sq row : List ℕ} (a : Aligned ks sq row) (bytes : (i : ℕ) → g
         modules = down tail (8 - left) left (omega arith) (omega arith) (omega arith) (λ i. omega (arith, small i)) f;
         small = λ i. small (8 - left + i);
         bits = λ i h. let z : length ks - 8 + (8 - (length ks - r .column) + i) ≡ r .column + i = omega arith in
-            run-at 8 (unmaskedAt sq row (length ks - 8)) (8 - left + i) (omega arith) ∙ ap (λ (j : ℕ). bitXor (getD sq j 0) (getD row j 0)) z;
+            ap (λ (y : ℕ). y % 2) (run-at 8 (unmaskedAt sq row (length ks - 8)) (8 - left + i) (omega arith)) ∙ modules-bits a (length ks - 8) (8 - left + i)
+            ∙ ap (λ (j : ℕ). bitXor (getD (lowest sq) j 0) (getD row j 0)) z;
       })

@@ -1,14 +1,16 @@
 -- Bits behind bits, and the walk over a row.
 use Rattle.general.proofs.Names.{_≡_, refl, ap, ap₂, _∙_, sym, _≢_, List, [], _∷_, _++_, append-assoc, ℕ, zero, suc, _+_, _-_, _*_, _/_, _%_, _^_, _<_, _≤_}
 use Rattle.general.proofs.Names.{mod-lt, mod-eq-of-lt, pow-le-pow-right, arith, add-one, zero-add, suc-add, add-suc, add-zero, add-assoc, add-comm, decLt, lit<}
-use Rattle.general.proofs.Names.{length, getD, drop, set, length-set, length-append, take-at, drop-at, drop-cons, take-suc-set, bitXor, xor-lt}
+use Rattle.general.proofs.Names.{length, length-map, getD, drop, set, length-set, length-append, take-at, drop-at, drop-cons, take-suc-set, bitXor, xor-lt, xor-mod}
 use lib.Arith.{digits-lt}
 use lib.Pow.{pow-pos, pow-add, shl-lt, shr-shr, split, high, low, field, mod-mod-pow}
 use Rattle.bits.specs.Bits.{lowBits, value, firstWords, groups}
 use Rattle.bits.proofs.Words.{length-low, low-back}
 use Rattle.bits.proofs.Bytes.{value-add, value-small, low-value}
+use Rattle.information.specs.Inner.{lowest}
+use Rattle.information.proofs.Copies.{lowest-at}
 use Rattle.codewords.specs.Codewords.{dataBits}
-use Rattle.placement.specs.Walk.{bitsFrom, byteOf, eightOf, run, behind, Gathered, FewPending, Words, Stored, Pushed, Masked, unmaskedAt, Skipped}
+use Rattle.placement.specs.Walk.{bitsFrom, byteOf, eightOf, run, behind, Gathered, FewPending, Words, Stored, Pushed, Masked, unmaskedAt, Aligned, Skipped}
 use Rattle.placement.specs.Walk.{rowBits, ReadsColumns}
 use Rattle.placement.specs.declared.Run.{Run}
 use Rattle.placement.proofs.Eights.{xor-eight}
@@ -41,11 +43,11 @@ unfolding run
 length-run zero b = refl
 length-run (suc n) b = ap suc (length-run n (λ k. b (suc k)))
 
-pub run-small : (n : ℕ) (b : ℕ → ℕ) → ((k : ℕ) → b k < 2) → (i : ℕ) → getD (run n b) i 0 < 2
+pub run-small : (m n : ℕ) (b : ℕ → ℕ) → 0 < m → ((k : ℕ) → b k < m) → (i : ℕ) → getD (run n b) i 0 < m
 unfolding run
-run-small zero b h i = omega arith
-run-small (suc n) b h zero = h 0
-run-small (suc n) b h (suc i) = run-small n (λ k. b (suc k)) (λ k. h (suc k)) i
+run-small m zero b p h i = p
+run-small m (suc n) b p h zero = h 0
+run-small m (suc n) b p h (suc i) = run-small m n (λ k. b (suc k)) p (λ k. h (suc k)) i
 
 pub run-at : (n : ℕ) (b : ℕ → ℕ) (i : ℕ) → i < n → getD (run n b) i 0 ≡ b i
 unfolding run
@@ -62,7 +64,7 @@ pub run-ext : (n : ℕ) (a b : ℕ → ℕ) → ((k : ℕ) → a k ≡ b k) → 
 run-ext n a b e = run-front n a b (λ k h. e k)
 
 pub run-low : (n x : ℕ) (b : ℕ → ℕ) → ((k : ℕ) → b k < 2) → value 0 (run n b) ≡ x → run n b ≡ lowBits n x
-run-low n x b h e = sym (low-value (run n b) (run-small n b h)) ∙ ap₂ lowBits (length-run n b) e
+run-low n x b h e = sym (low-value (run n b) (run-small 2 n b (lit< tt) h)) ∙ ap₂ lowBits (length-run n b) e
 
 pub run-eight : (b : ℕ → ℕ) → value 0 (run 8 b) ≡ byteOf b
 unfolding run value
@@ -81,7 +83,7 @@ value-behind v (u ∷ us) vs = value-behind (v * 2 + u) us vs
 
 module _ (f : ℕ → ℕ) (small : (k : ℕ) → f k < 2) where
   run-lt : (n : ℕ) (g : ℕ → ℕ) → ((k : ℕ) → g k < 2) → value 0 (run n g) < 2 ^ n
-  run-lt n g h = rw length-run at (value-small (run n g) (run-small n g h))
+  run-lt n g h = rw length-run at (value-small (run n g) (run-small 2 n g (lit< tt) h))
 
   value-split : (a b : ℕ) → value 0 (run (a + b) f) ≡ value 0 (run a f) * 2 ^ b + value 0 (run b (λ k. f (a + k)))
   value-split a b = rw (run-split a b f, value-behind, value-add (value 0 (run a f)) (run b (λ k. f (a + k))), length-run)
@@ -93,8 +95,13 @@ module _ (f : ℕ → ℕ) (small : (k : ℕ) → f k < 2) where
   pub last-value : (n w : ℕ) → value 0 (run (n + w) f) % 2 ^ w ≡ value 0 (run w (λ k. f (n + k)))
   last-value n w = rw (value-split n w, low (value 0 (run n f)) w (run-lt w (λ k. f (n + k)) (λ k. small (n + k))))
 
+-- bytes below 4 gathered, and bits
+pub gathered-lowest : {x g : ℕ} (b : ℕ → ℕ) → ((k : ℕ) → b k < 4) → x ≡ eightOf b → Gathered x g → g ≡ value 0 (run 8 (λ k. b k % 2))
+gathered-lowest b h e g = g .is b h e ∙ sym (run-eight (λ k. b k % 2))
+
 pub gathered-is : {x g : ℕ} (b : ℕ → ℕ) → ((k : ℕ) → b k < 2) → x ≡ eightOf b → Gathered x g → g ≡ value 0 (run 8 b)
-gathered-is b h e g = g .is b h e ∙ sym (run-eight b)
+gathered-is b h e g =
+    gathered-lowest b (λ k. omega (arith, h k)) e g ∙ ap (value 0) (run-ext 8 (λ k. b k % 2) b (λ k. mod-eq-of-lt (h k)))
 
 -- Codewords.
 
@@ -200,12 +207,25 @@ module _ {sq row : List ℕ} (a : Masked sq row) where
   pub bits-small : (c k : ℕ) → unmaskedAt sq row c k < 2
   bits-small c k = xor-lt 1 (getD sq (c + k) 0) (getD row (c + k) 0) (a .modules (c + k)) (a .masks (c + k))
 
-  pub modules-are : (at : ℕ) {u v : ℕ} → u ≡ eightOf (behind sq at) → v ≡ eightOf (behind row at) → bitXor u v ≡ eightOf (unmaskedAt sq row at)
-  modules-are at eu ev =
-      ap₂ bitXor eu ev ∙ xor-eight (behind sq at) (behind row at) (λ k. omega (arith, a .modules (at + k))) (λ k. omega (arith, a .masks (at + k)))
+pub length-lowest : (g : List ℕ) → length (lowest g) ≡ length g
+length-lowest g = length-map g (λ m. m % 2)
 
-  pub unmasked-is : (at : ℕ) {x g : ℕ} → x ≡ eightOf (unmaskedAt sq row at) → Gathered x g → g ≡ value 0 (run 8 (unmaskedAt sq row at))
-  unmasked-is at e g = gathered-is (unmaskedAt sq row at) (bits-small at) e g
+-- Modules under a mask: their lowest bits are those of the lowest bits under the mask.
+module _ {ks sq row : List ℕ} (a : Aligned ks sq row) where
+  pub modules-small : (c k : ℕ) → unmaskedAt sq row c k < 4
+  modules-small c k = xor-lt 2 (getD sq (c + k) 0) (getD row (c + k) 0) (omega (arith, a .modules (c + k))) (omega (arith, a .masked .masks (c + k)))
+
+  pub modules-bits : (c k : ℕ) → unmaskedAt sq row c k % 2 ≡ unmaskedAt (lowest sq) row c k
+  modules-bits c k =
+      xor-mod (getD sq (c + k) 0) (getD row (c + k) 0) 1 ∙ ap₂ bitXor (lowest-at sq (c + k)) (mod-eq-of-lt (a .masked .masks (c + k)))
+
+  pub lowest-size : length (lowest sq) ≡ length ks
+  lowest-size = length-lowest sq ∙ a .size
+
+  pub unmasked-is : (at : ℕ) {x g : ℕ} → x ≡ eightOf (unmaskedAt sq row at) → Gathered x g → g ≡ value 0 (run 8 (unmaskedAt (lowest sq) row at))
+  unmasked-is at e g =
+      gathered-lowest (unmaskedAt sq row at) (modules-small at) e g
+      ∙ ap (value 0) (run-ext 8 (λ k. unmaskedAt sq row at k % 2) (unmaskedAt (lowest sq) row at) (modules-bits at))
 
 module _ {ks sq row : List ℕ} (a : Masked sq row) (size : length sq ≡ length ks) where
   -- n data modules pushed

@@ -7,6 +7,7 @@ use lib.ListN.{length, getD, take, drop, set}
 use lib.Bits.{bitXor}
 use Rattle.bits.specs.Bits.{lowBits, firstWords}
 use Rattle.codewords.specs.Codewords.{dataBits}
+use Rattle.information.specs.Inner.{lowest}
 use Rattle.placement.specs.declared.Run.{Run}
 
 -- Eight numbers as one. They are functions of 0 to 7, so that what a place holds and what is made of it are said alike.
@@ -37,18 +38,12 @@ bytesOf x =
     (x % 256) ∷ (x / 256 % 256) ∷ (x / 65536 % 256) ∷ (x / 16777216 % 256) ∷ (x / 4294967296 % 256) ∷ (x / 1099511627776 % 256)
     ∷ (x / 281474976710656 % 256) ∷ (x / 72057594037927936 % 256) ∷ []
 
--- bytes that are bits, gathered
+-- the lowest bits of bytes below 4, gathered
 pub record Gathered (x r : ℕ) : Type 0 where
   pub small : r < 256
-  pub is : (b : ℕ → ℕ) → ((k : ℕ) → b k < 2) → x ≡ eightOf b → r ≡ byteOf b
+  pub is : (b : ℕ → ℕ) → ((k : ℕ) → b k < 4) → x ≡ eightOf b → r ≡ byteOf (λ k. b k % 2)
 
 -- Reading.
-
--- a square of bits and at least as many kinds
-pub record BitsAndKinds (ks sq : List ℕ) : Type 0 where
-  pub kinds : length sq ≤ length ks
-  pub few : length sq ≤ 65535
-  pub bits : (i : ℕ) → getD sq i 0 < 2
 
 -- the data bits from a place on
 abbrev pub bitsFrom : (ℕ → ℕ) → List ℕ → List ℕ → ℕ → List ℕ
@@ -78,17 +73,18 @@ pub record Stored (n x : ℕ) (out out′ : List ℕ) (r : ℕ) : Type 0 where
 pub record Pushed (w x : ℕ) (out out′ : List ℕ) (r s : Run) : Type 0 where
   pub go : (total : ℕ) (all rest : List ℕ) → Walk total all out (lowBits w x ++ rest) r → Walk total all out′ rest s
 
--- a row of a square, and its mask
+-- a row of bits, and its mask
 pub record Masked (sq row : List ℕ) : Type 0 where
   pub side : length sq ≤ 192
   pub modules : (k : ℕ) → getD sq k 0 < 2
   pub masks : (k : ℕ) → getD row k 0 < 2
 
--- the same with the kinds of the row, and the mask in a buffer
+-- a row of modules with their kinds, and the mask in a buffer
 pub record Aligned (ks sq row : List ℕ) : Type 0 where
-  pub masked : Masked sq row
+  pub masked : Masked (lowest sq) row
   pub size : length sq ≡ length ks
   pub room : length row ≡ 192
+  pub modules : (k : ℕ) → getD sq k 0 < 3
 
 -- the bits of a row from a column on, as if all its modules were data
 abbrev pub unmaskedAt : List ℕ → List ℕ → ℕ → ℕ → ℕ
@@ -123,17 +119,17 @@ pub record NoData (k w : ℕ) : Type 0 where
   pub most : w ≤ 8
   pub none : (j : ℕ) → 0 < j → j < w → k / 2 ^ (8 * j) % 256 ≢ 0
 
--- the next `left` columns of a row from c on: k has their kinds, and x their bits b
+-- the next `left` columns of a row from c on: k has their kinds, and x bytes whose lowest bits are theirs
 pub record Next (ks sq row : List ℕ) (b : ℕ → ℕ) (c k x left : ℕ) : Type 0 where
   pub aligned : Aligned ks sq row
   pub bytes : (i : ℕ) → getD ks i 0 < 256
   pub kinds : k ≡ eightOf (behind ks c)
   pub inside : c + left ≤ length ks
   pub modules : x ≡ eightOf b
-  pub small : (i : ℕ) → b i < 2
-  pub bits : (i : ℕ) → i < left → b i ≡ unmaskedAt sq row c i
+  pub small : (i : ℕ) → b i < 4
+  pub bits : (i : ℕ) → i < left → b i % 2 ≡ unmaskedAt (lowest sq) row c i
 
 -- some of them are passed, in every such row
 pub record ReadsNext (k x left : ℕ) (out out′ : List ℕ) (r s : Run) : Type 0 where
   pub go : (ks sq row : List ℕ) (b : ℕ → ℕ) → Next ks sq row b (r .column) k x left
-      → (r .column < s .column) × (s .column ≤ length ks) × ReadsColumns ks sq row out out′ r s
+      → (r .column < s .column) × (s .column ≤ length ks) × ReadsColumns ks (lowest sq) row out out′ r s

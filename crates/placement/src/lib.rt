@@ -5,8 +5,10 @@ ghost use mathlib.Core.List.{_++_};
 ghost use Prim.Native.Nat.{ℕ, _+_, _*_, _^_, _≤_, _<_};
 ghost use lib.ListN.{length, drop};
 ghost use Rattle.codewords.specs.Codewords.{maskBit, dataBits};
-ghost use Rattle.placement.specs.Walk.{BitsAndKinds, fourOf, eightOf, behind, Gathered, FewPending, Stored, Pushed, Masked, unmaskedAt, Aligned, ReadsColumns, ZeroBytesFirst, NoData, ReadsNext};
+ghost use Rattle.codewords.specs.Inner.{ModulesAndKinds};
+ghost use Rattle.placement.specs.Walk.{fourOf, eightOf, behind, Gathered, FewPending, Stored, Pushed, Masked, unmaskedAt, Aligned, ReadsColumns, ZeroBytesFirst, NoData, ReadsNext};
 ghost use Rattle.bits.specs.Bits.{firstWords};
+ghost use Rattle.information.specs.Inner.{lowest};
 
 // Where a row is read: the column, the codewords so far, and the first bits of the next, which are the lowest of `value`.
 pub struct Run {
@@ -34,12 +36,13 @@ pub fn eight(s: &[u8], at: usize) -> usize
     low + four(s[at + 4], s[at + 5], s[at + 6], s[at + 7]) * 4294967296
 }
 
-// Eight bytes that are bits, as the number that these bits say: a product brings four of them together.
+// The lowest bits of eight bytes below 4, as the number that these bits say. Two bytes are put into one, so that a single product brings all eight
+// bits together; no two of its terms meet.
 pub fn gather(x: usize) -> usize
     ensures { λ r. ⌜ Gathered x r ⌝ }
 {
-    let high = x % 4294967296 * 134480385 / 16777216 % 16;
-    high * 16 + x / 4294967296 * 134480385 / 16777216 % 16
+    let pairs = x % 4294967296 * 16 + x / 4294967296;
+    (pairs & 0x11111111) * 134480385 / 16777216 % 256
 }
 
 // The codeword x at the place n, if there is such a place.
@@ -79,9 +82,9 @@ pub fn push(out: &mut [u8], r: Run, x: usize, w: usize) -> Run
     }
 }
 
-// The eight bits of a row from a column on, as bytes.
+// Eight modules of a row from a column on, as bytes whose lowest bits are those of the modules, unmasked.
 fn modules(square: &[u8], row: &[u8], at: usize) -> usize
-    requires { ⌜ Masked (now square) (now row) × (length (now row) ≡ 192) × (at + 8 ≤ length (now square)) ⌝ }
+    requires { ⌜ Masked (lowest (now square)) (now row) × (length (now row) ≡ 192) × (at + 8 ≤ length (now square)) ⌝ }
     ensures { λ r. ⌜ r ≡ eightOf (unmaskedAt (now (square .entry)) (now (row .entry)) at) ⌝ }
 {
     eight(square, at) ^ eight(row, at)
@@ -132,7 +135,7 @@ fn advance(out: &mut [u8], k: usize, x: usize, left: usize, r: Run) -> Run
 fn step(out: &mut [u8], kinds: &[u8], square: &[u8], row: &[u8], r: Run) -> Run
     requires { ⌜ Aligned (now kinds) (now square) (now row) × FewPending r × (r .column + 8 ≤ length (now kinds)) ⌝ }
     ensures { λ s. ⌜ FewPending s × (r .column < s .column) × (s .column ≤ length (now (kinds .entry)))
-        × ReadsColumns (now (kinds .entry)) (now (square .entry)) (now (row .entry)) (now (out .entry)) (now (out .exit)) r s ⌝ }
+        × ReadsColumns (now (kinds .entry)) (lowest (now (square .entry))) (now (row .entry)) (now (out .entry)) (now (out .exit)) r s ⌝ }
 {
     let c = r.column;
     let k = eight(kinds, c);
@@ -148,7 +151,7 @@ fn read_last(out: &mut [u8], kinds: &[u8], square: &[u8], row: &[u8], first: Run
     requires { ⌜ Aligned (now kinds) (now square) (now row) × FewPending first × (first .column ≤ length (now kinds)) × (8 ≤ length (now kinds))
         × (length (now kinds) ≤ first .column + 8) ⌝ }
     ensures { λ s. ⌜ FewPending s × (s .column ≡ length (now (kinds .entry)))
-        × ReadsColumns (now (kinds .entry)) (now (square .entry)) (now (row .entry)) (now (out .entry)) (now (out .exit)) first s ⌝ }
+        × ReadsColumns (now (kinds .entry)) (lowest (now (square .entry))) (now (row .entry)) (now (out .entry)) (now (out .exit)) first s ⌝ }
 {
     let end = kinds.len();
     let k = eight(kinds, end - 8);
@@ -176,7 +179,7 @@ pub fn groups_end(side: usize) -> usize
 fn read_row(out: &mut [u8], kinds: &[u8], square: &[u8], row: &[u8], first: Run) -> Run
     requires { ⌜ Aligned (now kinds) (now square) (now row) × FewPending first × (first .column ≡ 0) × (8 ≤ length (now kinds)) ⌝ }
     ensures { λ s. ⌜ FewPending s × (s .column ≡ length (now (kinds .entry)))
-        × ReadsColumns (now (kinds .entry)) (now (square .entry)) (now (row .entry)) (now (out .entry)) (now (out .exit)) first s ⌝ }
+        × ReadsColumns (now (kinds .entry)) (lowest (now (square .entry))) (now (row .entry)) (now (out .entry)) (now (out .exit)) first s ⌝ }
 {
     let end = groups_end(kinds.len());
     let mut r = first;
@@ -188,9 +191,9 @@ fn read_row(out: &mut [u8], kinds: &[u8], square: &[u8], row: &[u8], first: Run)
 
 // As many codewords of a square as `out` has room for.
 fn read_rows(out: &mut [u8], kinds: &[u8], square: &[u8], side: usize, mask: usize)
-    requires { ⌜ BitsAndKinds (now kinds) (now square) × (8 ≤ side) × (side ≤ 189) × (length (now square) ≡ side * side)
-        × (8 * length (now out) ≤ length (dataBits (maskBit side mask) 0 (now kinds) (now square))) ⌝ }
-    ensures { λ _. ⌜ now (out .exit) ≡ firstWords 8 (length (now (out .entry))) (dataBits (maskBit side mask) 0 (now (kinds .entry)) (now (square .entry))) ⌝ }
+    requires { ⌜ ModulesAndKinds (now kinds) (now square) × (8 ≤ side) × (side ≤ 189) × (length (now square) ≡ side * side)
+        × (8 * length (now out) ≤ length (dataBits (maskBit side mask) 0 (now kinds) (lowest (now square)))) ⌝ }
+    ensures { λ _. ⌜ now (out .exit) ≡ firstWords 8 (length (now (out .entry))) (dataBits (maskBit side mask) 0 (now (kinds .entry)) (lowest (now (square .entry)))) ⌝ }
 {
     let mut table = [0u16; 576];
     let mut row = [0u8; 192];
@@ -227,9 +230,9 @@ pub fn read_codewords(
     side: usize,
     mask: usize,
 )
-    requires { ⌜ BitsAndKinds (now kinds) (now square) × (8 ≤ side) × (side ≤ 189) × (length (now square) ≡ side * side) ⌝ }
-    requires { ⌜ (total ≤ length (now out)) × (8 * total ≤ length (dataBits (maskBit side mask) 0 (now kinds) (now square))) ⌝ }
-    ensures { λ _. ⌜ now (out .exit) ≡ firstWords 8 total (dataBits (maskBit side mask) 0 (now (kinds .entry)) (now (square .entry))) ++ drop total
+    requires { ⌜ ModulesAndKinds (now kinds) (now square) × (8 ≤ side) × (side ≤ 189) × (length (now square) ≡ side * side) ⌝ }
+    requires { ⌜ (total ≤ length (now out)) × (8 * total ≤ length (dataBits (maskBit side mask) 0 (now kinds) (lowest (now square)))) ⌝ }
+    ensures { λ _. ⌜ now (out .exit) ≡ firstWords 8 total (dataBits (maskBit side mask) 0 (now (kinds .entry)) (lowest (now (square .entry)))) ++ drop total
         (now (out .entry)) ⌝ }
 {
     read_rows(&mut out[..total], kinds, square, side, mask);

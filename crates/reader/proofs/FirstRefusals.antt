@@ -16,7 +16,7 @@ use Rattle.marks.specs.Read.{moduleBit, withReceipt, readOf, readKnownOf, neare
 use Rattle.marks.proofs.Refusals.{true-unless, unless-true, unless-false, first-skips, first-takes, first-left, first-none}
 use Rattle.marks.proofs.Modules.{modules-below}
 use Rattle.information.specs.Inner.{lowest}
-use Rattle.decoding.proofs.Readings.{dark-is}
+use Rattle.decoding.proofs.Readings.{lowest-is}
 use Rattle.marks.proofs.Marks.{ranges, version-is}
 use Rattle.marks.proofs.Starts.{in-body, no-receipt, in-refusal, side-range, side-back, level-range, mask-range}
 use Rattle.receipts.specs.declared.Mark.{Mark}
@@ -132,11 +132,6 @@ module _ (sq : List ℕ) (v l k : ℕ) (p s r : List ℕ) where
 pub in-square : (v side : ℕ) (sq : List ℕ) → 1 ≤ v → v ≤ 84 → side ≡ sideOf v → length sq ≡ sideOf v * sideOf v
     → (23 ≤ side) × (side ≤ 189) × (side * side ≤ length sq)
 in-square v side sq low high es h = (omega arith, omega arith, omega (arith, ap (λ (x : ℕ). x * x) es))
-
--- the lowest bit of a module is 1 where it is dark
-lowest-is : (sq : List ℕ) → ((i : ℕ) → getD sq i 0 < 3) → lowest sq ≡ map moduleBit sq
-lowest-is [] h = refl
-lowest-is (m ∷ ms) h = ap₂ (λ (x : ℕ) (xs : List ℕ). x ∷ xs) (dark-is m (h 0)) (lowest-is ms (λ i. h (suc i)))
 
 module _ (v side a b : ℕ) (sq : List ℕ) (modules : (i : ℕ) → getD sq i 0 < 3) (es : side ≡ sideOf v) (ea : a ≡ copyOf side false (lowest sq))
     (eb : b ≡ copyOf side true (lowest sq)) (r : NearestInfo) where

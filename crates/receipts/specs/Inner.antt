@@ -11,10 +11,6 @@ use Rattle.marks.specs.Receipt.{receiptOf, refusalReceipt}
 use Rattle.receipts.specs.declared.Mark.{Mark}
 use Rattle.receipts.specs.declared.SquareAnswer.{SquareAnswer}
 
--- the same with mask 0
-pub record Unmasked (m r : Mark) : Type 0 where
-  pub is : r ≡ record { version = m .version; level = m .level; mask = 0; distance = m .distance }
-
 -- the receipt of an answer
 unfoldable pub receiptIn : Mark → SquareAnswer → List ℕ
 receiptIn m t = cond (eqb (t .number) 0) (receiptOf (m .version) (m .level) (m .mask) (t .count) (m .distance) (t .payload) (t .script)) (refusalReceipt (t .number))

@@ -4,7 +4,7 @@ ghost use Prim.Native.Nat.{_%_, _<_, _≤_};
 ghost use lib.ListN.{length};
 ghost use Rattle.block_table.specs.Blocks.{shapes, totalSize, totalData, cut, dataParts};
 ghost use Rattle.segments.specs.FromData.{fromData};
-ghost use Rattle.receipts.specs.Inner.{Unmasked, receiptIn, FitsReceipt, Refuses, FromAnswer, FromOutcome};
+ghost use Rattle.receipts.specs.Inner.{receiptIn, FitsReceipt, Refuses, FromAnswer, FromOutcome};
 ghost use Rattle.marks.specs.Receipt.{receiptOf, refusalReceipt};
 use segments::Answer;
 
@@ -14,18 +14,6 @@ pub struct Mark {
     pub level: usize,
     pub mask: usize,
     pub distance: usize,
-}
-
-// The same under mask 0, which inverts nothing.
-pub fn unmasked(m: Mark) -> Mark
-    ensures { λ r. ⌜ Unmasked m r ⌝ }
-{
-    Mark {
-        version: m.version,
-        level: m.level,
-        mask: 0,
-        distance: m.distance,
-    }
 }
 
 // The answer for a square: the refusal number or 0, the count of corrections, and the lengths of payload and script.

@@ -8,7 +8,7 @@ use Rattle.field.proofs.Entries.{mul-left-zero}
 use Rattle.remainder.specs.declared.Register.{Register}
 use Rattle.remainder.specs.Words.{digits, behind, sumOf, movedOf}
 
-pub pow-up : (n : ℕ) → 256 ^ suc n ≡ 256 ^ n * 256
+pow-up : (n : ℕ) → 256 ^ suc n ≡ 256 ^ n * 256
 pow-up n = omega arith
 
 pow-times : (h n : ℕ) → h * 256 ^ suc n ≡ h * 256 ^ n * 256

@@ -1,5 +1,5 @@
 -- A step of the division: four bytes leave the register, four come in, and the rows of those that left are added.
-use Rattle.general.proofs.Names.{_≡_, refl, sym, ap, ap₂, _∙_, List, [], _∷_, ℕ, zero, suc, _+_, _-_, _*_, _/_, _%_, _^_, _≤_, _<_, arith, mod-lt, add-one}
+use Rattle.general.proofs.Names.{_≡_, refl, sym, ap, ap₂, _∙_, List, [], _∷_, ℕ, zero, suc, _+_, _-_, _*_, _/_, _%_, _^_, _≤_, _<_, arith, mod-lt}
 use Rattle.general.proofs.Names.{T, length, getD, take, bitXor, xor-comm, xor-self, xor-zero-l, xor-zero-r, xor-shifted, xor-lt}
 use lib.Pow.{mod-pow-add, pow-pos}
 use Rattle.field.specs.Field.{mul, orderTest}
@@ -8,8 +8,8 @@ use Rattle.field.proofs.Instances.{primitive-163}
 use Rattle.field.proofs.Xor.{xor-assoc}
 use Rattle.reed_solomon.specs.Block.{evalFrom}
 use Rattle.remainder.specs.declared.Register.{Register}
-use Rattle.remainder.specs.Words.{digits, behind, Zero, rowAt, sumOf, movedOf, Rows, Adds, Front, Keeps, Left, ByteRows, Shifts}
-use Rattle.remainder.proofs.Digits.{pow-up, digits-sum, behind-sum, behind-moved, digits-none, digits-low, digits-next, one-digit}
+use Rattle.remainder.specs.Words.{digits, behind, Zero, rowAt, sumOf, movedOf, Rows, Adds, Keeps, Left, ByteRows, Shifts}
+use Rattle.remainder.proofs.Digits.{digits-sum, behind-sum, behind-moved, digits-none, digits-low, one-digit}
 
 -- the low i + 1 hexadecimal digits
 low-next : (x i : ℕ) → bitXor (x % 2 ^ (4 * i)) (x / 2 ^ (4 * i) % 16 * 2 ^ (4 * i)) ≡ x % 2 ^ (4 * (i + 1))
@@ -91,31 +91,6 @@ eval-four poly x xs i v h bs e =
     (one _ _ (i + 2) (i + 3) (omega arith) (omega arith) (one _ _ (i + 1) (i + 2) (omega arith) (omega arith)
     (one _ _ i (i + 1) (omega arith) (omega arith) refl r₀) r₁) r₂) r₃
 
-pub front-none : (xs : List ℕ) → Front xs 0 0
-unfolding evalFrom
-front-none xs = record { small = omega arith; value = λ poly x T. digits-none poly (primitive poly T) x 4 }
-
-pub front-small : (xs : List ℕ) (i v : ℕ) → Front xs i v → i < 3 → v < 16777216
-front-small xs zero v F h = omega (arith, F .small)
-front-small xs (suc zero) v F h = omega (arith, F .small)
-front-small xs (suc (suc zero)) v F h = omega (arith, F .small)
-front-small xs (suc (suc (suc i))) v F h = absurd (omega arith)
-
-pub front-next : (xs : List ℕ) (i v b : ℕ) → Front xs i v → i < 3 → i < length xs → b ≡ getD xs i 0 → b < 256 → Front xs (i + 1) (v * 256 + b)
-front-next xs i v b F h l e lb = record {
-  small = omega (arith, F .small, ap (λ (n : ℕ). 256 ^ n) (add-one i) ∙ pow-up i);
-  value = λ poly x T.
-      digits-next poly (primitive poly T) x v b (front-small xs i v F h) lb ∙ ap₂ (λ (y z : ℕ). bitXor (mul poly y x) z) (F .value poly x T) e
-      ∙ sym (eval-next poly x 0 xs i (i + 1) (omega arith) l);
-}
-
-pub front-lt : (xs : List ℕ) (i v : ℕ) → Front xs i v → i < 4 → v < 2 ^ 32
-front-lt xs zero v F h = omega (arith, F .small)
-front-lt xs (suc zero) v F h = omega (arith, F .small)
-front-lt xs (suc (suc zero)) v F h = omega (arith, F .small)
-front-lt xs (suc (suc (suc zero))) v F h = omega (arith, F .small)
-front-lt xs (suc (suc (suc (suc i)))) v F h = absurd (omega arith)
-
 -- nothing followed by nothing
 pub empty-zero : (poly : ℕ) → Primitive poly → (x : ℕ) → behind poly x 0 (record { a = 0; b = 0; c = 0; d = 0 }) ≡ 0
 unfolding behind
@@ -126,11 +101,9 @@ pub left-none : (Root : ℕ → Type 0) (block : List ℕ) → Left Root 0 block
 unfolding evalFrom
 left-none Root block = record { zero-at = λ x R. empty-zero 0x163 (primitive 0x163 primitive-163) x }
 
-pub left-start : (t block : List ℕ) (m v : ℕ) (r : Register) → Front block m v → Keeps t v (record { a = 0; b = 0; c = 0; d = 0 }) r
-    → Left (λ x. Rows 0x163 x t) m block r
-left-start t block m v r F K = record {
-  zero-at = λ x R. ap (λ (e : ℕ). behind 0x163 x e r) (sym (F .value 0x163 x (R .field))) ∙ K .keeps 0x163 x 0 R (empty-zero 0x163 (primitive 0x163 (R .field)) x);
-}
+-- the rows of the last byte are some of those of four
+pub left-rows : (t block : List ℕ) (k : ℕ) (r : Register) → Left (λ x. ByteRows 0x163 x t) k block r → Left (λ x. Rows 0x163 x t) k block r
+left-rows t block k r L = record { zero-at = λ x R. L .zero-at x (λ i f a b. R .zero-at i f (omega arith) b) }
 
 pub left-next : (t block : List ℕ) (i v : ℕ) (r n : Register) → Left (λ x. Rows 0x163 x t) i block r → i + 4 ≤ length block → ((j : ℕ) → getD block j 0 < 256)
     → v ≡ getD block i 0 * 16777216 + getD block (i + 1) 0 * 65536 + getD block (i + 2) 0 * 256 + getD block (i + 3) 0 → Keeps t v r n

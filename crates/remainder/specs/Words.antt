@@ -62,11 +62,6 @@ pub record Adds (t : List ℕ) (y : ℕ) (r n : Register) : Type 0 where
 pub record Keeps (t : List ℕ) (v : ℕ) (r n : Register) : Type 0 where
   pub keeps : (poly x e : ℕ) → Rows poly x t → behind poly x e r ≡ 0 → behind poly x (digits poly x e 4 v) n ≡ 0
 
--- the number v of the first n bytes of a block
-pub record Front (block : List ℕ) (n v : ℕ) : Type 0 where
-  pub small : v < 256 ^ n
-  pub value : (poly x : ℕ) → T (orderTest poly) → digits poly x 0 4 v ≡ evalFrom poly x 0 (take n block)
-
 -- the first k bytes of a block followed by the register r are zero at each root
 pub record Left (Root : ℕ → Type 0) (k : ℕ) (block : List ℕ) (r : Register) : Type 0 where
   pub zero-at : (x : ℕ) → Root x → behind 0x163 x (evalFrom 0x163 x 0 (take k block)) r ≡ 0

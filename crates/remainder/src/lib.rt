@@ -5,7 +5,7 @@ ghost use mathlib.Core.Path.{_≡_};
 ghost use mathlib.Core.List.{List};
 ghost use Prim.Native.Nat.{ℕ, _+_, _-_, _*_, _/_, _%_, _^_, _≤_, _<_};
 ghost use lib.ListN.{length, getD};
-ghost use Rattle.remainder.specs.Words.{Zero, rowAt, sumOf, none, Rows, Adds, Keeps, Front, Extended, Filling, Bytewise, Shifts, Prepared, byteAt, tabled, Remains, Leaves};
+ghost use Rattle.remainder.specs.Words.{Zero, rowAt, sumOf, none, Rows, Adds, Keeps, Left, Extended, Filling, Bytewise, ByteRows, Shifts, Prepared, byteAt, tabled, Remains, Leaves};
 ghost use mathlib.Core.Bool.{true};
 ghost use Rattle.field.specs.Field.{power, mul};
 ghost use Rattle.field.specs.Table.{Field, polyOf};
@@ -64,33 +64,41 @@ fn step(t: &[u64], r: Register, v: u64) -> Register
     add_digits(t, moved_half(r), (r.a >> 32) ^ v)
 }
 
-// The first bytes, fewer than four.
-fn front(s: &[u8], n: usize) -> u64
-    requires { ⌜ (n < 4) × (n ≤ length (now s)) ⌝ }
-    ensures { λ r. ⌜ Front (now (s .entry)) n r ⌝ }
+// One byte more, v: the byte that leaves the register is taken off by the rows of the last byte, which a short table has too.
+fn shifted(t: &[u64], r: Register, v: u64) -> Register
+    requires { ⌜ (128 ≤ length (now t)) × (v < 256) ⌝ }
+    ensures { λ n. ⌜ Shifts (now (t .entry)) v r n ⌝ }
 {
-    let mut v: u64 = 0;
-    let mut i: usize = 0;
-    while i < n {
-        v = v * 256 + as_u64(s[i]);
-        i += 1;
-    }
-    v
+    let y = (r.a >> 56) ^ v;
+    add_digit(t, add_digit(t, moved(r), y, 0), y, 1)
 }
 
-// What is left of the first k bytes of a block.
-pub fn remainder(t: &[u64], block: &[u8], k: usize) -> Register
-    requires { ⌜ (length (now t) ≡ 512) × (k ≤ length (now block)) ⌝ }
-    ensures { λ r. ⌜ ((parity : ℕ) → Prepared parity (now (t .entry)) → Leaves parity k (now (block .entry)) r) ⌝ }
+// What is left of the first k bytes of a block, one byte a time.
+fn remainder_bytewise(t: &[u64], block: &[u8], k: usize) -> Register
+    requires { ⌜ (128 ≤ length (now t)) × (k ≤ length (now block)) ⌝ }
+    ensures { λ r. ⌜ Left (λ x. ByteRows 0x163 x (now (t .entry))) k (now (block .entry)) r ⌝ }
 {
-    let none = Register {
+    let mut r = Register {
         a: 0,
         b: 0,
         c: 0,
         d: 0,
     };
+    let mut i: usize = 0;
+    while i < k {
+        r = shifted(t, r, as_u64(block[i]));
+        i += 1;
+    }
+    r
+}
+
+// The same, four bytes a time. The first, fewer than four, are taken one by one, so that `step` has one caller and is compiled into the loop.
+pub fn remainder(t: &[u64], block: &[u8], k: usize) -> Register
+    requires { ⌜ (length (now t) ≡ 512) × (k ≤ length (now block)) ⌝ }
+    ensures { λ r. ⌜ ((parity : ℕ) → Prepared parity (now (t .entry)) → Leaves parity k (now (block .entry)) r) ⌝ }
+{
     let m = k % 4;
-    let mut r = step(t, none, front(block, m));
+    let mut r = remainder_bytewise(t, block, m);
     let mut i = m;
     while i < k {
         r = step(t, r, four(block, i));
@@ -134,15 +142,6 @@ fn fill_byte(t: &mut [u64], k: usize, r: Register)
 {
     let next = fill_digit(t, 2 * k, r);
     fill_digit(t, 2 * k + 1, next);
-}
-
-// One byte more, v: the byte that leaves the register is taken off by the rows of the last byte, which a short table has too.
-fn shifted(t: &[u64], r: Register, v: u64) -> Register
-    requires { ⌜ (128 ≤ length (now t)) × (v < 256) ⌝ }
-    ensures { λ n. ⌜ Shifts (now (t .entry)) v r n ⌝ }
-{
-    let y = (r.a >> 56) ^ v;
-    add_digit(t, add_digit(t, moved(r), y, 0), y, 1)
 }
 
 // The table of the generator g, which is the row of 1, in place of zeros.
@@ -199,18 +198,7 @@ pub fn remainder_short(block: &[u8], k: usize, parity: usize) -> Register
 {
     let mut t = [0u64; 128];
     fill_byte(&mut t, 0, generator(parity));
-    let mut r = Register {
-        a: 0,
-        b: 0,
-        c: 0,
-        d: 0,
-    };
-    let mut i: usize = 0;
-    while i < k {
-        r = shifted(&t, r, as_u64(block[i]));
-        i += 1;
-    }
-    r
+    remainder_bytewise(&t, block, k)
 }
 
 // The bytes of a register. Those that are zero anyway are not unpacked.

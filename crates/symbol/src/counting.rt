@@ -15,8 +15,8 @@ fn data_module(kind: u8) -> u8
 }
 
 // The data modules of a run. Their count is a byte, so that the compiler counts sixteen places at once.
-fn run_modules(kinds: &[u8], from: usize, to: usize) -> u8
-    requires { ⌜ (from ≤ to) × (to ≤ from + 128) × (to ≤ length (now kinds)) ⌝ }
+pub fn run_modules(kinds: &[u8], from: usize, to: usize) -> u8
+    requires { ⌜ (from ≤ to) × (to ≤ from + 224) × (to ≤ length (now kinds)) ⌝ }
     ensures { λ r. ⌜ dataModules (take from (now (kinds .entry))) + r ≡ dataModules (take to (now (kinds .entry))) ⌝ }
 {
     let mut count: u8 = 0;
@@ -28,15 +28,15 @@ fn run_modules(kinds: &[u8], from: usize, to: usize) -> u8
     count
 }
 
-// Where the run that begins at i ends: n, or 128 places on.
-fn run_end(i: usize, n: usize) -> usize
+// Where the run that begins at i ends: n, or 224 places on.
+pub fn run_end(i: usize, n: usize) -> usize
     requires { ⌜ i < n ⌝ }
-    ensures { λ r. ⌜ (i < r) × (r ≤ n) × (r ≤ i + 128) ⌝ }
+    ensures { λ r. ⌜ (i < r) × (r ≤ n) × (r ≤ i + 224) ⌝ }
 {
-    if n - i < 128 {
+    if n - i < 224 {
         return n;
     }
-    i + 128
+    i + 224
 }
 
 // How many data modules the first n kinds have.

@@ -16,14 +16,19 @@ abbrev μ-loop : tie.MeasureT-loop
 
 loop-holds : tie.Need-loop-holds Inv-loop μ-loop
 unfolding behind
-loop-holds c = let start = c .before .before .before in blocks-left-start _ _ _ _ (omega arith) (record { enough = λ h. omega (arith, start .pre .3 .enough h) })
+loop-holds c = blocks-left-start _ _ _ _ (omega arith)
 
 correct-batch-requires : tie.Need-correct-batch-requires Inv-loop μ-loop
 correct-batch-requires c κs =
     let batch-of = c .before .batch-of in
     let loop = c .before .before .before .loop in
     let room = blocks-left-room (loop .inv) (blocksIn (batch-of .result)) _ (behind-next _ _ (c .before .before .loop-test .taken) _ (batch-of .ensures .is)) in
-    (batch-of .ensures .info, batch-of .ensures .parity, omega (arith, room .0), room .1)
+    let flagged = c .before .before .before .before .before .before .before .pre .3 in (
+      batch-of .ensures .info,
+      batch-of .ensures .parity,
+      omega (arith, room .0),
+      record { enough = λ h. omega (arith, room .1, flagged .enough h) },
+    )
 
 -- the batch of a turn is corrected
 next : (c : tie.After-known-told Inv-loop μ-loop) →

@@ -7,7 +7,7 @@ use Rattle.decoding.proofs.decode_with_layout.Tie as tie
 read-stream-requires : tie.Need-read-stream-requires
 read-stream-requires c κs =
     let a = c .before .before .before .before .before .before .before .before .before .pre in
-    (a .0, a .1, a .2, omega (arith, total-ten _ (a .0 .low) (c .before .before .if2 .taken)), a .3 .none (c .before .before .before .before .if1 .left))
+    (a .0, a .1, a .2, omega (arith, total-ten _ (a .0 .low) (c .before .before .if2 .taken)))
 
 decode-stream-requires : tie.Need-decode-stream-requires
 decode-stream-requires c κs =
@@ -24,7 +24,7 @@ returns-2 c =
 read-stream-requires-2 : tie.Need-read-stream-requires-2
 read-stream-requires-2 c κs =
     let a = c .before .before .before .before .before .before .before .before .before .pre in
-    (a .0, a .1, a .2, omega (arith, total-small _ (a .0 .low) (a .0 .high)), a .3 .none (c .before .before .before .before .if1 .left))
+    (a .0, a .1, a .2, omega (arith, total-small _ (a .0 .low) (a .0 .high)))
 
 decode-stream-requires-2 : tie.Need-decode-stream-requires-2
 decode-stream-requires-2 c κs =

@@ -1,9 +1,9 @@
 -- `read_open_stream` meets its contract. Assumes nothing.
-use Rattle.general.proofs.Names.{_∙_, refl, ap, List, _++_, ℕ, arith, drop, needs}
+use Rattle.general.proofs.Names.{_∙_, refl, sym, ap, List, _++_, ℕ, arith, drop, needs}
 use Rattle.codewords.specs.Codewords.{toStream}
 use Rattle.block_table.proofs.Rows.{total-open}
 use Rattle.small_marks.proofs.Open.{open-enough}
-use Rattle.marks.proofs.Modules.{codewords-taken}
+use Rattle.marks.proofs.Modules.{bits-are, codewords-taken}
 use Rattle.decoding.proofs.Readings.{enough-bits, stream-is, open-layout}
 use Rattle.decoding.proofs.read_open_stream.Tie as tie
 
@@ -15,7 +15,7 @@ read-open-requires c κs =
       (f .low, omega (arith, a .pre .1), f .mask, f .size, a .pre .3),
       (
         omega (arith, total .ensures .0, total-open _ (f .low) (a .pre .1)),
-        enough-bits (a .args .m) _ _ f (open-layout _) _ (total .result)
+        enough-bits (a .args .m) _ _ f (open-layout _) _ refl _ (total .result)
             (total .ensures .0) (open-enough _ (f .low) (omega (arith, a .pre .1))),
       ),
     )
@@ -31,7 +31,8 @@ returns : tie.Need-returns
 returns c =
     let a = c .before .before .before .before .before .before .before .before .before .before .before in
     let total = c .before .before .before .before .before .before .before .before .total-codewords in
-    stream-is (a .args .m) _ _ (a .pre .0) (open-layout _) (a .pre .3) _ _ _ _ refl (total .ensures .0)
+    let sq = a .args .square .now in
+    stream-is (a .args .m) _ _ (a .pre .0) (open-layout _) sq refl _ _ _ _ (sym (bits-are sq (a .pre .3))) refl (total .ensures .0)
     (c .before .before .to-stream .ensures ∙ ap (λ (x : List ℕ). toStream x ++ drop (total .result) (a .args .stream .now))
     (codewords-taken _ _ _ _ (c .before .before .before .before .before .before .read-open .ensures)))
 

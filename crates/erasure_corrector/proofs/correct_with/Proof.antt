@@ -6,6 +6,14 @@ use Rattle.corrector.proofs.Repairs.{whole-left}
 use Rattle.erasure_corrector.proofs.Repairs.{none-erased, many-refused, fit-settled}
 use Rattle.erasure_corrector.proofs.correct_with.Tie as tie
 
+returns : tie.Need-returns
+returns c =
+    let start = c .before .before .before .before .before .before .before .before .before in
+    rw (start .pre .1) at (c .before .before .correct-over .ensures)
+
+erased-requires : tie.Need-erased-requires
+erased-requires c κs = let fits = c .before .is-untabled .ensures (c .if1 .left) in omega arith
+
 returns-2 : tie.Need-returns-2
 unfolding outcome
 returns-2 c =
@@ -19,7 +27,7 @@ correct-left-requires c κs =
     let tabled = divided .before .before .before .before in
     let fits = tabled .before .is-untabled .ensures (tabled .if1 .left) in
     let start = tabled .before .before .before .before .before in
-    (fits, whole-left (divided .remainder .ensures _ (start .pre .0)) (fits .0) (omega arith))
+    (fits, whole-left (divided .remainder .ensures _ (start .pre .2)) (fits .0) (omega arith))
 
 returns-3 : tie.Need-returns-3
 returns-3 c =
@@ -34,17 +42,17 @@ correct-left-requires-2 c κs =
     let tabled = counted .before in
     let fits = tabled .before .is-untabled .ensures (tabled .if1 .left) in
     let start = tabled .before .before .before .before .before in (
-      (start .pre .0, fits .0),
+      (start .pre .0, start .pre .1, start .pre .2, fits .0),
       (
         record {
           parity-le = omega (arith, fits .0 .1);
           small = fits .2;
-          size = start .pre .1;
+          size = start .pre .3;
           some = omega (arith, c .before .if3 .left);
           fit = omega (arith, divided .before .before .if2 .left);
           are = counted .erased .ensures;
         },
-        whole-left (divided .remainder .ensures _ (start .pre .0)) (fits .0) (omega arith),
+        whole-left (divided .remainder .ensures _ (start .pre .2)) (fits .0) (omega arith),
       ),
     )
 
@@ -60,5 +68,5 @@ returns-4 c =
 
 pub correct-with-spec : {M : Type 1} → Rattle.erasure_corrector.proofs.correct_with.Statement.statement M
 correct-with-spec =
-    tie.close (tie.spec (λ c κs. search needs) (λ c κs. search needs) (λ c. search needs) (λ c. search needs) (λ c κs. search needs) returns-2
+    tie.close (tie.spec (λ c κs. search needs) (λ c κs. search needs) (λ c. search needs) returns erased-requires returns-2
     (λ c κs. search needs) correct-left-requires (λ c. search needs) returns-3 correct-left-requires-2 (λ c. search needs) returns-4)

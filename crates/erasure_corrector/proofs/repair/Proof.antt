@@ -1,10 +1,12 @@
 -- `repair` meets its contract: a codeword is its own; else the locator refuses the block, or is applied. Assumes nothing.
 use Rattle.general.proofs.Names.{refl, sym, _∙_, arith, needs}
+use Rattle.field.specs.Table.{polyOf}
 use Rattle.field.proofs.Entries.{the-field}
 use Rattle.reed_solomon.proofs.Massey.{zeros}
 use Rattle.reed_solomon.proofs.Erased.{erasures-zeros}
-use Rattle.corrector.specs.Correct.{outcome}
-use Rattle.erasure_corrector.proofs.Repairs.{clean-settled, long-settled, left-settled, repaired-settled}
+use Rattle.reed_solomon.specs.Erased.{admitted}
+use Rattle.corrector.specs.Correct.{outcome, settled}
+use Rattle.erasure_corrector.proofs.Repairs.{Settles, clean-settled, long-settled, applied-settled}
 use Rattle.erasure_corrector.proofs.repair.Tie as tie
 
 returns : tie.Need-returns
@@ -57,31 +59,30 @@ apply-requires c κs =
       ),
     )
 
-returns-3 : tie.Need-returns-3
-unfolding outcome
-returns-3 c =
-    let applied = c .before .before .before .before .before in
-    let rooted = applied .before .before .before .before .before in
+-- what the locator that was applied makes of the block
+applied : (c : tie.After-apply) →
+    let start = c .before .before .before .before .before .before .before .before .before .before .before .before .before .before .before .before .before .before in
+    let block = start .args .block .now in
+    let fix = c .apply in
+    Settles (settled block (admitted (polyOf (start .args .field .now)) (start .args .first) (start .args .parity) (start .args .flags .now) block))
+    (fix .result .done) (fix .result .count) (fix .last .1 .1 .0)
+applied c =
+    let rooted = c .before .before .before .before .before in
     let located = rooted .before .before .before .before in
     let tested = located .before .before .before in
     let start = tested .before .before .before .before .before .before in
     let bytes = tested .before .before .before .before .before .slice-known in
-    repaired-settled (the-field _ (start .pre .0 .0)) _ (λ i. omega (arith, bytes .given i)) (start .pre .1 .0) (start .pre .1 .1)
-    (sym (tested .if1 .left) ∙ tested .before .clean .ensures) (located .locate .ensures) (rooted .add-roots .ensures) (applied .apply .ensures)
-    (sym (c .if3 .taken)) (omega (arith, rooted .before .before .if2 .left))
+    applied-settled (the-field _ (start .pre .0 .0)) _ (λ i. omega (arith, bytes .given i)) (start .pre .1 .0) (start .pre .1 .1)
+    (sym (tested .if1 .left) ∙ tested .before .clean .ensures) (located .locate .ensures) (rooted .add-roots .ensures) (c .apply .ensures)
+    (omega (arith, rooted .before .before .if2 .left))
+
+returns-3 : tie.Need-returns-3
+unfolding outcome
+returns-3 c = applied (c .before .before .before .before .before) .repaired (sym (c .if3 .taken))
 
 returns-4 : tie.Need-returns-4
 unfolding outcome
-returns-4 c =
-    let applied = c .before .before .before .before .before in
-    let rooted = applied .before .before .before .before .before in
-    let located = rooted .before .before .before .before in
-    let tested = located .before .before .before in
-    let start = tested .before .before .before .before .before .before in
-    let bytes = tested .before .before .before .before .before .slice-known in
-    left-settled (the-field _ (start .pre .0 .0)) _ (λ i. omega (arith, bytes .given i)) (start .pre .1 .0) (start .pre .1 .1)
-    (sym (tested .if1 .left) ∙ tested .before .clean .ensures) (located .locate .ensures) (rooted .add-roots .ensures) (applied .apply .ensures)
-    (sym (c .if3 .left))
+returns-4 c = applied (c .before .before .before .before .before) .lost (sym (c .if3 .left))
 
 pub repair-spec : {M : Type 1} → Rattle.erasure_corrector.proofs.repair.Statement.statement M
 repair-spec =

@@ -21,7 +21,7 @@ returns-2 c =
     let found = inside .before in
     let start = found .before .before .before .before in
     tried _ _ _ _ (inside .if1 .left) (found .only-erased .ensures) (start .pre .0 .2)
-    (left .remainder .ensures _ (start .pre .0 .1)) refl (tested .before .is-none .ensures (tested .if2 .taken)) (c .changed .ensures)
+    (left .remainder .ensures _ (start .pre .0 .1)) refl (tested .before .is-none .ensures (tested .if2 .taken)) (c .differ .ensures)
 
 returns-3 : tie.Need-returns-3
 returns-3 c =
@@ -32,4 +32,4 @@ pub try-one-spec : {M : Type 1} → Rattle.erasure_corrector.proofs.try
 try-one-spec =
     tie.close (tie.spec (λ c κs. search needs) (λ c. tried-not refl) (λ c. search needs) syndromes-requires (λ c. search needs) (λ c. search needs)
     (λ c. search needs) (λ c. search needs) (λ c. search needs) (λ c κs. search needs) (λ c. search needs) remainder-requires (λ c κs. search needs)
-    (λ c κs. search needs) (λ c. search needs) returns-2 (λ c. search needs) (λ c. search needs) returns-3)
+    (λ c κs. search needs) (λ c. search needs) (λ c. search needs) returns-2 (λ c. search needs) (λ c. search needs) returns-3)

@@ -1,25 +1,29 @@
 -- `read_last` meets its contract. Assumes nothing.
-use Rattle.placement.proofs.Walk.{reads-none, reads-on}
+use Rattle.placement.proofs.Walk.{lowest-size, reads-none, reads-on}
 use Rattle.placement.proofs.Runs.{last-moves}
 use Rattle.placement.specs.Walk.{FewPending, ReadsColumns}
 use Rattle.general.proofs.Names.{length, _≡_, refl, _∙_, _-_, _≤_, arith}
+use Rattle.information.specs.Inner.{lowest}
 use Rattle.placement.proofs.read_last.Tie as tie
 
 abbrev Inv-loop : tie.InvT-loop
 Inv-loop out₀ kinds square row end k x r₀ out r =
-    FewPending r × (r₀ .column ≤ r .column) × (r .column ≤ length kinds) × ReadsColumns kinds square row out₀ out r₀ r × (length out ≡ length out₀)
+    FewPending r × (r₀ .column ≤ r .column) × (r .column ≤ length kinds) × ReadsColumns kinds (lowest square) row out₀ out r₀ r × (length out ≡ length out₀)
 
 abbrev μ-loop : tie.MeasureT-loop
 μ-loop out₀ kinds square row end k x r₀ out r = length kinds - r .column
 
 modules-requires : tie.Need-modules-requires Inv-loop μ-loop
-modules-requires c κs = let start = c .before .before .before .before .before in (start .pre .0 .masked, start .pre .0 .room, omega arith)
+modules-requires c κs = let start = c .before .before .before .before .before in (start .pre .0 .masked, start .pre .0 .room, omega (arith, start .pre .0 .size))
 
 loop-holds : tie.Need-loop-holds Inv-loop μ-loop
 loop-holds c = let start = c .before .before .before .before .before .before in (start .pre .1, omega arith, start .pre .2, reads-none, refl)
 
 advance-requires : tie.Need-advance-requires Inv-loop μ-loop
-advance-requires c κs = let loop = c .before .before .before .before .loop in (loop .inv .0, omega arith, omega arith, omega arith)
+advance-requires c κs =
+    let loop = c .before .before .before .before .loop in
+    let a = c .before .before .before .before .before .before .before .before .before .before .before .pre .0 in
+    (loop .inv .0, omega arith, omega arith, omega (arith, a .masked .side, lowest-size a))
 
 loop-less : tie.Need-loop-less Inv-loop μ-loop
 loop-less c =

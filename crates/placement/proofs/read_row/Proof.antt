@@ -2,10 +2,11 @@
 use Rattle.placement.proofs.Walk.{reads-none, reads-on}
 use Rattle.placement.specs.Walk.{FewPending, ReadsColumns}
 use Rattle.general.proofs.Names.{length, _≡_, refl, _∙_, _-_, _≤_, arith, needs}
+use Rattle.information.specs.Inner.{lowest}
 use Rattle.placement.proofs.read_row.Tie as tie
 
 abbrev Inv-loop : tie.InvT-loop
-Inv-loop out₀ kinds square row end r₀ out r = FewPending r × (r .column ≤ length kinds) × ReadsColumns kinds square row out₀ out r₀ r × (length out ≡ length out₀)
+Inv-loop out₀ kinds square row end r₀ out r = FewPending r × (r .column ≤ length kinds) × ReadsColumns kinds (lowest square) row out₀ out r₀ r × (length out ≡ length out₀)
 
 abbrev μ-loop : tie.MeasureT-loop
 μ-loop out₀ kinds square row end r₀ out r = length kinds - r .column

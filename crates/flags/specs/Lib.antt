@@ -1,0 +1,2 @@
+-- `Inner` is for inner functions: nobody has to believe it.
+pub mod Inner
