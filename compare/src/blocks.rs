@@ -2,6 +2,7 @@
 use crate::erased;
 use crate::reed_solomon::{Field, access, gf256};
 use crate::others::Fec;
+use crate::places;
 use crate::sheet::{Sheet, time};
 use crate::tools::{Random, differs, hex};
 use std::hint::black_box;
@@ -340,6 +341,7 @@ pub fn compare() {
         both.block(&damaged(wrong, &mut random, length, parity, 0), parity);
     }
     both.report("codewords of another field");
+    places::compare();
     erased::compare();
 }
 

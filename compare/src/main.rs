@@ -10,6 +10,7 @@ include!(concat!(env!("OUT_DIR"), "/original.rs"));
 mod blocks;
 mod erased;
 mod others;
+mod places;
 mod requests;
 mod segments;
 mod sheet;
@@ -68,10 +69,11 @@ const PARTS: [Part; 5] = [
 ];
 
 /// The parts of the benchmark.
-const BENCHES: [(&str, fn(&mut sheet::Sheet)); 6] = [
+const BENCHES: [(&str, fn(&mut sheet::Sheet)); 7] = [
     ("read", squares::reading),
     ("write", squares::writing_speed),
     ("blocks", blocks::bench),
+    ("places", places::bench),
     ("segments", segments::bench),
     ("symbol", symbol::bench),
     ("stack", |_| squares::stack()),

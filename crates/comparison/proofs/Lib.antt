@@ -1,2 +1,3 @@
 -- The files of laws.
 pub mod Fields
+pub mod Horner

@@ -4,7 +4,8 @@ use Rattle.general.proofs.Names.{length, ext-getD, xor-self, xor-zero-r}
 use Rattle.field.proofs.Field.{Primitive}
 use Rattle.general.specs.Each.{Each}
 use Rattle.reed_solomon.specs.Sum.{_⊕_, seq, degree, syndrome}
-use Rattle.reed_solomon.specs.Inner.{Syndromes, isClean, locatorAt, ValuesAt, zerosOf, Locates, ErrorAt, Errors, withoutAll, repaired}
+use Rattle.reed_solomon.specs.Places.{locatorAt}
+use Rattle.reed_solomon.specs.Inner.{Syndromes, isClean, ValuesAt, zerosOf, Locates, ErrorAt, Errors, withoutAll, repaired}
 use Rattle.reed_solomon.proofs.Sum.{add-cancel}
 use Rattle.reed_solomon.proofs.Peel.{syndrome-add, syndrome-ext}
 use Rattle.reed_solomon.proofs.Search.{Bytes}

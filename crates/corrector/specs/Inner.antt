@@ -7,7 +7,8 @@ use lib.Dec.{T}
 use lib.ListN.{length}
 use Rattle.reed_solomon.specs.Sum.{_⊕_, seq, degree}
 use Rattle.reed_solomon.specs.Block.{isCodeword, distance}
-use Rattle.reed_solomon.specs.Inner.{locatorAt, Locates}
+use Rattle.reed_solomon.specs.Places.{locatorAt}
+use Rattle.reed_solomon.specs.Inner.{Locates}
 
 -- w′ is a codeword that differs from w at zeros of h alone, in as many places as counted
 pub record Fixed (poly first parity : ℕ) (w h : List ℕ) (l count : ℕ) (w′ : List ℕ) : Type 0 where

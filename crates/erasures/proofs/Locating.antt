@@ -6,7 +6,8 @@ use Rattle.field.proofs.Field.{Primitive, sum-lt}
 use Rattle.reed_solomon.specs.Sum.{_⊕_, seq, degree, locator, syndrome}
 use Rattle.reed_solomon.specs.Block.{isCodeword, distance}
 use Rattle.reed_solomon.specs.Erased.{erasures, unerased, unerasedDistance}
-use Rattle.reed_solomon.specs.Inner.{Syndromes, locatorAt, zerosOf, Locates}
+use Rattle.reed_solomon.specs.Places.{locatorAt}
+use Rattle.reed_solomon.specs.Inner.{Syndromes, zerosOf, Locates}
 use Rattle.reed_solomon.proofs.Sum.{add-zero-eq}
 use Rattle.reed_solomon.proofs.Horner.{horner-lt, few-zeros}
 use Rattle.reed_solomon.proofs.Search.{Bytes}

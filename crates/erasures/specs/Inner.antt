@@ -7,7 +7,8 @@ use lib.ListN.{length}
 use Rattle.field.specs.Field.{mul}
 use Rattle.reed_solomon.specs.Sum.{_⊕_, seq, degree}
 use Rattle.reed_solomon.specs.Register.{discrepancy, Tail}
-use Rattle.reed_solomon.specs.Inner.{locatorAt, zerosOf, Shortest}
+use Rattle.reed_solomon.specs.Places.{locatorAt}
+use Rattle.reed_solomon.specs.Inner.{zerosOf, Shortest}
 
 -- f′ is f times x + a
 pub record Times (poly a : ℕ) (f f′ : List ℕ) : Type 0 where

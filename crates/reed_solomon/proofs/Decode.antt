@@ -10,7 +10,8 @@ use Rattle.reed_solomon.proofs.Register.{discrepancy-ext}
 use Rattle.reed_solomon.proofs.Horner.{horner-lt, discrepancy-value, few-zeros}
 use Rattle.reed_solomon.proofs.LocatorLaws.{product, product-first, product-makes}
 use Rattle.reed_solomon.specs.Block.{eval, isCodeword, distance}
-use Rattle.reed_solomon.specs.Inner.{Syndromes, Shortest, locatorAt, Locates}
+use Rattle.reed_solomon.specs.Places.{locatorAt}
+use Rattle.reed_solomon.specs.Inner.{Syndromes, Shortest, Locates}
 use Rattle.reed_solomon.proofs.Search.{Bytes}
 use Rattle.reed_solomon.proofs.Distance.{places, places-length, differ-zeros}
 use Rattle.reed_solomon.proofs.Codeword.{codeword-zero, difference, difference-null, difference-syndrome}

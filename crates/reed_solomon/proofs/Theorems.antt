@@ -1,14 +1,17 @@
--- What a customer may quote of blocks (SPECIFICATION 3.6, 3.9). Each holds for any polynomial that passes the order test (3.2), any first root,
--- and blocks of at most 255 bytes. Assumes nothing.
-use Rattle.general.proofs.Names.{_≡_, _≢_, List, some, ℕ, _+_, _≤_, arith, decLe, T, length}
-use Rattle.field.specs.Field.{orderTest}
+-- What a customer may quote of blocks (SPECIFICATION 3.6, 3.9, 3.12). Each holds for any polynomial that passes the order test (3.2), any first
+-- root, and blocks of at most 255 bytes. Assumes nothing.
+use Rattle.general.proofs.Names.{_≡_, _≢_, refl, ap, _∙_, List, some, ℕ, suc, _+_, _-_, _≤_, arith, decLe, T, length}
+use Rattle.field.specs.Field.{orderTest, power, mul}
 use Rattle.field.proofs.Field.{primitive}
+use Rattle.reed_solomon.specs.Sum.{sum}
 use Rattle.reed_solomon.specs.Block.{isCodeword, distance, inReach, nearest}
 use Rattle.reed_solomon.specs.Erased.{erasures, admits, admitted}
+use Rattle.reed_solomon.specs.Places.{locatorAt, carried, termAt}
 use Rattle.reed_solomon.proofs.Search.{Bytes}
 use Rattle.reed_solomon.proofs.Codeword.{near-equal}
 use Rattle.reed_solomon.proofs.Nearest.{reach-near, near-reach, near-one, some-near, near-some}
 use Rattle.reed_solomon.proofs.Erased.{none-admitted, admits-one, found-admits, admits-found}
+use Rattle.reed_solomon.proofs.Terms.{terms-value}
 
 module _ (poly : ℕ) (test : T (orderTest poly)) (first parity : ℕ) where
   -- Two different codewords of one length and parity differ in at least parity + 1 places.
@@ -48,3 +51,19 @@ module _ (poly : ℕ) (test : T (orderTest poly)) (first parity : ℕ) where
   -- With no place erased it is the codeword in reach.
   pub none-erased-is-in-reach : (flags block : List ℕ) → erasures flags ≡ 0 → admitted poly first parity flags block ≡ nearest poly first parity block
   none-erased-is-in-reach flags block e = none-admitted poly first parity flags block e
+
+-- The search for error places, by the terms of a locator f of length l. The first root does not enter.
+module _ (poly : ℕ) (test : T (orderTest poly)) (f : List ℕ) (l : ℕ) (bytes : Bytes f) where
+  -- One step, given only the terms at one place: each multiplied by its own fixed power, they are the terms at the next place, and their sum is
+  -- the locator's value there.
+  pub next-place : (d : ℕ) (t u : ℕ → ℕ) → ((i : ℕ) → i ≤ l → t i ≡ termAt poly f l d i) → ((i : ℕ) → i ≤ l → u i ≡ mul poly (t i) (power poly (l - i)))
+      → ((i : ℕ) → i ≤ l → u i ≡ termAt poly f l (suc d) i) × (sum u (suc l) ≡ locatorAt poly f l (suc d))
+  unfolding carried
+  next-place d t u T U = (terms, terms-value poly (primitive poly test) f l bytes (suc d) u terms)
+    where
+      terms : (i : ℕ) → i ≤ l → u i ≡ termAt poly f l (suc d) i
+      terms i h = U i h ∙ ap (λ (x : ℕ). mul poly x (power poly (l - i))) (T i h)
+
+  -- After d steps from the coefficients, the sum of the terms is the locator's value at the place of degree d.
+  pub carried-sum-is-value : (d : ℕ) → sum (termAt poly f l d) (suc l) ≡ locatorAt poly f l d
+  carried-sum-is-value d = terms-value poly (primitive poly test) f l bytes d (termAt poly f l d) (λ i h. refl)

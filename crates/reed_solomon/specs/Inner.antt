@@ -9,6 +9,7 @@ use Rattle.field.specs.Field.{power, mul, below}
 use Rattle.reed_solomon.specs.Sum.{_⊕_, seq, sum, horner, degree, syndrome}
 use Rattle.reed_solomon.specs.Register.{Generates, Tail, moved, State}
 use Rattle.reed_solomon.specs.Block.{evalFrom, eval}
+use Rattle.reed_solomon.specs.Places.{locatorAt, termAt}
 
 -- ---- syndromes
 
@@ -64,29 +65,24 @@ pub record Shortest (poly : ℕ) (s : List ℕ) (n : ℕ) (f : List ℕ) (l : �
 
 -- ---- its roots
 
--- a term k places further, where it is multiplied by α^n from each place to the next
-abbrev pub shifted : ℕ → ℕ → ℕ → ℕ → ℕ
-shifted poly n k x = mul poly x (power poly (k * n))
-
--- the term i of a locator of length l, k places further
-abbrev pub carried : ℕ → ℕ → ℕ → ℕ → ℕ → ℕ
-carried poly l k i x = shifted poly (l - i) k x
-
--- the sums of the first i terms, at their own place and at the next three
-pub record Sums (poly l : ℕ) (terms : List ℕ) (i a b c d : ℕ) : Type 0 where
-  pub at : a ≡ sum (seq terms) i
-  pub one : b ≡ sum (λ j. carried poly l 1 j (seq terms j)) i
-  pub two : c ≡ sum (λ j. carried poly l 2 j (seq terms j)) i
-  pub three : d ≡ sum (λ j. carried poly l 3 j (seq terms j)) i
-
--- the terms of the locator f of length l at α^d
-pub record Terms (poly : ℕ) (f : List ℕ) (l d : ℕ) (terms : List ℕ) : Type 0 where
+-- the terms of the locator f of length l, whose coefficients are bytes, at the place of degree d
+pub record TermsAt (poly : ℕ) (f : List ℕ) (l d : ℕ) (terms : List ℕ) : Type 0 where
+  pub bytes : (i : ℕ) → seq f i < 256
   pub size : length terms ≡ 256
-  pub are : (i : ℕ) → i ≤ l → seq terms i ≡ mul poly (seq f i) (power poly (d * (l - i)))
+  pub are : (i : ℕ) → i ≤ l → seq terms i ≡ termAt poly f l d i
 
--- the value at α^d of the locator f of length l
-abbrev pub locatorAt : ℕ → List ℕ → ℕ → ℕ → ℕ
-locatorAt poly f l d = horner poly (seq f) (power poly d) (suc l)
+-- its values at the place of degree d and at the next three
+pub record FourValues (poly : ℕ) (f : List ℕ) (l d v₀ v₁ v₂ v₃ : ℕ) : Type 0 where
+  pub at : v₀ ≡ locatorAt poly f l d
+  pub one : v₁ ≡ locatorAt poly f l (d + 1)
+  pub two : v₂ ≡ locatorAt poly f l (d + 2)
+  pub three : v₃ ≡ locatorAt poly f l (d + 3)
+
+-- terms at one place carried on, of whatever locator and place they are: the locator's values there and at the next three places, and its terms
+-- at the place behind these
+abbrev pub CarriedOn : ℕ → ℕ → List ℕ → ℕ → ℕ → ℕ → ℕ → List ℕ → Type 0
+CarriedOn poly l terms v₀ v₁ v₂ v₃ terms′ =
+    (f : List ℕ) (d : ℕ) → TermsAt poly f l d terms → FourValues poly f l d v₀ v₁ v₂ v₃ × TermsAt poly f l (d + 4) terms′
 
 -- the values of the locator f of length l at the degrees below n
 pub record ValuesAt (poly : ℕ) (f : List ℕ) (l n : ℕ) (e : List ℕ) : Type 0 where

@@ -3,4 +3,5 @@ pub mod Block
 pub mod Erased
 pub mod Inner
 pub mod Sum
+pub mod Places
 pub mod Register

@@ -1,12 +1,13 @@
 // Where the errors are and what they are (reed_solomon.rs: `solve`, `magnitudes`). An error stands at its degree: 0 for the last place of
 // the block.
 ghost use mathlib.Core.Path.{_≡_};
-ghost use Prim.Native.Nat.{ℕ, suc, _+_, _*_, _≤_, _<_};
+ghost use Prim.Native.Nat.{ℕ, _+_, _*_, _≤_, _<_};
 ghost use lib.ListN.{length, set};
 ghost use Rattle.field.specs.Field.{mul};
 ghost use Rattle.field.specs.Table.{Field, polyOf};
 ghost use Rattle.reed_solomon.specs.Sum.{_⊕_, seq};
-ghost use Rattle.reed_solomon.specs.Inner.{Reduced, shifted, carried, Sums, ValuesAt, zerosOf, stepped, SteppedTwo, numerator, denominator, Magnitude, ErrorAt, Errors, without, withoutAll, repaired};
+ghost use Rattle.reed_solomon.specs.Places.{carried};
+ghost use Rattle.reed_solomon.specs.Inner.{Reduced, CarriedOn, ValuesAt, zerosOf, stepped, SteppedTwo, numerator, denominator, Magnitude, ErrorAt, Errors, without, withoutAll, repaired};
 ghost use Rattle.general.specs.Each.{Each};
 use crate::syndromes::Four;
 use crate::syndromes::reduced;
@@ -37,31 +38,27 @@ fn doubled(n: usize, l: usize) -> usize
     reduced(2 * n)
 }
 
-// The sums v of four places with a term t more of a locator of length l, which from each place to the next is multiplied by α^n. All four go
-// out from the same logarithm, so that none waits for another.
-fn add_term(field: &[u16; 1280], v: Four, t: u8, n: usize, l: usize) -> Four
+// A term t of a locator of length l at the next four places: from each place to the next it is multiplied by its own fixed power, α^n. All
+// four go out from the same logarithm, so that none waits for another.
+fn carry(field: &[u16; 1280], t: u8, n: usize, l: usize) -> Four
     requires { ⌜ Field (now field) ⌝ }
     requires { ⌜ (n ≤ l) × (l ≤ 255) ⌝ }
-    ensures { λ r. ⌜ (r .a ≡ v .a ⊕ t) × (r .b ≡ v .b ⊕ shifted (polyOf (now (field .entry))) n 1 t)
-        × (r .c ≡ v .c ⊕ shifted (polyOf (now (field .entry))) n 2 t) × (r .d ≡ v .d ⊕ shifted (polyOf (now (field .entry))) n 3 t) ⌝ }
+    ensures { λ r. ⌜ (r .a ≡ carried (polyOf (now (field .entry))) n 1 t) × (r .b ≡ carried (polyOf (now (field .entry))) n 2 t)
+        × (r .c ≡ carried (polyOf (now (field .entry))) n 3 t) × (r .d ≡ carried (polyOf (now (field .entry))) n 4 t) ⌝ }
 {
-    let b = field::raised(field, t, n);
-    let c = field::raised(field, t, doubled(n, l));
-    let d = field::raised(field, t, folded(3 * n, l));
-    Four {
-        a: v.a ^ t,
-        b: v.b ^ b,
-        c: v.c ^ c,
-        d: v.d ^ d,
-    }
+    let a = field::raised(field, t, n);
+    let b = field::raised(field, t, doubled(n, l));
+    let c = field::raised(field, t, folded(3 * n, l));
+    let d = field::raised(field, t, folded(4 * n, l));
+    Four { a, b, c, d }
 }
 
-// The values at four places of a locator of length l with these terms at the first of them, and the terms four places further.
+// The step of the search: given only the terms of a locator of length l at one place, its values there and at the next three places, each of
+// which is the sum of the terms carried to it, and its terms at the place behind these.
 fn step(field: &[u16; 1280], terms: &mut [u8], l: usize) -> Four
     requires { ⌜ Field (now field) ⌝ }
     requires { ⌜ (l ≤ 255) × (l < length (now terms)) ⌝ }
-    ensures { λ v. ⌜ Sums (polyOf (now (field .entry))) l (now (terms .entry)) (suc l) (v .a) (v .b) (v .c) (v .d)
-        × Each (carried (polyOf (now (field .entry))) l 4) (suc l) (now (terms .entry)) (now (terms .exit)) ⌝ }
+    ensures { λ v. ⌜ CarriedOn (polyOf (now (field .entry))) l (now (terms .entry)) (v .a) (v .b) (v .c) (v .d) (now (terms .exit)) ⌝ }
 {
     let mut v = Four {
         a: 0,
@@ -72,8 +69,14 @@ fn step(field: &[u16; 1280], terms: &mut [u8], l: usize) -> Four
     let mut i = 0;
     while i <= l {
         let t = terms[i];
-        v = add_term(field, v, t, l - i, l);
-        terms[i] = field::raised(field, t, folded(4 * (l - i), l));
+        let next = carry(field, t, l - i, l);
+        v = Four {
+            a: v.a ^ t,
+            b: v.b ^ next.a,
+            c: v.c ^ next.b,
+            d: v.d ^ next.c,
+        };
+        terms[i] = next.d;
         i += 1;
     }
     v
@@ -89,7 +92,8 @@ fn put(e: &mut [u8], d: usize, v: Four)
     e[d + 3] = v.d;
 }
 
-// The values of the locator f of length l at the degrees below n. Those behind n, up to a multiple of four, are set too.
+// The values of the locator f of length l at the degrees below n: at degree 0 its terms are the coefficients, which are not looked at again.
+// Those behind n, up to a multiple of four, are set too.
 pub fn roots(field: &[u16; 1280], f: &[u8; 256], l: usize, e: &mut [u8], n: usize)
     requires { ⌜ Field (now field) ⌝ }
     requires { ⌜ (l ≤ 255) × (length (now f) ≡ 256) × ((i : ℕ) → seq (now f) i < 256) × (n ≤ 256) × (length (now e) ≡ 256) ⌝ }

@@ -1,15 +1,15 @@
 -- `errors::roots` meets its contract: the terms are carried from four degrees to the next four. Assumes nothing.
 use Rattle.general.proofs.Names.{_≡_, sym, _-_, _%_, arith, needs}
 use Rattle.field.specs.Table.{polyOf}
-use Rattle.field.proofs.Entries.{the-field}
-use Rattle.reed_solomon.specs.Inner.{Terms, locatorAt}
+use Rattle.reed_solomon.specs.Places.{locatorAt}
+use Rattle.reed_solomon.specs.Inner.{TermsAt}
 use Rattle.general.specs.Each.{Each}
 use Rattle.general.proofs.Each.{each-start}
-use Rattle.reed_solomon.proofs.Terms.{terms-start, terms-next, values-next, values-end}
+use Rattle.reed_solomon.proofs.Terms.{terms-start, values-next, values-end}
 use Rattle.reed_solomon.proofs.errors.roots.Tie as tie
 
 abbrev Inv-loop : tie.InvT-loop
-Inv-loop field f l e₀ n terms₀ d₀ e terms d = Terms (polyOf field) f l d terms × Each (λ d x. locatorAt (polyOf field) f l d) d e₀ e × (d % 4 ≡ 0)
+Inv-loop field f l e₀ n terms₀ d₀ e terms d = TermsAt (polyOf field) f l d terms × Each (λ d x. locatorAt (polyOf field) f l d) d e₀ e × (d % 4 ≡ 0)
 
 abbrev μ-loop : tie.MeasureT-loop
 μ-loop field f l e₀ n terms₀ d₀ e terms d = n - d
@@ -17,7 +17,7 @@ abbrev μ-loop : tie.MeasureT-loop
 loop-holds : tie.Need-loop-holds Inv-loop μ-loop
 loop-holds c =
     let start = c .before .before in
-    (terms-start _ (the-field _ (start .pre .0)) _ _ (start .pre .1 .2) (start .pre .1 .1), each-start _ _, omega arith)
+    (terms-start _ _ _ (start .pre .1 .2) (start .pre .1 .1), each-start _ _, omega arith)
 
 step-requires : tie.Need-step-requires Inv-loop μ-loop
 step-requires c κs =
@@ -26,19 +26,15 @@ step-requires c κs =
 
 loop-again : tie.Need-loop-again Inv-loop μ-loop
 loop-again c =
-    let start = c .before .before .before .before .before .before .before .before .before .before .before in
-    let P = the-field _ (start .pre .0) in
     let loop = c .before .before .before .before .before .before .before .before .loop in
-    let step = c .before .before .before .before .before .step in (
-      terms-next _ P _ _ (start .pre .1 .2) _ 4 _ _ (loop .inv .0) (step .ensures .1),
-      values-next _ P _ _ (start .pre .1 .2) _ _ _ _ _ _ _ _ _ (loop .inv .0) (step .ensures .0) (omega arith) (loop .inv .1) (c .before .before .put .ensures),
+    let next = c .before .before .before .before .before .step .ensures _ _ (loop .inv .0) in (
+      next .1,
+      values-next _ _ _ _ _ _ _ _ _ _ _ (next .0) (omega arith) (loop .inv .1) (c .before .before .put .ensures),
       omega arith,
     )
 
 returns : tie.Need-returns Inv-loop μ-loop
-returns c =
-    let start = c .before .before .before .before in
-    values-end _ (the-field _ (start .pre .0)) _ _ (start .pre .1 .2) _ _ _ _ (c .before .loop .inv .1) (omega arith) (start .pre .1 .4)
+returns c = values-end _ _ _ _ _ _ _ (c .before .loop .inv .1) (omega arith) (c .before .before .before .before .pre .1 .4)
 
 pub roots-spec : {M : Type 1} → Rattle.reed_solomon.proofs.errors.roots.Statement.statement M
 roots-spec =
