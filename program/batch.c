@@ -229,6 +229,7 @@ int verb_batch(Wish *w)
     }
     if (b.bar)
         fputs("\r\x1B[K", stderr);
+    lines_close(&b.lines);
     if (fclose(b.manifest) != 0)
         fail("cannot write '%s': %s", b.manifest_name, strerror(errno));
     printf("%s: written: %zu, refused: %zu, failed: %zu\n", b.manifest_name, b.written, b.refused, b.failed);

@@ -87,6 +87,7 @@ static void print_position(FILE *file, const Reading *r)
 {
     print_number(file, "side", r->found, r->square.side);
     print_number(file, "unknown_modules", r->found, r->unknown);
+    fprintf(file, r->found ? ",\"position\":\"%s\"" : ",\"position\":null", position_words(&r->position));
     print_number(file, "turned", r->found, r->position.turned);
     fprintf(file, ",\"mirrored\":%s", !r->found ? "null" : r->position.mirrored ? "true" : "false");
     print_number(file, "pixels_per_module", r->found, r->position.scale);

@@ -6,7 +6,7 @@
 
 enum { MOST = 1 << 28 }; /* bytes of a list */
 
-/* All of a stream, in memory that the program keeps to its end. */
+/* All of a stream, up to MOST bytes; NULL if there is no memory. */
 static uint8_t *slurp(FILE *file, size_t *length)
 {
     size_t room = 1 << 16;
@@ -170,3 +170,5 @@ int lines_column(Lines *l, const char *column, Words *why)
 }
 
 unsigned lines_percent(const Lines *l) { return (unsigned)(l->at * 100 / l->length); }
+
+void lines_close(Lines *l) { free(l->bytes); }

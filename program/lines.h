@@ -5,7 +5,7 @@
 #include "common.h"
 
 typedef struct {
-    const uint8_t *bytes; /* the whole file, behind a byte order mark */
+    uint8_t *bytes; /* the whole file */
     size_t length, at;
     size_t line; /* the number of the line at which the last record began, from 1 */
     size_t next; /* that of the next one */
@@ -21,6 +21,8 @@ int lines_column(Lines *lines, const char *column, Words *why);
 
 /* The next record. Answers 1 and the serial; 0 at the end; -1 and why if this record has none, after which one can go on. */
 int lines_next(Lines *lines, hx_payload *serial, Words *why);
+
+void lines_close(Lines *lines);
 
 /* How far it has come, 0 to 100. */
 unsigned lines_percent(const Lines *lines);

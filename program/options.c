@@ -262,9 +262,7 @@ Wish wish_of(Verb verb, char **arguments)
     w.look.module = 0.25;
     w.threshold.dark = w.threshold.light = 500;
     w.most_repairs = SIZE_MAX;
-    w.operands = calloc(count + 1, sizeof *w.operands);
-    if (w.operands == NULL)
-        fail("there is not enough memory");
+    w.operands = arguments; /* the operands are moved to the front */
     while (i < count) {
         if (strcmp(arguments[i], "--") == 0 && !w.literal) {
             w.literal = w.count == 0 ? 1 : 2;

@@ -20,7 +20,7 @@ typedef struct {
     int json, raw, show;
     const char *column, *directory, *pattern, *manifest; /* of a batch */
     const char *unknown, *written;                       /* of a demonstration */
-    const char **operands;
+    char **operands;
     size_t count;
     int literal; /* whether the first operand stood behind --, so that "-" is a serial */
 } Wish;

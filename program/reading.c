@@ -59,6 +59,7 @@ void read_picture(const Wish *wish, const char *file, Reading *r)
     for (i = 0; i < r->square.side * r->square.side; i++)
         r->unknown += r->square.modules[i] == HX_MODULE_UNKNOWN;
     r->outcome = DONE;
+    say(&r->words, "%s", hx_refusal_words(HX_OK));
     read_square(wish, r);
     if (r->outcome == DONE && r->receipt.corrected > wish->most_repairs) {
         refuse(r, BY_POLICY);
