@@ -1,6 +1,8 @@
 // Writes a mark for a serial, damages it within reach and reads it back; then damages it beyond reach, and it is refused.
 #include "han_xin.h"
 
+#include <cstddef>
+#include <cstdint>
 #include <iostream>
 #include <stdexcept>
 #include <string>
