@@ -34,8 +34,8 @@ soname = libhan_xin.so.$(major)
 shared = $(BUILD)/lib/libhan_xin.so.$(version)
 links = $(soname) libhan_xin.so
 sources := $(filter-out %_test.c,$(wildcard program/*.c))
-program = $(if $(sources),$(BUILD)/c/hanxin)
-manual = $(wildcard man/hanxin.1)
+program = $(BUILD)/c/hanxin
+manual = man/hanxin.1
 licences = LICENSE-MIT LICENSE-APACHE NOTICE
 ifeq ($(shell pkg-config --exists libpng 2>/dev/null && echo yes),yes)
 png_flags := -DHAVE_PNG $(shell pkg-config --cflags libpng)
@@ -63,7 +63,7 @@ $(shared): $(archive) packaging/han_xin.map
 $(addprefix $(BUILD)/lib/,$(links)): $(shared)
 	ln -sf $(<F) $@
 
-$(BUILD)/c/hanxin: $(sources) $(wildcard program/*.h) include/han_xin.h $(archive) Makefile
+$(program): $(sources) $(wildcard program/*.h) include/han_xin.h $(archive) Makefile
 	@mkdir -p $(@D)
 	$(if $(png_flags),,@echo "left out: PNG in the program hanxin, pkg-config finds no libpng")
 	$(CC) -std=c99 -Wall -Wextra -Wpedantic -Wconversion $(CPPFLAGS) $(CFLAGS) -Iinclude $(png_flags) $(LDFLAGS) \
@@ -71,7 +71,7 @@ $(BUILD)/c/hanxin: $(sources) $(wildcard program/*.h) include/han_xin.h $(archiv
 
 # The paths below PREFIX are written by ${prefix}, which pkg-config lets its user set.
 install: all
-	install -d '$(DESTDIR)$(INCLUDEDIR)' '$(DESTDIR)$(LIBDIR)/pkgconfig' '$(DESTDIR)$(DOCDIR)'
+	install -d '$(DESTDIR)$(BINDIR)' '$(DESTDIR)$(INCLUDEDIR)' '$(DESTDIR)$(LIBDIR)/pkgconfig' '$(DESTDIR)$(MANDIR)/man1' '$(DESTDIR)$(DOCDIR)'
 	install -m 644 include/han_xin.h '$(DESTDIR)$(INCLUDEDIR)'
 	install -m 644 $(archive) $(shared) '$(DESTDIR)$(LIBDIR)'
 	for link in $(links); do ln -sf $(notdir $(shared)) '$(DESTDIR)$(LIBDIR)'/$$link || exit 1; done
@@ -80,14 +80,8 @@ install: all
 	  >'$(DESTDIR)$(LIBDIR)/pkgconfig/han_xin.pc'
 	chmod 644 '$(DESTDIR)$(LIBDIR)/pkgconfig/han_xin.pc'
 	install -m 644 $(licences) '$(DESTDIR)$(DOCDIR)'
-ifneq ($(program),)
-	install -d '$(DESTDIR)$(BINDIR)'
 	install -m 755 $(program) '$(DESTDIR)$(BINDIR)'
-endif
-ifneq ($(manual),)
-	install -d '$(DESTDIR)$(MANDIR)/man1'
 	install -m 644 $(manual) '$(DESTDIR)$(MANDIR)/man1'
-endif
 
 uninstall:
 	rm -f '$(DESTDIR)$(BINDIR)/hanxin' '$(DESTDIR)$(INCLUDEDIR)/han_xin.h' '$(DESTDIR)$(MANDIR)/man1/hanxin.1'
@@ -96,7 +90,7 @@ uninstall:
 	rmdir '$(DESTDIR)$(DOCDIR)' 2>/dev/null || true
 
 clean:
-	rm -f $(archive) $(BUILD)/lib/libhan_xin.so* $(BUILD)/c/hanxin
+	rm -f $(archive) $(BUILD)/lib/libhan_xin.so* $(program)
 
 help:
 	@sed -n '3,/^$$/s/^# \{0,1\}//p' Makefile
