@@ -1,6 +1,7 @@
 /* Han Xin marks (ISO/IEC 20830) for C: four functions on numbers and byte buffers. C99, and C++ too.
  *
- * Link with target/lib/libhan_xin.a, which c/library writes (Linux on x86-64). Of the C library it needs memcpy and memset.
+ * Linux on x86-64. `make install` installs the library, static and shared; pkg-config --cflags --libs han_xin prints the flags. Without
+ * that, link with target/lib/libhan_xin.a, which c/library writes. Of the C library it needs memcpy and memset.
  *
  * NAMES. HX_SIZE_.. are numbers of bytes, HX_MODULE_.. the bytes of a square, HX_REFUSED_.. refusals, HX_MODE_.. the commands of a
  * script, HX_VERSION_.. the versions of marks, HX_LIBRARY_.. the version of this library. hx_receipt_.. reads a field of a receipt.
@@ -29,7 +30,8 @@
  * The two outer dark lines of a finder meet in one of its corners. For three finders that is the corner of the square; for the one
  * at the bottom left it is the corner towards the middle. So the finders tell how a square is turned. The functions do not turn it:
  * the caller does, until the finders stand as above. They do not tell whether it is mirrored: a mark mirrored at the diagonal from
- * bottom left to top right has the same finders. Where a camera may mirror, the caller tries both.
+ * bottom left to top right has the same finders. Where a camera may mirror, the caller has to know it or to look at the information
+ * modules (docs/DECISIONS.md has the rule of the program hanxin).
  *
  * UNKNOWN MODULES. Set a module to unknown when it cannot be told light from dark: under a scratch, glare or dirt. Do not guess
  * there, and do not say unknown for probably light. Both readings take an unknown module as light. A codeword is erased if one of
