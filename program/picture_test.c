@@ -461,24 +461,31 @@ static void test_shades(void)
     test_refusal(&pbm, &square, "0 modules on a side");
 }
 
-/* A file that cannot be written: one that is open for reading only, and one of a full device. */
-static void test_failures(void)
+/* A file that cannot be written. A large picture fails while it is written, and a small one when the file is flushed. */
+static void test_failure(const Look *look, const char *name, const char *mode)
 {
     static Square square;
-    static const char *const NAMES[] = {"/dev/null", "/dev/full"}, *const MODES[] = {"r", "w"};
-    Look look = {FORMAT_TEXT, 9, 3, 1, 0};
+    FILE *file = fopen(name, mode);
+    Words why = {""};
+    if (file == NULL)
+        return; /* not every system has these files */
+    fill(&square, look->scale == 1 ? 23 : 189, 2);
+    check(!picture_write(file, look, &square, &why) && strstr(why.text, "cannot write: ") == why.text, "%s to %s: %s",
+          FORMAT_NAMES[look->format], name, why.text);
+    fclose(file);
+}
+
+static void test_failures(void)
+{
+    Look look = {FORMAT_TEXT, 1, 3, 1, 0};
     unsigned i;
-    fill(&square, 189, 2);
     for (i = 0; i < 2 * FORMATS; i++) {
-        FILE *file = fopen(NAMES[i % 2], MODES[i % 2]);
-        Words why = {""};
         look.format = (Format)(i / 2);
-        if (file == NULL)
+        look.scale = i % 2 == 0 ? 1 : 9;
+        if (look.format == FORMAT_PNG && !png_is_there())
             continue;
-        if (look.format != FORMAT_PNG || png_is_there())
-            check(!picture_write(file, &look, &square, &why) && strstr(why.text, "cannot write: ") == why.text, "%s to %s: %s",
-                  FORMAT_NAMES[look.format], NAMES[i % 2], why.text);
-        fclose(file);
+        test_failure(&look, "/dev/null", "r"); /* open for reading only */
+        test_failure(&look, "/dev/full", "w");
     }
 }
 
