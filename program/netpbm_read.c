@@ -14,7 +14,7 @@ static int read_number(Reader *r, const char *what, unsigned long *value)
     for (; c >= '0' && c <= '9'; c = reader_peek(r)) {
         n = 10 * n + (unsigned long)(c - '0');
         if (n > 100000000)
-            return say(r->why, "%s is a number of more than 100,000,000", what);
+            return say(r->why, "%s is a number above 100,000,000", what);
         r->at++;
     }
     *value = n;

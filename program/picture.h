@@ -62,6 +62,8 @@ typedef struct {
 unsigned shade_at(const Writer *writer, size_t row, size_t column);
 /* A row of modules as pixels, one byte for the shade of each. */
 void shades_of_row(const Writer *writer, size_t row, uint8_t pixels[SIDE_MOST]);
+/* The same with eight pixels in a byte, the first one highest. There are only light and dark. */
+void bits_of_row(const Writer *writer, size_t row, uint8_t bytes[SIDE_MOST]);
 
 int picture_write_png(const Writer *writer);
 

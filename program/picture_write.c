@@ -27,6 +27,16 @@ void shades_of_row(const Writer *w, size_t row, uint8_t pixels[SIDE_MOST])
         memset(pixels + column * scale, (int)shade_at(w, row, column), scale);
 }
 
+void bits_of_row(const Writer *w, size_t row, uint8_t bytes[SIDE_MOST])
+{
+    size_t width = w->side * w->look->scale, i;
+    shades_of_row(w, row, bytes);
+    for (i = 0; i < width; i++) { /* the byte that is written is never behind the one that is read */
+        unsigned bit = bytes[i], before = i % 8 == 0 ? 0 : bytes[i / 8];
+        bytes[i / 8] = (uint8_t)(before | bit << (7 - i % 8));
+    }
+}
+
 #define BLOCK "\xE2\x96\x88" /* a dark character, and two of which one half is dark */
 #define UPPER "\xE2\x96\x80"
 #define LOWER "\xE2\x96\x84"
@@ -93,14 +103,11 @@ static int write_plain(const Writer *w)
 
 static int write_binary(const Writer *w)
 {
-    uint8_t pixels[SIDE_MOST], bytes[(SIDE_MOST + 7) / 8];
+    uint8_t bytes[SIDE_MOST];
     size_t row, width = w->side * w->look->scale, i;
     fprintf(w->file, "P4\n%zu %zu\n", width, width);
     for (row = 0; row < w->side; row++) {
-        shades_of_row(w, row, pixels);
-        memset(bytes, 0, sizeof bytes);
-        for (i = 0; i < width; i++)
-            bytes[i / 8] = (uint8_t)(bytes[i / 8] | pixels[i] << (7 - i % 8));
+        bits_of_row(w, row, bytes);
         for (i = 0; i < w->look->scale; i++)
             fwrite(bytes, 1, (width + 7) / 8, w->file);
     }

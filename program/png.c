@@ -146,9 +146,6 @@ static void put_bytes(png_structp png, png_bytep bytes, size_t length)
 /* picture_write flushes the file. */
 static void flush(png_structp png) { (void)png; }
 
-/* Marks are small, and so are the settings for memory: to set up more takes longer than to compress. */
-static void set_compression(const Encoder *e) { png_set_filter(e->png, PNG_FILTER_TYPE_BASE, PNG_FILTER_NONE); }
-
 /* Pixels for each metre. */
 static void set_size(const Encoder *e)
 {
@@ -171,19 +168,23 @@ static void set_palette(const Encoder *e)
     png_set_PLTE(e->png, e->info, colours, SHADES);
 }
 
-/* One bit for each pixel if there are only light and dark, else four; libpng packs them. */
+/* One bit for each pixel if there are only light and dark; else four, which libpng packs. */
 static void write_rows(const Encoder *e)
 {
     const Writer *w = e->writer;
-    uint8_t pixels[SIDE_MOST];
+    uint8_t bytes[SIDE_MOST];
     size_t row, i;
-    png_set_packing(e->png);
-    if (!w->overlay)
+    if (w->overlay)
+        png_set_packing(e->png);
+    else
         png_set_invert_mono(e->png); /* in grey, 1 is white */
     for (row = 0; row < w->side; row++) {
-        shades_of_row(w, row, pixels);
+        if (w->overlay)
+            shades_of_row(w, row, bytes);
+        else
+            bits_of_row(w, row, bytes);
         for (i = 0; i < w->look->scale; i++)
-            png_write_row(e->png, pixels);
+            png_write_row(e->png, bytes);
     }
 }
 
@@ -194,7 +195,7 @@ static int encode(const Encoder *e)
     if (setjmp(png_jmpbuf(e->png)))
         return 0;
     png_set_write_fn(e->png, w->file, put_bytes, flush);
-    set_compression(e);
+    png_set_compression_mem_level(e->png, 7); /* a larger one makes many small files slower, and large ones no smaller */
     png_set_IHDR(e->png, e->info, width, width, w->overlay ? 4 : 1, w->overlay ? PNG_COLOR_TYPE_PALETTE : PNG_COLOR_TYPE_GRAY,
                  PNG_INTERLACE_NONE, PNG_COMPRESSION_TYPE_BASE, PNG_FILTER_TYPE_BASE);
     set_size(e);
