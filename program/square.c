@@ -15,9 +15,10 @@ static const uint8_t FINDERS[4][FINDER] = {{0x7F, 0x40, 0x5F, 0x50, 0x57, 0x57, 
  * more than a third of all modules of the finders differ. */
 enum { LEAST_LEAD = 11, MOST_DIFFERENT = FINDER_MODULES / 3 };
 
-/* Where in the picture a square is taken from. */
+/* Where in the picture a square is taken from, and by how many quarters it is turned clockwise there. */
 typedef struct {
     size_t left, top, size, scale;
+    unsigned quarters;
 } Frame;
 
 /* The place in a square that is turned clockwise by so many quarters of the module in this row and column of the mark. */
@@ -77,48 +78,64 @@ static Turn nearest_turn(const Picture *p, const Frame *f)
     return turn;
 }
 
-/* The smallest frame around all that is not light; answers whether there is anything. */
-static int dark_area(const Picture *p, size_t *left, size_t *top, size_t *right, size_t *bottom)
+/* The smallest frame around all that is not light: its edges are the first and last pixels of it, and those behind the last. */
+typedef struct {
+    size_t left, top, right, bottom;
+} Area;
+
+/* Widens the area by one row. Only pixels outside of it are looked at. */
+static void add_row(const Picture *p, size_t y, Area *area)
 {
-    size_t i, n = p->width * p->height;
-    *left = p->width;
-    *top = p->height;
-    *right = *bottom = 0;
-    for (i = 0; i < n; i++) {
-        size_t x = i % p->width, y = i / p->width;
-        if (p->pixels[i] == HX_MODULE_LIGHT)
-            continue;
-        *left = x < *left ? x : *left;
-        *right = x + 1 > *right ? x + 1 : *right;
-        *top = y < *top ? y : *top;
-        *bottom = y + 1;
-    }
-    return *bottom > 0;
+    const uint8_t *row = p->pixels + y * p->width;
+    size_t x = 0, end = p->width;
+    while (x < p->width && row[x] == HX_MODULE_LIGHT)
+        x++;
+    if (x == p->width)
+        return;
+    while (end > area->right && row[end - 1] == HX_MODULE_LIGHT)
+        end--;
+    area->left = x < area->left ? x : area->left;
+    area->right = end;
+    area->top = y < area->top ? y : area->top;
+    area->bottom = y + 1;
+}
+
+/* Answers whether there is anything. */
+static int dark_area(const Picture *p, Area *area)
+{
+    size_t y;
+    area->left = p->width;
+    area->top = p->height;
+    area->right = area->bottom = 0;
+    for (y = 0; y < p->height; y++)
+        add_row(p, y, area);
+    return area->bottom > 0;
 }
 
 /* The frames that are tried: the whole picture, what is left without a border that is as wide on each side, and the dark area. The
  * second has the square of a mark with an outer row that was scratched away. Answers how many are square. */
 static size_t frames_of(const Picture *p, Frame *frames, Words *why)
 {
-    size_t left, top, right, bottom, border, n = 0;
-    if (!dark_area(p, &left, &top, &right, &bottom))
+    Area area;
+    size_t border, n = 0;
+    if (!dark_area(p, &area))
         return (size_t)say(why, "the picture has no dark pixel");
-    border = left < top ? left : top;
-    border = p->width - right < border ? p->width - right : border;
-    border = p->height - bottom < border ? p->height - bottom : border;
+    border = area.left < area.top ? area.left : area.top;
+    border = p->width - area.right < border ? p->width - area.right : border;
+    border = p->height - area.bottom < border ? p->height - area.bottom : border;
     memset(frames, 0, 3 * sizeof *frames);
     if (p->width == p->height) {
         frames[n++].size = p->width;
         frames[n].left = frames[n].top = border;
         frames[n++].size = p->width - 2 * border;
     }
-    if (right - left == bottom - top) {
-        frames[n].left = left;
-        frames[n].top = top;
-        frames[n++].size = right - left;
+    if (area.right - area.left == area.bottom - area.top) {
+        frames[n].left = area.left;
+        frames[n].top = area.top;
+        frames[n++].size = area.right - area.left;
     }
     if (n == 0)
-        say(why, "the dark area is %zu x %zu pixels, which is no square", right - left, bottom - top);
+        say(why, "the dark area is %zu x %zu pixels, which is no square", area.right - area.left, area.bottom - area.top);
     return n;
 }
 
@@ -153,11 +170,11 @@ static int find_frame(const Picture *p, int upright, Frame *best, Words *why)
 }
 
 /* Which way it lies, by its finders. */
-static int find_turn(const Picture *p, const Frame *f, unsigned *quarters, Words *why)
+static int find_turn(const Picture *p, Frame *f, Words *why)
 {
     Turn turn = nearest_turn(p, f);
     size_t side = f->size / f->scale;
-    *quarters = turn.quarters;
+    f->quarters = turn.quarters;
     if (turn.differ > MOST_DIFFERENT)
         return say(
             why,
@@ -171,33 +188,49 @@ static int find_turn(const Picture *p, const Frame *f, unsigned *quarters, Words
     return 1;
 }
 
-/* How many pixels of a module are dark, and how many unknown. */
-static void count_pixels(const Picture *p, const Frame *f, size_t place, size_t *counts)
+/* The first pixel of a module. */
+static const uint8_t *first_of(const Picture *p, const Frame *f, size_t place)
 {
-    size_t side = f->size / f->scale, i;
-    counts[0] = counts[1] = counts[2] = 0;
-    for (i = 0; i < f->scale * f->scale; i++) {
-        size_t y = f->top + place / side * f->scale + i / f->scale, x = f->left + place % side * f->scale + i % f->scale;
-        counts[p->pixels[y * p->width + x]]++;
-    }
+    size_t side = f->size / f->scale;
+    return p->pixels + (f->top + place / side * f->scale) * p->width + f->left + place % side * f->scale;
+}
+
+/* Whether all pixels of a module are as its first one. */
+static int is_one_shade(const Picture *p, const Frame *f, const uint8_t *first)
+{
+    size_t y;
+    if (memcmp(first, first + 1, f->scale - 1) != 0)
+        return 0;
+    for (y = 1; y < f->scale; y++)
+        if (memcmp(first, first + y * p->width, f->scale) != 0)
+            return 0;
+    return 1;
+}
+
+static size_t dark_pixels(const Picture *p, const Frame *f, const uint8_t *first)
+{
+    size_t i, n = 0;
+    for (i = 0; i < f->scale * f->scale; i++)
+        n += first[i / f->scale * p->width + i % f->scale] == HX_MODULE_DARK;
+    return n;
 }
 
 /* The modules of the frame, laid upright. A module with pixels of several shades is refused, or unknown if that is wanted. */
-static int take_modules(const Picture *p, const Frame *f, const Expected *expected, unsigned quarters, Square *q, Words *why)
+static int take_modules(const Picture *p, const Frame *f, int mixed, Square *q, Words *why)
 {
-    size_t side = f->size / f->scale, all = f->scale * f->scale, i;
+    size_t side = f->size / f->scale, i;
     q->side = side;
     for (i = 0; i < side * side; i++) {
-        size_t place = turned_place(side, quarters, i / side, i % side), counts[3];
-        count_pixels(p, f, place, counts);
-        q->modules[i] = counts[0] == all ? HX_MODULE_LIGHT : counts[1] == all ? HX_MODULE_DARK : HX_MODULE_UNKNOWN;
-        if (counts[0] == all || counts[1] == all || counts[2] == all || expected->mixed)
-            continue;
-        return say(
-            why,
-            "the module in row %zu and column %zu of the picture's square is not of one shade: of its %zu pixels %zu are dark "
-            "(--mixed takes such modules as unknown)",
-            place / side, place % side, all, counts[1]);
+        size_t place = turned_place(side, f->quarters, i / side, i % side);
+        const uint8_t *first = first_of(p, f, place);
+        int uniform = is_one_shade(p, f, first);
+        q->modules[i] = uniform ? *first : HX_MODULE_UNKNOWN;
+        if (!uniform && !mixed)
+            return say(
+                why,
+                "the module in row %zu and column %zu of the picture's square is not of one shade: of its %zu pixels %zu are "
+                "dark (--mixed takes such modules as unknown)",
+                place / side, place % side, f->scale * f->scale, dark_pixels(p, f, first));
     }
     return 1;
 }
@@ -253,19 +286,18 @@ static int is_mirrored(const Square *q, const Square *mirrored, const Expected *
 int square_find(const Picture *picture, const Expected *expected, Square *square, Position *position, Words *why)
 {
     static Square mirrored;
-    Frame frame;
-    unsigned quarters = 0;
+    Frame frame = {0, 0, 0, 0, 0};
     if (!find_frame(picture, expected->upright, &frame, why))
         return 0;
-    if (!expected->upright && !find_turn(picture, &frame, &quarters, why))
+    if (!expected->upright && !find_turn(picture, &frame, why))
         return 0;
-    if (!take_modules(picture, &frame, expected, quarters, square, why))
+    if (!take_modules(picture, &frame, expected->mixed, square, why))
         return 0;
     mirror(square, &mirrored);
     position->mirrored = is_mirrored(square, &mirrored, expected);
     if (position->mirrored) /* this mirroring is one from left to right, then a quarter turn */
         *square = mirrored;
-    position->turned = (quarters + (position->mirrored ? 1u : 0u)) % 4 * 90;
+    position->turned = (frame.quarters + (position->mirrored ? 1u : 0u)) % 4 * 90;
     position->scale = frame.scale;
     position->left = frame.left;
     position->top = frame.top;
