@@ -1,8 +1,7 @@
 /* Reads PBM and PGM, plain (P1, P2) and binary (P4, P5). */
 #include "picture.h"
 
-/* A number of the header, or a sample, of which no other is above 65535. Where digits end, anything may stand that is not a number's:
- * who comes next refuses it. */
+/* A number of the header, or a sample. Anything may stand behind its digits: the caller looks at it. */
 static int read_number(Reader *r, const char *what, unsigned long *value)
 {
     unsigned long n = 0;

@@ -124,7 +124,8 @@ static int read_form(Reader *r)
     return refuse_form(r);
 }
 
-/* The whole stream, in memory that the caller frees; a little more than what is allowed, so that too long a file is told. */
+/* The whole stream, in memory that the caller frees. Of a file that is too long more than FILE_MOST bytes are read, so that load can
+ * tell. NULL if there is not enough memory. */
 static uint8_t *fetch(FILE *file, size_t *length)
 {
     size_t room = 65536;

@@ -31,7 +31,7 @@ void bits_of_row(const Writer *w, size_t row, uint8_t bytes[SIDE_MOST])
 {
     size_t width = w->side * w->look->scale, i;
     shades_of_row(w, row, bytes);
-    for (i = 0; i < width; i++) { /* the byte that is written is never behind the one that is read */
+    for (i = 0; i < width; i++) { /* in place: byte i / 8 changes only when pixel i has been read */
         unsigned bit = bytes[i], before = i % 8 == 0 ? 0 : bytes[i / 8];
         bytes[i / 8] = (uint8_t)(before | bit << (7 - i % 8));
     }
@@ -183,7 +183,7 @@ static int check_sizes(Writer *w)
     if (scale > SIDE_MOST || w->side * scale > SIDE_MOST)
         return say(w->why, "the picture would have more than 20,000 pixels on a side: the scale or the quiet zone is too large");
     if ((look->format == FORMAT_SVG || look->format == FORMAT_PNG) && !(look->module >= 1e-6 && look->module <= 1e6))
-        return say(w->why, "the side of a module is %g mm: it must be above 0, and at most 1,000,000", look->module);
+        return say(w->why, "the side of a module is %g mm: it must be 0.000001 to 1,000,000", look->module);
     return 1;
 }
 

@@ -92,10 +92,10 @@ int svg_read(Reader *r)
     static const char FOREIGN[] = "an SVG file that hanxin did not write; convert it to PNG or PBM";
     size_t side;
     if (!take_header(r, &side))
-        return say(r->why, FOREIGN);
+        return say(r->why, "%s", FOREIGN);
     if (!reader_make(r, side, side))
         return 0;
     if (!pass_background(r) || !take_paths(r))
-        return say(r->why, FOREIGN);
+        return say(r->why, "%s", FOREIGN);
     return 1;
 }
