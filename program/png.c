@@ -35,7 +35,9 @@ typedef struct {
     png_structp png;
     png_infop info;
     Reader *reader;
-    uint8_t *row; /* four bytes for each pixel: red, green, blue, alpha */
+    size_t channels; /* bytes for each pixel: one, or red, green, blue, alpha */
+    uint8_t *row;
+    uint8_t pixels[256]; /* what a sample of grey becomes */
 } Decoder;
 
 static void take_bytes(png_structp png, png_bytep bytes, size_t length)
@@ -62,13 +64,15 @@ typedef struct {
 static void read_pass(Decoder *d, const Pass *pass)
 {
     Picture *picture = d->reader->picture;
-    size_t row, column, i;
+    size_t row, column;
     if (pass->left >= picture->width)
         return; /* libpng passes over such a pass, too */
     for (row = pass->top; row < picture->height; row += pass->down) {
+        uint8_t *pixels = picture->pixels + row * picture->width;
+        const uint8_t *sample = d->row;
         png_read_row(d->png, d->row, NULL);
-        for (column = pass->left, i = 0; column < picture->width; column += pass->across, i++)
-            picture->pixels[row * picture->width + column] = pixel_of_grey(d->reader->threshold, grey_of(d->row + 4 * i), 255);
+        for (column = pass->left; column < picture->width; column += pass->across, sample += d->channels)
+            pixels[column] = d->pixels[d->channels == 1 ? *sample : grey_of(sample)];
     }
 }
 
@@ -86,10 +90,28 @@ static void read_passes(Decoder *d)
             read_pass(d, &PASSES[i]);
 }
 
-/* Every kind of PNG becomes colour with alpha, eight bits each. Chunks that do not change the pixels are not read. */
+/* A grey picture becomes one of eight bits, as the program's own are; any other becomes colour with alpha, eight bits each. */
+static void set_colours(Decoder *d)
+{
+    unsigned long sample;
+    int grey = png_get_color_type(d->png, d->info) == PNG_COLOR_TYPE_GRAY && !png_get_valid(d->png, d->info, PNG_INFO_tRNS);
+    for (sample = 0; sample < 256; sample++)
+        d->pixels[sample] = pixel_of_grey(d->reader->threshold, sample, 255);
+    d->channels = grey ? 1 : 4;
+    png_set_expand(d->png);
+    png_set_scale_16(d->png);
+    if (!grey) {
+        png_set_gray_to_rgb(d->png);
+        png_set_add_alpha(d->png, 255, PNG_FILLER_AFTER);
+    }
+    png_read_update_info(d->png, d->info);
+    if (png_get_channels(d->png, d->info) != d->channels || png_get_bit_depth(d->png, d->info) != 8)
+        png_error(d->png, "its colours cannot be told");
+}
+
+/* Chunks that do not change the pixels are not read. */
 static int decode(Decoder *d)
 {
-    size_t width;
     if (setjmp(png_jmpbuf(d->png)))
         return 0;
     png_set_read_fn(d->png, d->reader, take_bytes);
@@ -98,15 +120,8 @@ static int decode(Decoder *d)
     png_read_info(d->png, d->info);
     if (!reader_make(d->reader, png_get_image_width(d->png, d->info), png_get_image_height(d->png, d->info)))
         return 0;
-    png_set_expand(d->png);
-    png_set_scale_16(d->png);
-    png_set_gray_to_rgb(d->png);
-    png_set_add_alpha(d->png, 255, PNG_FILLER_AFTER);
-    png_read_update_info(d->png, d->info);
-    width = d->reader->picture->width;
-    if (png_get_channels(d->png, d->info) != 4 || png_get_bit_depth(d->png, d->info) != 8)
-        png_error(d->png, "its colours cannot be told");
-    d->row = malloc(4 * width);
+    set_colours(d);
+    d->row = malloc(d->channels * d->reader->picture->width);
     if (d->row == NULL)
         png_error(d->png, "not enough memory");
     read_passes(d);
@@ -116,7 +131,7 @@ static int decode(Decoder *d)
 
 int picture_read_png(Reader *r)
 {
-    Decoder d = {NULL, NULL, r, NULL};
+    Decoder d = {NULL, NULL, r, 0, NULL, {0}};
     int done = 0;
     d.png = png_create_read_struct(PNG_LIBPNG_VER_STRING, r->why, fail_reading, ignore);
     if (d.png != NULL)

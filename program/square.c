@@ -152,7 +152,7 @@ static int find_frame(const Picture *p, int upright, Frame *best, Words *why)
         return 0;
     for (i = 0; i < n; i++) {
         Frame f = frames[i];
-        for (f.scale = 1; f.scale * HX_SIDE(1) <= f.size; f.scale++) {
+        for (f.scale = 1; f.scale * HX_SIDE(1) <= f.size && least > 0; f.scale++) {
             unsigned differ;
             if (f.size % f.scale != 0 || !is_side(f.size / f.scale))
                 continue;
