@@ -2,9 +2,6 @@
 
 #include <string.h>
 
-/* A finder's ratio in a row or column: dark and light modules as 1:1:1:1:3 or 3:1:1:1:1, seen from the first module on. */
-static const uint8_t RATIOS[2][7] = {{1, 0, 1, 0, 1, 1, 1}, {1, 1, 1, 0, 1, 0, 1}};
-
 /* A row or a column of a square. Outside the square all is light. */
 typedef struct {
     const uint8_t *first;
@@ -13,28 +10,22 @@ typedef struct {
 
 static unsigned on(const Line *line, long i) { return i < 0 || i >= line->side ? 0u : line->first[i * line->step]; }
 
-static int is_ratio(const Line *line, long at, const uint8_t *ratio)
-{
-    long i;
-    for (i = 0; i < 7; i++)
-        if (on(line, at + i) != ratio[i])
-            return 0;
-    return 1;
-}
-
 static int is_light(const Line *line, long from)
 {
     return on(line, from) == 0 && on(line, from + 1) == 0 && on(line, from + 2) == 0;
 }
 
-/* 50 for each ratio of a finder with three light modules before or behind it. */
+/* 50 for each ratio of a finder, dark and light modules as 1:1:1:1:3 or 3:1:1:1:1, with three light modules before or behind it. */
 static unsigned long ratio_penalty(const Line *line)
 {
     unsigned long sum = 0;
+    unsigned seven = 0; /* the last seven modules */
     long i;
-    for (i = 0; i + 7 <= line->side; i++)
-        if (is_ratio(line, i, RATIOS[0]) || is_ratio(line, i, RATIOS[1]))
-            sum += is_light(line, i - 3) || is_light(line, i + 7) ? 50u : 0u;
+    for (i = 0; i < line->side; i++) {
+        seven = (seven << 1 | line->first[i * line->step]) & 0x7Fu;
+        if (seven == 0x57u || seven == 0x75u)
+            sum += is_light(line, i - 9) || is_light(line, i + 1) ? 50u : 0u;
+    }
     return sum;
 }
 

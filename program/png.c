@@ -35,7 +35,8 @@ typedef struct {
     png_structp png;
     png_infop info;
     Reader *reader;
-    size_t channels; /* bytes for each pixel: one, or red, green, blue, alpha */
+    int packed;      /* whether a byte has eight pixels, as in the program's own files */
+    size_t channels; /* else bytes for each pixel: one, or red, green, blue, alpha */
     uint8_t *row;
     uint8_t pixels[256]; /* what a sample of grey becomes */
 } Decoder;
@@ -76,6 +77,24 @@ static void read_pass(Decoder *d, const Pass *pass)
     }
 }
 
+/* Eight pixels at once. */
+static void read_packed(Decoder *d)
+{
+    Picture *picture = d->reader->picture;
+    uint8_t eights[256][8];
+    size_t i, row, column;
+    for (i = 0; i < 256 * 8; i++)
+        eights[i / 8][i % 8] = d->pixels[(i / 8 >> (7 - i % 8) & 1) != 0 ? 255 : 0];
+    for (row = 0; row < picture->height; row++) {
+        uint8_t *pixels = picture->pixels + row * picture->width;
+        png_read_row(d->png, d->row, NULL);
+        for (column = 0; column + 8 <= picture->width; column += 8)
+            memcpy(pixels + column, eights[d->row[column / 8]], 8);
+        if (column < picture->width)
+            memcpy(pixels + column, eights[d->row[column / 8]], picture->width - column);
+    }
+}
+
 /* An interlaced picture is in seven passes; they are read one by one, so that the picture is not held in colour. */
 static void read_passes(Decoder *d)
 {
@@ -83,29 +102,35 @@ static void read_passes(Decoder *d)
     static const Pass PASSES[7] = {{0, 0, 8, 8}, {0, 4, 8, 8}, {4, 0, 8, 4}, {0, 2, 4, 4},
                                    {2, 0, 4, 2}, {0, 1, 2, 2}, {1, 0, 2, 1}};
     size_t i;
-    if (png_get_interlace_type(d->png, d->info) == PNG_INTERLACE_NONE)
+    if (d->packed)
+        read_packed(d);
+    else if (png_get_interlace_type(d->png, d->info) == PNG_INTERLACE_NONE)
         read_pass(d, &WHOLE);
     else
         for (i = 0; i < 7; i++)
             read_pass(d, &PASSES[i]);
 }
 
-/* A grey picture becomes one of eight bits, as the program's own are; any other becomes colour with alpha, eight bits each. */
+/* A picture of one bit for each pixel is read as it is, another grey one with eight bits; any other becomes colour with alpha, eight bits
+ * each. */
 static void set_colours(Decoder *d)
 {
     unsigned long sample;
     int grey = png_get_color_type(d->png, d->info) == PNG_COLOR_TYPE_GRAY && !png_get_valid(d->png, d->info, PNG_INFO_tRNS);
     for (sample = 0; sample < 256; sample++)
         d->pixels[sample] = pixel_of_grey(d->reader->threshold, sample, 255);
+    d->packed = grey && png_get_bit_depth(d->png, d->info) == 1 && png_get_interlace_type(d->png, d->info) == PNG_INTERLACE_NONE;
     d->channels = grey ? 1 : 4;
-    png_set_expand(d->png);
-    png_set_scale_16(d->png);
+    if (!d->packed) {
+        png_set_expand(d->png);
+        png_set_scale_16(d->png);
+    }
     if (!grey) {
         png_set_gray_to_rgb(d->png);
         png_set_add_alpha(d->png, 255, PNG_FILLER_AFTER);
     }
     png_read_update_info(d->png, d->info);
-    if (png_get_channels(d->png, d->info) != d->channels || png_get_bit_depth(d->png, d->info) != 8)
+    if (png_get_channels(d->png, d->info) != d->channels || png_get_bit_depth(d->png, d->info) != (d->packed ? 1 : 8))
         png_error(d->png, "its colours cannot be told");
 }
 
@@ -131,7 +156,7 @@ static int decode(Decoder *d)
 
 int picture_read_png(Reader *r)
 {
-    Decoder d = {NULL, NULL, r, 0, NULL, {0}};
+    Decoder d = {NULL, NULL, r, 0, 0, NULL, {0}};
     int done = 0;
     d.png = png_create_read_struct(PNG_LIBPNG_VER_STRING, r->why, fail_reading, ignore);
     if (d.png != NULL)

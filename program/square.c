@@ -3,9 +3,10 @@
 #include <stdint.h>
 #include <string.h>
 
-/* The finders, row by row with bit 6 the leftmost (docs/SPECIFICATION.md 4.2): three have the corner of their two outer dark lines at
- * the corner of the square; the one at the bottom left has it towards the middle. */
-enum { FINDER = 7, TOP_LEFT = 0, TOP_RIGHT = 1, BOTTOM_LEFT = 2, BOTTOM_RIGHT = 3, FINDER_MODULES = 4 * 49 };
+/* The finders, row by row with bit 6 the leftmost (docs/SPECIFICATION.md 4.2), at the top left, top right, bottom left and bottom right:
+ * three have the corner of their two outer dark lines at the corner of the square; the one at the bottom left has it towards the
+ * middle. */
+enum { FINDER = 7, CELLS = FINDER * FINDER, FINDER_MODULES = 4 * CELLS };
 static const uint8_t FINDERS[4][FINDER] = {{0x7F, 0x40, 0x5F, 0x50, 0x57, 0x57, 0x57},
                                            {0x7F, 0x01, 0x7D, 0x05, 0x75, 0x75, 0x75},
                                            {0x7F, 0x01, 0x7D, 0x05, 0x75, 0x75, 0x75},
@@ -33,25 +34,38 @@ static size_t turned_place(size_t side, unsigned quarters, size_t row, size_t co
     }
 }
 
-/* The pixel in the middle of a module. */
-static uint8_t middle_of(const Picture *p, const Frame *f, size_t place)
+/* The corners of a square, 7 x 7 modules each. */
+typedef struct {
+    uint8_t modules[4][CELLS];
+} Corners;
+
+/* Each module by the pixel in its middle. */
+static void take_corners(const Picture *p, const Frame *f, Corners *corners)
 {
-    size_t side = f->size / f->scale;
-    size_t y = f->top + place / side * f->scale + f->scale / 2, x = f->left + place % side * f->scale + f->scale / 2;
-    return p->pixels[y * p->width + x];
+    size_t far = f->size - FINDER * f->scale, i, row, column;
+    for (i = 0; i < 4; i++) {
+        size_t top = f->top + (i >= 2 ? far : 0) + f->scale / 2, left = f->left + (i % 2 == 1 ? far : 0) + f->scale / 2;
+        for (row = 0; row < FINDER; row++)
+            for (column = 0; column < FINDER; column++)
+                corners->modules[i][row * FINDER + column] =
+                    p->pixels[(top + row * f->scale) * p->width + left + column * f->scale];
+    }
 }
 
-/* In how many modules the finders differ from those of a mark that is turned so; unknown ones do not count. */
-static unsigned finders_differ(const Picture *p, const Frame *f, unsigned quarters)
+/* In how many modules the finders differ from those of a mark that is turned so; unknown ones do not count. A corner of the mark comes to
+ * the next one clockwise, and is turned itself. */
+static unsigned finders_differ(const Corners *corners, unsigned quarters)
 {
-    size_t side = f->size / f->scale, i;
+    static const uint8_t around[4] = {0, 1, 3, 2}; /* a corner's number on the way around, and back */
     unsigned differ = 0;
-    for (i = 0; i < FINDER_MODULES; i++) {
-        size_t corner = i / 49, row = i % 49 / 7, column = i % 7;
-        unsigned wanted = FINDERS[corner][row] >> (6 - column) & 1u;
-        size_t down = corner >= BOTTOM_LEFT ? side - FINDER : 0, right = corner % 2 == 1 ? side - FINDER : 0;
-        uint8_t pixel = middle_of(p, f, turned_place(side, quarters, down + row, right + column));
-        differ += pixel != HX_MODULE_UNKNOWN && pixel != wanted;
+    size_t i, row, column;
+    for (i = 0; i < 4; i++) {
+        const uint8_t *modules = corners->modules[around[(around[i] + quarters) % 4]];
+        for (row = 0; row < FINDER; row++)
+            for (column = 0; column < FINDER; column++) {
+                uint8_t module = modules[turned_place(FINDER, quarters, row, column)];
+                differ += module != HX_MODULE_UNKNOWN && module != (FINDERS[i][row] >> (6 - column) & 1u);
+            }
     }
     return differ;
 }
@@ -64,9 +78,11 @@ typedef struct {
 static Turn nearest_turn(const Picture *p, const Frame *f)
 {
     Turn turn = {0, FINDER_MODULES + 1, FINDER_MODULES + 1};
+    Corners corners;
     unsigned quarters;
+    take_corners(p, f, &corners);
     for (quarters = 0; quarters < 4; quarters++) {
-        unsigned differ = finders_differ(p, f, quarters);
+        unsigned differ = finders_differ(&corners, quarters);
         if (differ < turn.differ) {
             turn.next = turn.differ;
             turn.differ = differ;
@@ -76,6 +92,14 @@ static Turn nearest_turn(const Picture *p, const Frame *f)
         }
     }
     return turn;
+}
+
+/* In how many modules the finders differ from those of a mark that lies upright. */
+static unsigned upright_differs(const Picture *p, const Frame *f)
+{
+    Corners corners;
+    take_corners(p, f, &corners);
+    return finders_differ(&corners, 0);
 }
 
 /* The smallest frame around all that is not light: its edges are the first and last pixels of it, and those behind the last. */
@@ -156,7 +180,7 @@ static int find_frame(const Picture *p, int upright, Frame *best, Words *why)
             unsigned differ;
             if (f.size % f.scale != 0 || !is_side(f.size / f.scale))
                 continue;
-            differ = upright ? finders_differ(p, &f, 0) : nearest_turn(p, &f).differ;
+            differ = upright ? upright_differs(p, &f) : nearest_turn(p, &f).differ;
             if (differ < least) {
                 least = differ;
                 *best = f;
@@ -247,18 +271,20 @@ static unsigned word_differs(const Square *q, const Square *written)
     return differ;
 }
 
-/* Whether the information modules of a square fit a mark of its side, or the known one: no more differ than refusal 4 allows. */
+/* Whether the information modules of a square fit a mark of its side, or the known one: no more differ than refusal 4 allows. The word
+ * that a clean square has is tried first. */
 static int fits_word(const Square *q, const Expected *expected)
 {
     static const uint8_t script[3] = {HX_MODE_NUMERIC, 0, 1}, payload[1] = {'0'};
     static Square written;
-    size_t i, version = (q->side - 21) / 2;
-    written.side = q->side;
-    for (i = 0; i < 16; i++) {
-        if (expected->known && (i / 4 != expected->level || i % 4 != expected->mask))
+    size_t n, first = 0, version = (q->side - 21) / 2;
+    for (n = 8; n < 12; n++) /* level and mask are the bits 8 to 11 of a word */
+        first = 2 * first + (q->modules[information_place(q->side, 0, n)] == HX_MODULE_DARK);
+    for (n = 0; n < 16; n++) {
+        size_t level = (first + n) % 16 / 4, mask = (first + n) % 4;
+        if (expected->known && (level != expected->level || mask != expected->mask))
             continue;
-        hx_write_square(version, i / 4, i % 4, script, sizeof script, payload, sizeof payload, written.modules,
-                        q->side * q->side);
+        hx_write_square(version, level, mask, script, sizeof script, payload, sizeof payload, written.modules, q->side * q->side);
         if (word_differs(q, &written) <= 10)
             return 1;
     }
