@@ -119,21 +119,29 @@ static int find(const Square *q, const Position *p, Square *found, Position *pos
     return good;
 }
 
-/* A clean mark is found in each of the eight positions. Where a word, mirrored, is nearly a word again (three versions), a mirrored mark
- * is not told from one that is not. */
+/* Whether the word of this version, level and mask, mirrored, is nearly a word of the version again: then a mirrored mark is not told from
+ * one that is not. There are three of 1,344 (bench/locking --check tries all). */
+static int is_word_mirrored(size_t version, size_t level, size_t mask)
+{
+    return (version == 43 && level == 1 && mask == 3) || (version == 51 && level == 3 && mask == 3)
+           || (version == 52 && level == 2 && mask == 0);
+}
+
+/* A clean mark is found in each of the eight positions. */
 static void test_positions(size_t version)
 {
     static Square q, found;
     size_t turn, scale = version < 20 ? 1 + below(6) : 1;
     for (turn = 0; turn < 8; turn++) {
         Position p = {0, 0, 0, 0, 0}, position;
+        size_t level = below(4), mask = below(4);
         p.turned = (unsigned)(turn % 4 * 90);
         p.mirrored = turn >= 4;
         p.scale = scale;
         p.left = below(9);
         p.top = below(9);
-        random_mark(version, below(4), below(4), 9, &q);
-        if (p.mirrored && (version == 43 || version == 51 || version == 52))
+        random_mark(version, level, mask, 9, &q);
+        if (p.mirrored && is_word_mirrored(version, level, mask))
             continue;
         check(find(&q, &p, &found, &position), "not found", version);
         check(position.turned == p.turned && position.mirrored == p.mirrored, "found in another position", version);
