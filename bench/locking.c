@@ -417,7 +417,7 @@ static const char *const WAY_NAMES[WAYS] = {"Read a square (`hx_read`)",
                                             "Read with known version, level and mask (`hx_read_as`)"};
 
 /* More where wrong readings can be seen in some minutes: by the chances that --reach prints, these are levels 0 and 1 of version 1, and
- * level 0 of versions 2, 3 and 5. */
+ * level 0 of the next ones. */
 static unsigned long trials_of(const Kind *kind, unsigned long trials)
 {
     if (kind->version == 1)
@@ -425,83 +425,88 @@ static unsigned long trials_of(const Kind *kind, unsigned long trials)
     return kind->level == 0 ? trials / 4 : trials / 20;
 }
 
-static void print_way(size_t version, Way way, Tally (*tally)[SHARES][WAYS])
+static void print_line(size_t level, size_t percent, const Tally tally[WAYS])
 {
-    size_t level, i;
-    printf("\n### Version %zu, %s\n\n", version, WAY_NAMES[way]);
-    puts(
-        "| level | flipped | trials | right | refused | wrong | of the accepted, wrong | wrong at full reach | one below | lower | wrong, "
-        "at another level or mask | wrong, with the right payload |");
-    puts("|---|---|---|---|---|---|---|---|---|---|---|---|");
-    for (level = 0; level < LEVELS; level++) {
-        for (i = 0; i < SHARES; i++) {
-            const Tally *t = &tally[level][i][way];
-            printf("| %zu | %zu %% | %s | %s | %s | %s | %s | %lu | %lu | %lu | %lu | %lu |\n", level, PERCENTS[i],
-                   grouped(t->trials), share(t->right, t->trials), share(t->trials - t->right - t->wrong, t->trials),
-                   one_in(t->wrong, t->trials), share(t->wrong, t->right + t->wrong), t->at[0], t->at[1], t->at[2], t->other_word,
-                   t->payload_only);
-        }
-    }
+    const Tally *t = &tally[READ], *known = &tally[KNOWN];
+    printf("| %zu | %zu %% | %s | %s | %s | %s | %s |", level, percent, grouped(t->trials), share(t->right, t->trials),
+           share(t->trials - t->right - t->wrong, t->trials), one_in(t->wrong, t->trials), share(t->wrong, t->right + t->wrong));
+    printf(" %s, %s, %s | %s | %s |\n", grouped(t->at[0]), grouped(t->at[1]), grouped(t->at[2]),
+           share(known->right, known->trials), one_in(known->wrong, known->trials));
 }
 
-/* What a cap on repairs does to the readings by Read a square, all shares of flips together. */
-static void print_caps(size_t version, Tally (*tally)[SHARES][WAYS])
-{
-    size_t level, i, way;
-    printf("\n### Version %zu, caps on the count of repairs, all shares of flips together\n\n", version);
-    puts(
-        "| level | reading | reach | trials | right | wrong | cap at reach − 1: right lost, wrong left | at reach − 2 | at half of "
-        "reach |");
-    puts("|---|---|---|---|---|---|---|---|---|");
-    for (level = 0; level < LEVELS; level++) {
-        for (way = 0; way < WAYS; way++) {
-            Tally t;
-            memset(&t, 0, sizeof t);
-            for (i = 0; i < SHARES; i++)
-                add(&t, &tally[level][i][way]);
-            printf("| %zu | %s | %zu | %s | %s | %s |", level, way == READ ? "square" : "known", kind_of(version, level).reach,
-                   grouped(t.trials), grouped(t.right), grouped(t.wrong));
-            for (i = 0; i < CAPS; i++)
-                printf(" %s, %s |", share(t.right_over[i], t.right), grouped(t.wrong_within[i]));
-            puts("");
-        }
-    }
-}
-
-static void print_checks(size_t version, Tally (*tally)[SHARES][WAYS])
-{
-    size_t level, i;
-    printf("\n### Version %zu, wrong readings by Read a square that pass a check of the text, all shares of flips together\n\n",
-           version);
-    puts("| level | wrong | same number of digits | Luhn's digit right too | MOD 97-10 digits right too | all three |");
-    puts("|---|---|---|---|---|---|");
-    for (level = 0; level < LEVELS; level++) {
-        Tally t;
-        memset(&t, 0, sizeof t);
-        for (i = 0; i < SHARES; i++)
-            add(&t, &tally[level][i][READ]);
-        if (t.wrong > 0)
-            printf("| %zu | %s | %s | %s | %s | %s |\n", level, grouped(t.wrong), share(t.formed, t.wrong),
-                   share(t.luhn, t.wrong), share(t.mod97, t.wrong), grouped(t.both));
-    }
-}
-
-static void measure_flips(size_t version, unsigned long trials)
+/* One version at all levels and shares of flips. Adds the lines of a level up for the tables below. */
+static void measure_flips(size_t version, unsigned long trials, Tally sums[LEVELS])
 {
     static Mark mark;
-    static Tally tally[LEVELS][SHARES][WAYS];
+    Tally tally[WAYS], all;
     size_t level, i;
+    printf("\n### Version %zu, random flips\n\n", version);
+    puts(
+        "| level | flipped | trials | right | refused | wrong | of the accepted, wrong | wrong with a count at reach, one below, lower "
+        "| known: right | known: wrong |\n|---|---|---|---|---|---|---|---|---|---|");
     mark.form = FULL_DIGITS;
+    memset(&all, 0, sizeof all);
     for (level = 0; level < LEVELS; level++) {
         mark.kind = kind_of(version, level);
-        for (i = 0; i < SHARES; i++)
-            try_flips(&mark, flips_of(&mark.kind, PERCENTS[i]), trials_of(&mark.kind, trials), tally[level][i]);
+        for (i = 0; i < SHARES; i++) {
+            try_flips(&mark, flips_of(&mark.kind, PERCENTS[i]), trials_of(&mark.kind, trials), tally);
+            print_line(level, PERCENTS[i], tally);
+            add(&sums[level], &tally[READ]);
+        }
+        add(&all, &sums[level]);
     }
-    print_way(version, READ, tally);
-    print_way(version, KNOWN, tally);
-    print_caps(version, tally);
-    print_checks(version, tally);
+    printf(
+        "\nOf the %s wrong ones %s were read at another level or mask, and %s had the right payload beside another script, level or "
+        "mask.\n",
+        grouped(all.wrong), grouped(all.other_word), grouped(all.payload_only));
     fflush(stdout);
+}
+
+static void print_caps(const Tally *t, const Kind *kind)
+{
+    size_t i;
+    printf("| %zu | %zu | %zu | %s | %s | %s |", kind->version, kind->level, kind->reach, grouped(t->trials), grouped(t->right),
+           grouped(t->wrong));
+    for (i = 0; i < CAPS; i++)
+        printf(" %zu: %s, %s |", cap(kind, i), share(t->right_over[i], t->right), grouped(t->wrong_within[i]));
+    puts("");
+}
+
+static void print_checks(const Tally *t, const Kind *kind)
+{
+    if (t->wrong > 0)
+        printf("| %zu | %zu | %s | %s | %s | %s | %s |\n", kind->version, kind->level, grouped(t->wrong),
+               share(t->formed, t->wrong), share(t->luhn, t->wrong), share(t->mod97, t->wrong), share(t->both, t->wrong));
+}
+
+/* Versions with flips, and from the same readings what caps and check digits do, all shares of flips together. */
+static void measure_versions(unsigned long trials)
+{
+    static const size_t versions[] = {1, 2, 3, 5};
+    static Tally sums[4][LEVELS];
+    Kind kind;
+    size_t i, level, turn;
+    for (i = 0; i < 4; i++)
+        measure_flips(versions[i], trials, sums[i]);
+    for (turn = 0; turn < 2; turn++) {
+        puts(
+            turn == 0
+                ? "\n### Caps on the count of repairs, all shares of flips together: right ones lost, wrong ones left\n\n"
+                  "| version | level | reach | trials | right | wrong | cap at reach − 1 | cap at reach − 2 | cap at half of reach "
+                  "|\n|---|---|---|---|---|---|---|---|---|"
+                : "\n### Wrong readings that pass a check of the text, all shares of flips together\n\n"
+                  "| version | level | wrong | same number of digits | and Luhn's digit right | and MOD 97-10 digits right | and "
+                  "all three digits right |\n|---|---|---|---|---|---|---|");
+        for (i = 0; i < 4; i++) {
+            for (level = 0; level < LEVELS; level++) {
+                kind = kind_of(versions[i], level);
+                if (turn == 0)
+                    print_caps(&sums[i][level], &kind);
+                else
+                    print_checks(&sums[i][level], &kind);
+            }
+        }
+    }
 }
 
 /* What the payload is makes a difference: data behind its end are not looked at, and not every word is a digit or a character. */
@@ -529,7 +534,7 @@ static void measure_forms(unsigned long trials)
 
 static void measure_scratches(size_t version, unsigned long trials)
 {
-    static const Scratch scratches[] = {{5, 1}, {10, 1}, {20, 1}, {40, 1}, {10, 2}, {20, 2}, {40, 2}};
+    static const Scratch scratches[] = {{10, 1}, {20, 1}, {40, 1}, {10, 2}, {20, 2}, {40, 2}};
     static Mark mark;
     Tally tally[FILLINGS];
     size_t level, i, filling;
@@ -597,7 +602,7 @@ static double chance(size_t length, size_t parity, size_t changes)
 }
 
 /* The greatest of the blocks, with so many changes fewer than reach. */
-static void print_chance(const Kind *kind, size_t fewer)
+static double chance_of(const Kind *kind, size_t fewer)
 {
     double greatest = 0;
     size_t i;
@@ -607,18 +612,24 @@ static void print_chance(const Kind *kind, size_t fewer)
         if (one > greatest)
             greatest = one;
     }
-    if (1 / greatest < 1e9) {
-        printf(" 1 in %s |", grouped((unsigned long)(1 / greatest + 0.5)));
-    } else {
-        int power = 0;
-        for (; greatest < 1; greatest *= 10)
-            power++;
-        printf(" 1 in 10^%d |", power - 1); /* rounded to the greater chance */
-    }
+    return greatest;
 }
 
-static void print_chance_at_reach(const Kind *kind) { print_chance(kind, 0); }
-static void print_chance_below(const Kind *kind) { print_chance(kind, 1); }
+/* Small ones are rounded to the power of ten above them. */
+static char *odds(double chance)
+{
+    char *text = buffer();
+    int power = 0;
+    for (; chance < 1e-9; chance *= 10)
+        power++;
+    if (power == 0)
+        sprintf(text, "1 in %s", grouped((unsigned long)(1 / chance + 0.5)));
+    else
+        sprintf(text, "1 in 10^%d", power + 8);
+    return text;
+}
+
+static void print_chance(const Kind *kind) { printf(" %s; %s |", odds(chance_of(kind, 0)), odds(chance_of(kind, 1))); }
 
 static void print_levels(const char *title, size_t versions, void (*print)(const Kind *))
 {
@@ -639,9 +650,8 @@ static void print_reach(void)
 {
     print_levels("Number of blocks: parity of each (reach of each).", STATIONS, print_blocks);
     print_levels("\nHow many digits, how many letters and digits, how many bytes fit.", STATIONS, print_room);
-    print_levels("\nChance that a block of random bytes lies within reach of some codeword; of several blocks the greatest.", 5,
-                 print_chance_at_reach);
-    print_levels("\nThe same within one repair less than reach.", 5, print_chance_below);
+    print_levels("\nChance that a block of random bytes lies within reach of some codeword; that it does within one repair less.",
+                 5, print_chance);
 }
 
 /* THE CHECK. Marks are damaged, and by comparing codewords alone it is told whether the damage is within reach (SPECIFICATION 11.5).
@@ -866,11 +876,8 @@ static int check_all(void)
 
 static void measure(unsigned long trials)
 {
-    static const size_t versions[] = {1, 2, 3, 5};
-    size_t i;
     printf("Library %s, seed %d.\n", hx_library_version(), SEED);
-    for (i = 0; i < sizeof versions / sizeof versions[0]; i++)
-        measure_flips(versions[i], trials);
+    measure_versions(trials);
     measure_forms(trials / 2);
     measure_scratches(1, trials / 10);
     measure_scratches(3, trials / 20);
