@@ -180,9 +180,10 @@ static int is_right(const Mark *mark, const hx_receipt *receipt)
 /* COUNTS. */
 typedef struct {
     unsigned long trials, right, wrong;
-    unsigned long payload_only; /* wrong, but the payload is that of the mark */
-    unsigned long other_word;   /* wrong, and at another level or mask */
-    unsigned long at[3];        /* wrong, with a count of repairs at full reach, one below, lower */
+    unsigned long word_fits, blocks_fit; /* not refused with 4; nor with 6 */
+    unsigned long payload_only;          /* wrong, but the payload is that of the mark */
+    unsigned long other_word;            /* wrong, and at another level or mask */
+    unsigned long at[3];                 /* wrong, with a count of repairs at full reach, one below, lower */
     unsigned long right_over[CAPS], wrong_within[CAPS];
     unsigned long formed, luhn, mod97, both; /* wrong, with as many digits as the mark; and with these check digits right */
 } Tally;
@@ -222,9 +223,12 @@ static void count_wrong(Tally *tally, const Mark *mark, const hx_receipt *receip
 static void count(Tally *tally, const Mark *mark, const uint8_t *square, Way way)
 {
     hx_receipt receipt;
+    hx_status status = look(mark, square, way, &receipt);
     size_t i;
     tally->trials++;
-    if (look(mark, square, way, &receipt) != HX_OK)
+    tally->word_fits += status != HX_REFUSED_INFORMATION;
+    tally->blocks_fit += status != HX_REFUSED_INFORMATION && status != HX_REFUSED_BLOCK;
+    if (status != HX_OK)
         return;
     if (!is_right(mark, &receipt)) {
         count_wrong(tally, mark, &receipt);
@@ -555,6 +559,70 @@ static void measure_scratches(size_t version, unsigned long trials)
     fflush(stdout);
 }
 
+/* POSITIONS of a clean mark that is not handed over upright. 0 is upright, 1 to 3 are quarter turns clockwise, 4 is mirrored at the
+ * diagonal from bottom left to top right, 5 to 7 are quarter turns of that. */
+enum { POSITIONS = 8 };
+
+static const char *const POSITION_NAMES[POSITIONS] = {"upright",
+                                                      "turned by 90 degrees",
+                                                      "turned by 180 degrees",
+                                                      "turned by 270 degrees",
+                                                      "mirrored at the diagonal from bottom left to top right",
+                                                      "that, turned by 90 degrees",
+                                                      "that, turned by 180 degrees",
+                                                      "that, turned by 270 degrees"};
+
+static void move(const Mark *mark, size_t position, uint8_t *square)
+{
+    size_t last = mark->kind.side - 1, row, column, turns;
+    for (row = 0; row <= last; row++) {
+        for (column = 0; column <= last; column++) {
+            size_t r = row, c = column, before;
+            for (turns = position % 4; turns > 0; turns--) {
+                before = r;
+                r = last - c;
+                c = before;
+            }
+            if (position >= 4) {
+                before = r;
+                r = last - c;
+                c = last - before;
+            }
+            square[row * (last + 1) + column] = mark->square[r * (last + 1) + c];
+        }
+    }
+}
+
+static void try_position(Mark *mark, size_t position, unsigned long trials, Tally *tally)
+{
+    static uint8_t square[HX_SIZE_SQUARE];
+    uint64_t seed = SEED + 1000000 * mark->kind.version + 100000 * mark->kind.level + position;
+    memset(tally, 0, sizeof *tally);
+    for (; trials > 0; trials--) {
+        draw(mark, &seed);
+        move(mark, position, square);
+        count(tally, mark, square, READ);
+    }
+}
+
+/* Level 0 alone: what decides at the others is how rarely a block lies within reach, which --reach prints. */
+static void measure_positions(unsigned long trials)
+{
+    static Mark mark;
+    size_t position;
+    Tally t;
+    puts("\n### Version 1, level 0, clean marks that are turned or mirrored, Read a square\n\n"
+         "| position | trials | information modules fit | block within reach too | wrong |\n|---|---|---|---|---|");
+    mark.form = FULL_DIGITS;
+    mark.kind = kind_of(1, 0);
+    for (position = 1; position < POSITIONS; position++) {
+        try_position(&mark, position, trials, &t);
+        printf("| %s | %s | %s | %s | %s |\n", POSITION_NAMES[position], grouped(trials), share(t.word_fits, trials),
+               one_in(t.blocks_fit, trials), one_in(t.wrong, trials));
+    }
+    fflush(stdout);
+}
+
 /* THE TABLES OF REACH. */
 static const size_t STATION_VERSIONS[] = {1, 2, 3, 4, 5, 6, 7, 8, 9, 10, 15, 20, 40, 84};
 enum { STATIONS = sizeof STATION_VERSIONS / sizeof STATION_VERSIONS[0] };
@@ -881,6 +949,7 @@ static void measure(unsigned long trials)
     measure_forms(trials / 2);
     measure_scratches(1, trials / 10);
     measure_scratches(3, trials / 20);
+    measure_positions(trials / 2);
 }
 
 /* The table of blocks comes first, then what to do. */
