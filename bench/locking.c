@@ -303,6 +303,7 @@ static void try_flips(Mark *mark, size_t n, unsigned long trials, Tally tally[WA
  * rows or columns, whichever it crosses more of, and its width across; what lies outside the square is cut off. */
 typedef struct {
     size_t length, width;
+    size_t percent; /* of all modules, flipped besides, which nobody has noticed */
 } Scratch;
 
 static long rounded(long a, long b)
@@ -346,13 +347,15 @@ static uint8_t filled(Filling filling, uint64_t *seed)
 static void try_scratches(Mark *mark, Scratch scratch, unsigned long trials, Tally tally[FILLINGS])
 {
     static uint8_t square[HX_SIZE_SQUARE];
-    static size_t places[1024];
+    static size_t places[1024], order[HX_SIZE_SQUARE];
     uint64_t seed = SEED + 1000000 * mark->kind.version + 100000 * mark->kind.level + 100 * scratch.length + scratch.width;
     size_t length = mark->kind.side * mark->kind.side, n, i;
     int filling;
+    reset_order(order);
     memset(tally, 0, FILLINGS * sizeof tally[0]);
     for (; trials > 0; trials--) {
         draw(mark, &seed);
+        flip(mark, flips_of(&mark->kind, scratch.percent), order, &seed);
         n = scratch_places(&mark->kind, scratch, &seed, places);
         for (filling = 0; filling < FILLINGS; filling++) {
             memcpy(square, mark->square, length);
@@ -536,19 +539,20 @@ static void measure_forms(unsigned long trials)
     fflush(stdout);
 }
 
-static void measure_scratches(size_t version, unsigned long trials)
+static void measure_scratches(size_t version, size_t percent, unsigned long trials)
 {
-    static const Scratch scratches[] = {{10, 1}, {20, 1}, {40, 1}, {10, 2}, {20, 2}, {40, 2}};
+    static Scratch scratches[] = {{10, 1, 0}, {20, 1, 0}, {40, 1, 0}, {10, 2, 0}, {20, 2, 0}, {40, 2, 0}};
     static Mark mark;
     Tally tally[FILLINGS];
     size_t level, i, filling;
-    printf("\n### Version %zu, scratches, Read a square: right, wrong of %s trials each; the others are refused\n\n", version,
-           grouped(trials));
+    printf("\n### Version %zu, scratches, and %zu %% of all modules flipped besides: right, wrong of %s trials each\n\n", version,
+           percent, grouped(trials));
     puts("| level | length × width | all dark | all light | random | unknown |\n|---|---|---|---|---|---|");
     mark.form = FULL_DIGITS;
     for (level = 0; level < LEVELS; level++) {
         mark.kind = kind_of(version, level);
         for (i = 0; i < sizeof scratches / sizeof scratches[0]; i++) {
+            scratches[i].percent = percent;
             try_scratches(&mark, scratches[i], trials, tally);
             printf("| %zu | %zu × %zu |", level, scratches[i].length, scratches[i].width);
             for (filling = 0; filling < FILLINGS; filling++)
@@ -830,7 +834,7 @@ static void damage_codewords(Check *c, uint64_t *seed)
 static void damage(Check *c, uint64_t *seed)
 {
     static size_t places[256];
-    static const Scratch thin = {12, 1};
+    static const Scratch thin = {12, 1, 0};
     size_t side = c->mark.kind.side, n, i;
     memcpy(c->square, c->mark.square, side * side);
     if (next_below(seed, 4) > 0) {
@@ -913,12 +917,46 @@ static int check_room(const Kind *kind)
     return 1;
 }
 
+/* Of all versions, levels and masks: whether a clean mark in another position passes the check of its information modules. Turned by 180
+ * degrees each does. Mirrored so that the finders stay, only these three do, which docs/LOCKING.md names. */
+static int check_positions(void)
+{
+    static const size_t mirrored[3][3] = {{43, 1, 3}, {51, 3, 3}, {52, 2, 0}};
+    static Mark mark;
+    static uint8_t square[HX_SIZE_SQUARE];
+    uint64_t seed = SEED;
+    size_t n, found = 0;
+    hx_receipt receipt;
+    mark.form = SHORT_DIGITS;
+    for (n = 0; n < VERSIONS * LEVELS * 4; n++) {
+        mark.kind = kind_of(1 + n / 16, n / 4 % 4);
+        do
+            draw(&mark, &seed);
+        while (mark.mask != n % 4);
+        move(&mark, 2, square);
+        if (look(&mark, square, READ, &receipt) == HX_REFUSED_INFORMATION)
+            return 0;
+        move(&mark, 4, square);
+        if (look(&mark, square, READ, &receipt) == HX_REFUSED_INFORMATION)
+            continue;
+        if (found == 3 || mark.kind.version != mirrored[found][0] || mark.kind.level != mirrored[found][1]
+            || mark.mask != mirrored[found][2])
+            return 0;
+        found++;
+    }
+    return found == 3;
+}
+
 static int check_all(void)
 {
     static const size_t versions[] = {1, 2, 3, 5, 7, 10};
     static Check c;
     unsigned long within = 0, edges = 0;
     size_t i, level;
+    if (!check_positions()) {
+        puts("failed: other marks than docs/LOCKING.md names pass the check of their information modules, turned or mirrored");
+        return 0;
+    }
     for (i = 0; i < STATIONS; i++) {
         for (level = 0; level < LEVELS; level++) {
             Kind kind = kind_of(STATION_VERSIONS[i], level);
@@ -947,8 +985,9 @@ static void measure(unsigned long trials)
     printf("Library %s, seed %d.\n", hx_library_version(), SEED);
     measure_versions(trials);
     measure_forms(trials / 2);
-    measure_scratches(1, trials / 10);
-    measure_scratches(3, trials / 20);
+    measure_scratches(1, 0, trials / 10);
+    measure_scratches(1, 1, trials / 10);
+    measure_scratches(3, 0, trials / 20);
     measure_positions(trials / 2);
 }
 
