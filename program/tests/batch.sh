@@ -1,4 +1,4 @@
-# shellcheck shell=bash
+# shellcheck shell=bash disable=SC2034,SC2154 # program/test reads these files one after another; they share variables
 # The verb batch.
 
 batch() { run "$1" batch --format pbm --scale 1 -d "${@:2}"; }   # batch STATUS DIR ARGUMENT ..
@@ -55,7 +55,7 @@ batch_csv() {
   says 2 "names no column 'none'" batch -d none --column none list.csv
   says 2 'columns are counted from 1' batch -d none --column 0 list.csv
   leaves_no none
-  if [ $has_python = 0 ]; then return; fi
+  if [ "$has_python" = 0 ]; then return; fi
   check "the manifest is no CSV with the serials" python3 -c '
 import csv
 rows = list(csv.DictReader(open("by-name/manifest.csv", newline="")))

@@ -1,4 +1,4 @@
-# shellcheck shell=bash
+# shellcheck shell=bash disable=SC2034,SC2154 # program/test reads these files one after another; they share variables
 # What all tests of the program use. `hanxin` is the program, `room` the folder of the tests; `out` and `err` have what it printed last.
 : "${hanxin:?}" "${room:?}"
 tests=0 left_out=() last='' formats=(text pbm p4 svg png)
@@ -11,7 +11,7 @@ start_tests() {
   if ! python3 -c 'import json' 2>/dev/null; then has_python=0; left_out+=("whether JSON and CSV are well formed, there is no python3"); fi
 }
 
-enter() { mkdir "$room/$1"; cd "$room/$1"; : >out; : >err; }   # enter NAME: a folder for the tests of one verb
+enter() { mkdir "$room/$1"; cd "$room/$1" || exit 1; : >out; : >err; }   # enter NAME: a folder for the tests of one verb
 
 run() {   # run STATUS ARGUMENT ..: runs the program, which must end with this status
   local status=0
@@ -60,7 +60,7 @@ mirror() { awk '{ line = ""; for (i = 1; i <= length($0); i++) line = substr($0,
 # json EXPRESSION: every line of out is an object with all keys in their order, and the expression in Python holds; d is the first object,
 # all has all of them.
 json() {
-  if [ $has_python = 0 ]; then return; fi
+  if [ "$has_python" = 0 ]; then return; fi
   check "its JSON is not as it should be: $1" python3 -c '
 import json, sys
 keys = """file file_hex outcome refused_by refusal words version level mask corrected distance payload_length script_length side

@@ -1,4 +1,4 @@
-# shellcheck shell=bash
+# shellcheck shell=bash disable=SC2034,SC2154 # program/test reads these files one after another; they share variables
 # The verb overlay.
 
 # The text of an overlay, cell by cell, made of the mark as it was written: expect ROWS SHOWN NOT-SHOWN UNKNOWN, where the modules of the

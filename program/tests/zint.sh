@@ -1,4 +1,4 @@
-# shellcheck shell=bash
+# shellcheck shell=bash disable=SC2034,SC2154 # program/test reads these files one after another; they share variables
 # Marks of the program zint. Of its kinds of files PNG can be read, as zint makes it without options, and scaled or turned.
 
 # zint_mark PAYLOAD ARGUMENT-OF-ZINT ..
