@@ -80,16 +80,21 @@ static Turn nearest_turn(const Picture *p, const Frame *f)
 /* The smallest frame around all that is not light; answers whether there is anything. */
 static int dark_area(const Picture *p, size_t *left, size_t *top, size_t *right, size_t *bottom)
 {
-    size_t i, n = p->width * p->height;
+    size_t y;
     *left = p->width;
     *top = p->height;
     *right = *bottom = 0;
-    for (i = 0; i < n; i++) {
-        size_t x = i % p->width, y = i / p->width;
-        if (p->pixels[i] == HX_MODULE_LIGHT)
+    for (y = 0; y < p->height; y++) {
+        const uint8_t *row = p->pixels + y * p->width;
+        size_t first = 0, end = p->width;
+        while (first < end && row[first] == HX_MODULE_LIGHT)
+            first++;
+        while (end > first && row[end - 1] == HX_MODULE_LIGHT)
+            end--;
+        if (first == end)
             continue;
-        *left = x < *left ? x : *left;
-        *right = x + 1 > *right ? x + 1 : *right;
+        *left = first < *left ? first : *left;
+        *right = end > *right ? end : *right;
         *top = y < *top ? y : *top;
         *bottom = y + 1;
     }
@@ -171,15 +176,15 @@ static int find_turn(const Picture *p, const Frame *f, unsigned *quarters, Words
     return 1;
 }
 
-/* How many pixels of a module are dark, and how many unknown. */
+/* How many pixels of a module are light, dark and unknown. */
 static void count_pixels(const Picture *p, const Frame *f, size_t place, size_t *counts)
 {
-    size_t side = f->size / f->scale, i;
+    size_t side = f->size / f->scale, x, y;
+    const uint8_t *row = p->pixels + (f->top + place / side * f->scale) * p->width + f->left + place % side * f->scale;
     counts[0] = counts[1] = counts[2] = 0;
-    for (i = 0; i < f->scale * f->scale; i++) {
-        size_t y = f->top + place / side * f->scale + i / f->scale, x = f->left + place % side * f->scale + i % f->scale;
-        counts[p->pixels[y * p->width + x]]++;
-    }
+    for (y = 0; y < f->scale; y++, row += p->width)
+        for (x = 0; x < f->scale; x++)
+            counts[row[x]]++;
 }
 
 /* The modules of the frame, laid upright. A module with pixels of several shades is refused, or unknown if that is wanted. */
