@@ -1,5 +1,6 @@
 #define _POSIX_C_SOURCE 200809L /* for isatty, mkdir, sigaction */
 #include "lines.h"
+#include "names.h"
 #include "reading.h"
 
 #include <errno.h>
@@ -20,6 +21,7 @@ typedef struct {
     Lines lines;
     Mark mark;
     Reading back;
+    Names names;
     FILE *manifest;
     char manifest_name[4096], file[4096]; /* the file's name, without the directory */
     size_t written, refused, failed;
@@ -102,15 +104,16 @@ static void print_field(FILE *file, const uint8_t *bytes, size_t length)
 }
 
 /* The row is written, and has left the program, before the file gets its name: so every file has its row, whenever the run stops. */
-static void record(Batch *b)
+static int record(Batch *b, Words *why)
 {
     fprintf(b->manifest, "%zu,", b->lines.line);
     print_field(b->manifest, b->mark.payload.bytes, b->mark.payload.length);
     putc(',', b->manifest);
     print_field(b->manifest, (const uint8_t *)b->file, strlen(b->file));
     fprintf(b->manifest, ",%zu,%zu,%zu,%zu\n", b->mark.version, b->mark.level, b->mark.mask, b->mark.bits);
-    if (fflush(b->manifest) != 0)
-        fail("cannot write '%s': %s", b->manifest_name, strerror(errno));
+    if (fflush(b->manifest) != 0 || ferror(b->manifest))
+        return say(why, "cannot write '%s': %s", b->manifest_name, strerror(errno));
+    return 1;
 }
 
 /* Whether the file, read from the disk, is the mark that was meant: module by module, and by its reading. */
@@ -129,6 +132,15 @@ static int reads_back(Batch *b, const char *place, Words *why)
     return 1;
 }
 
+/* A file of this run is not replaced by another of this run, even where those of other runs are. */
+static int is_new_name(Batch *b, Words *why)
+{
+    int added = names_add(&b->names, b->file);
+    if (added == 0)
+        return say(why, "an earlier line has the name '%s' too (--pattern with {n} makes names differ)", b->file);
+    return added > 0 || say(why, "not enough memory for the names of the files");
+}
+
 /* The file of the mark; it counts only if it was read back. */
 static int write_file(Batch *b, Words *why)
 {
@@ -137,6 +149,8 @@ static int write_file(Batch *b, Words *why)
     name_file(b);
     if (strlen(b->file) > 250)
         return say(why, "the name of the file is longer than 250 bytes");
+    if (!is_new_name(b, why))
+        return 0;
     snprintf(path, sizeof path, "%s/%s", b->wish->directory, b->file);
     if (!output_open(&output, path, b->wish->force, why))
         return 0;
@@ -150,7 +164,10 @@ static int write_file(Batch *b, Words *why)
         output_drop(&output);
         return 0;
     }
-    record(b);
+    if (!record(b, why)) {
+        output_drop(&output);
+        fail("%s", why->text);
+    }
     return output_keep(&output, why);
 }
 
@@ -230,9 +247,11 @@ int verb_batch(Wish *w)
     if (b.bar)
         fputs("\r\x1B[K", stderr);
     lines_close(&b.lines);
+    names_free(&b.names);
     if (fclose(b.manifest) != 0)
         fail("cannot write '%s': %s", b.manifest_name, strerror(errno));
-    printf("%s: written: %zu, refused: %zu, failed: %zu\n", b.manifest_name, b.written, b.refused, b.failed);
+    print_name(stdout, b.manifest_name);
+    printf(": written: %zu, refused: %zu, failed: %zu\n", b.written, b.refused, b.failed);
     if (stopped) {
         fprintf(stderr, "hanxin: stopped behind line %zu; the manifest has every file that was written\n", b.lines.line);
         return FAILED;

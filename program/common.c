@@ -9,13 +9,49 @@
 #include <sys/stat.h>
 #include <unistd.h>
 
+/* The length of what is printed as it is: a character of UTF-8 that is no control character; or 0. */
+static size_t printable_at(const uint8_t *bytes, size_t length)
+{
+    size_t n = character_at(bytes, length);
+    int control = bytes[0] < 32 || bytes[0] == 127 || (bytes[0] == 0xC2 && n == 2 && bytes[1] < 0xA0);
+    return control ? 0 : n;
+}
+
+/* Words may have the name of a file, or an argument, and these may have any byte. */
+static void make_printable(Words *why)
+{
+    uint8_t *bytes = (uint8_t *)why->text;
+    size_t length = strlen(why->text), i = 0;
+    while (i < length) {
+        size_t n = printable_at(bytes + i, length - i);
+        if (n == 0)
+            bytes[i] = '?';
+        i += n == 0 ? 1 : n;
+    }
+}
+
 int say(Words *why, const char *format, ...)
 {
     va_list values;
     va_start(values, format);
     vsnprintf(why->text, sizeof why->text, format, values);
     va_end(values);
+    make_printable(why);
     return 0;
+}
+
+void print_name(FILE *file, const char *name)
+{
+    const uint8_t *bytes = (const uint8_t *)name;
+    size_t length = strlen(name), i = 0;
+    while (i < length) {
+        size_t n = printable_at(bytes + i, length - i);
+        if (n == 0)
+            putc('?', file);
+        else
+            fwrite(bytes + i, 1, n, file);
+        i += n == 0 ? 1 : n;
+    }
 }
 
 void fail(const char *format, ...)
@@ -25,10 +61,17 @@ void fail(const char *format, ...)
     va_start(values, format);
     vsnprintf(why.text, sizeof why.text, format, values);
     va_end(values);
+    make_printable(&why);
     fputs("hanxin: ", stderr);
     fputs(why.text, stderr);
     fputs("\n", stderr);
     exit(FAILED);
+}
+
+void finish_output(void)
+{
+    if (fflush(stdout) != 0 || ferror(stdout))
+        fail("cannot write standard output: %s", strerror(errno));
 }
 
 int numbers_of(const char *text, char between, size_t *numbers, size_t count)

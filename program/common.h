@@ -8,6 +8,12 @@
 /* Prints 'hanxin: ' and the words on standard error, and ends the program with FAILED. */
 void fail(const char *format, ...);
 
+/* Sees that all of standard output has been written, or the program ends and says why not. */
+void finish_output(void);
+
+/* Prints a file's name, with ? for what a terminal would obey. Words have it so too. */
+void print_name(FILE *file, const char *name);
+
 /* A number between two others, or the program ends and says what it should have been. */
 size_t number_of(const char *text, const char *what, size_t least, size_t most);
 

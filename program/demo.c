@@ -89,7 +89,11 @@ static void save(const Wish *w, const Square *q)
     Words why;
     if (!output_open(&output, w->written, w->force, &why))
         fail("%s", why.text);
-    if (!picture_write(output.file, &look, q, &why) || !output_flush(&output, &why) || !output_keep(&output, &why))
+    if (!picture_write(output.file, &look, q, &why)) {
+        output_drop(&output);
+        fail("%s: %s", w->written, why.text);
+    }
+    if (!output_flush(&output, &why) || !output_keep(&output, &why))
         fail("%s", why.text);
 }
 

@@ -13,6 +13,8 @@ static void print_string(FILE *file, const uint8_t *bytes, size_t length)
             fputs("\\ufffd", file);
         else if (n == 1 && (bytes[i] < 32 || bytes[i] == 127))
             fprintf(file, "\\u%04x", bytes[i]);
+        else if (n == 2 && bytes[i] == 0xC2 && bytes[i + 1] < 0xA0) /* control characters, too: some terminals obey them */
+            fprintf(file, "\\u%04x", bytes[i + 1]);
         else if (n == 1 && (bytes[i] == '"' || bytes[i] == '\\'))
             fprintf(file, "\\%c", bytes[i]);
         else
@@ -58,10 +60,11 @@ static void print_outcome(FILE *file, const Reading *r)
     size_t length = strlen(r->file);
     fputs("{\"file\":", file);
     print_string(file, name, length);
-    if (!is_text(name, length)) {
-        fputs(",\"file_hex\":", file);
+    fputs(",\"file_hex\":", file);
+    if (is_text(name, length))
+        fputs("null", file);
+    else
         print_hex(file, name, length);
-    }
     fprintf(file, ",\"outcome\":\"%s\"", outcomes[r->outcome]);
     if (r->by == BY_NONE)
         fputs(",\"refused_by\":null", file);

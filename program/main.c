@@ -1,9 +1,10 @@
 /* hanxin: writes and reads Han Xin marks in files. */
-#define _POSIX_C_SOURCE 200809L /* for SIGPIPE */
+#define _POSIX_C_SOURCE 200809L /* for SIGPIPE, open */
 #include "options.h"
 
-#include <errno.h>
+#include <fcntl.h>
 #include <signal.h>
+#include <stdlib.h>
 #include <string.h>
 
 static const char HELP[] =
@@ -47,16 +48,26 @@ static int act(const char *name, char **arguments)
     return FAILED;
 }
 
+/* Where standard input, output or error is closed, the next file that is opened takes its place, and what is printed would go there.
+ * So each of them is opened, in a way in which it cannot be used: that fails as it should. */
+static void take_places(void)
+{
+    int place;
+    for (place = 0; place < 3; place++)
+        if (fcntl(place, F_GETFD) == -1 && open("/dev/null", place == 0 ? O_WRONLY : O_RDONLY) == -1)
+            _Exit(FAILED);
+}
+
 int main(int count, char **arguments)
 {
     int status;
+    take_places();
     signal(SIGPIPE, SIG_IGN); /* so that a closed pipe is told by the exit status, as any other output that fails */
     if (count < 2) {
         fputs(HELP, stderr);
         return FAILED;
     }
     status = act(arguments[1], arguments + 2);
-    if (fflush(stdout) != 0 || ferror(stdout))
-        fail("cannot write standard output: %s", strerror(errno));
+    finish_output();
     return status;
 }

@@ -200,7 +200,8 @@ static void set(Wish *w, int option, const char *value)
 {
     if (option == HELP) {
         fputs(help_of(w->verb), stdout);
-        exit(fflush(stdout) == 0 ? DONE : FAILED);
+        finish_output();
+        exit(DONE);
     }
     if (option <= VERSION)
         set_mark(w, option, value);

@@ -40,17 +40,18 @@ static void draw(Wish *w, const char *name, const Reading *r)
     Words why;
     Output output;
     Counts counts = compare(r, &shades);
+    FILE *words = strcmp(name, "-") == 0 ? stderr : stdout;
     if (!output_open(&output, name, w->force, &why))
         fail("%s", why.text);
     if (!picture_write(output.file, &w->look, &shades, &why)) {
         output_drop(&output);
-        fail("%s: %s", name, why.text);
+        fail("%s: %s", strcmp(name, "-") == 0 ? "standard output" : name, why.text);
     }
     if (!output_flush(&output, &why) || !output_keep(&output, &why))
         fail("%s", why.text);
-    fprintf(strcmp(name, "-") == 0 ? stderr : stdout,
-            "%s: data modules that differ: %zu; information modules: %zu; unknown: %zu\n", r->file, counts.data,
-            counts.information, counts.unknown);
+    print_name(words, r->file);
+    fprintf(words, ": data modules that differ: %zu; information modules: %zu; unknown: %zu\n", counts.data, counts.information,
+            counts.unknown);
 }
 
 int verb_overlay(Wish *w)
@@ -67,11 +68,7 @@ int verb_overlay(Wish *w)
     if (reading.outcome == DONE) {
         draw(w, name, &reading);
     } else {
-        fprintf(stderr, "hanxin: %s: ", reading.file);
-        if (reading.outcome == REFUSED)
-            print_refusal(stderr, &reading);
-        else
-            fprintf(stderr, "%s\n", reading.words.text);
+        print_failure(&reading);
     }
     return reading.outcome;
 }

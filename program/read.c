@@ -10,10 +10,11 @@ static void print_words(const Wish *w, const Reading *r)
     Look look = w->look;
     Words why;
     if (r->outcome == FAILED) {
-        fprintf(stderr, "hanxin: %s: %s\n", r->file, r->words.text);
+        print_failure(r);
         return;
     }
-    printf("%s: ", r->file);
+    print_name(stdout, r->file);
+    printf(": ");
     if (r->outcome == REFUSED)
         print_refusal(stdout, r);
     else
@@ -35,11 +36,7 @@ static void print_raw(const Reading *r)
         fwrite(r->payload.bytes, 1, r->payload.length, stdout);
         return;
     }
-    fprintf(stderr, "hanxin: %s: ", r->file);
-    if (r->outcome == REFUSED)
-        print_refusal(stderr, r);
-    else
-        fprintf(stderr, "%s\n", r->words.text);
+    print_failure(r);
 }
 
 /* Ends with the worst of all files: one that failed, then one that was refused. */

@@ -112,3 +112,14 @@ void print_refusal(FILE *file, const Reading *r)
     else
         fprintf(file, "refused by %s: %s\n", r->by == BY_POLICY ? "policy" : "the picture", r->words.text);
 }
+
+void print_failure(const Reading *r)
+{
+    fputs("hanxin: ", stderr);
+    print_name(stderr, r->file);
+    fputs(": ", stderr);
+    if (r->outcome == REFUSED)
+        print_refusal(stderr, r);
+    else
+        fprintf(stderr, "%s\n", r->words.text);
+}

@@ -33,6 +33,9 @@ void print_reading(FILE *file, const Reading *reading);
 /* 'refused: ..' for people, with who refused it. */
 void print_refusal(FILE *file, const Reading *reading);
 
+/* The same on standard error, with the file; or why it has failed. */
+void print_failure(const Reading *reading);
+
 /* The whole reading as one line of JSON. */
 void print_json(FILE *file, const Reading *reading);
 

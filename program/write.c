@@ -60,12 +60,14 @@ int verb_write(Wish *w)
         fail("%s", why.text);
     if (!picture_write(output.file, &w->look, &mark.square, &why)) {
         output_drop(&output);
-        fail("%s: %s", name, why.text);
+        fail("%s: %s", strcmp(name, "-") == 0 ? "standard output" : name, why.text);
     }
     if (!output_flush(&output, &why) || !output_keep(&output, &why))
         fail("%s", why.text);
-    if (w->output != NULL && strcmp(name, "-") != 0)
-        printf("%s: version %zu, %zu x %zu modules, level %zu, mask %zu; bits: %zu\n", name, mark.version, mark.square.side,
+    if (strcmp(name, "-") != 0) {
+        print_name(stdout, name);
+        printf(": version %zu, %zu x %zu modules, level %zu, mask %zu; bits: %zu\n", mark.version, mark.square.side,
                mark.square.side, mark.level, mark.mask, mark.bits);
+    }
     return DONE;
 }
