@@ -6,7 +6,7 @@
     "  --version N         version of the mark, 1 to 84  (the smallest that fits if left out)\n"
 
 #define PICTURE_OPTIONS \
-    "  --scale N           pixels for each module, in pbm, p4 and png  (8 if left out)\n" \
+    "  --scale N           pixels for each module, in pbm, p4 and png  (4 if left out)\n" \
     "  --quiet-zone N      light modules around the mark  (3 if left out)\n" \
     "  --module MM         side of a module in mm, in svg and png  (0.25 if left out)\n" \
     "  --force             replace files that are there\n"

@@ -258,7 +258,7 @@ Wish wish_of(Verb verb, char **arguments)
     w.verb = verb;
     w.choice.level = 2;
     w.choice.mask = MASK_AUTO;
-    w.look.scale = 8;
+    w.look.scale = 4;
     w.look.quiet = 3;
     w.look.module = 0.25;
     w.threshold.dark = w.threshold.light = 500;

@@ -187,7 +187,7 @@ read_json() {
   json "d['payload_text'].encode() == open('text', 'rb').read() and d['payload_text'].encode().hex() == d['payload_hex']"
   json "d['outcome'] == 'read' and d['refused_by'] is None and d['refusal'] == 0 and d['file_hex'] is None"
   json "(d['version'], d['level'], d['side'], d['corrected'], d['distance'], d['unknown_modules']) == (3, 2, 27, 0, 0, 0)"
-  json "d['pixels_per_module'] == 8 and d['left'] == d['top'] == 24 and d['payload_length'] == 20 and d['script_length'] == 3"
+  json "d['pixels_per_module'] == 4 and d['left'] == d['top'] == 12 and d['payload_length'] == 20 and d['script_length'] == 3"
   run 0 write --force -o 'a "b" \c.pbm' SN-0047; run 0 read --json 'a "b" \c.pbm'
   json "d['file'] == 'a \"b\" \\\\c.pbm' and d['file_hex'] is None"
   run 0 write --force -o $'b\xFF.pbm' SN-0047; run 0 read --json $'b\xFF.pbm'
