@@ -3,17 +3,8 @@
 #include <stddef.h>
 #include <fec.h>
 
-void *bench_fec_new(int length, int parity)
-{
-    return init_rs_char(8, 0x163, 1, 1, parity, 255 - length);
-}
+void *bench_fec_new(int length, int parity) { return init_rs_char(8, 0x163, 1, 1, parity, 255 - length); }
 
-int bench_fec_correct(void *code, unsigned char *block)
-{
-    return decode_rs_char(code, block, NULL, 0);
-}
+int bench_fec_correct(void *code, unsigned char *block) { return decode_rs_char(code, block, NULL, 0); }
 
-void bench_fec_parity(void *code, unsigned char *block, int data)
-{
-    encode_rs_char(code, block, block + data);
-}
+void bench_fec_parity(void *code, unsigned char *block, int data) { encode_rs_char(code, block, block + data); }

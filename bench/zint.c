@@ -31,7 +31,4 @@ int bench_zint_module(const struct zint_symbol *symbol, int row, int column)
     return symbol->encoded_data[row][column / 8] >> (column % 8) & 1;
 }
 
-void bench_zint_free(struct zint_symbol *symbol)
-{
-    ZBarcode_Delete(symbol);
-}
+void bench_zint_free(struct zint_symbol *symbol) { ZBarcode_Delete(symbol); }
