@@ -110,7 +110,7 @@ void print_refusal(FILE *file, const Reading *r)
     if (r->by == BY_LIBRARY)
         fprintf(file, "refused: %zu, %s\n", r->refusal, r->words.text);
     else
-        fprintf(file, "refused by %s: %s\n", r->by == BY_POLICY ? "policy" : "the picture", r->words.text);
+        fprintf(file, "refused %s: %s\n", r->by == BY_POLICY ? "by policy" : "because of the picture", r->words.text);
 }
 
 void print_failure(const Reading *r)

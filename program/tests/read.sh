@@ -110,8 +110,8 @@ read_grey() {
     says 0 'unknown     modules: 2' read --threshold 40-60 "$file"
     run 0 read --threshold 50 "$file"; lacks out 'unknown'
     run 0 read --threshold=60 "$file"; lacks out 'unknown'
-    says 1 'refused by the picture' read --threshold 10 "$file"
-    says 1 'refused by the picture' read --threshold 100 "$file"
+    says 1 'refused because of the picture' read --threshold 10 "$file"
+    says 1 'refused because of the picture' read --threshold 100 "$file"
   done
   for file in 101 60-40 0 -5 40- x 40-60-80; do says 2 '--threshold is a percentage of white' read --threshold "$file" rows; done
 }
@@ -127,10 +127,10 @@ read_threshold_decides() {
 
 read_pictures_without_a_square() {
   modules rows SN-0047
-  sed '$d' rows >lower; says 1 'lower: refused by the picture: the dark area is 23 x 22 pixels, which is no square' read lower
+  sed '$d' rows >lower; says 1 'lower: refused because of the picture: the dark area is 23 x 22 pixels, which is no square' read lower
   tr 1 0 <rows >light; says 1 'the picture has no dark pixel' read light
-  tr 01 10 <rows >inverse; says 1 'inverse: refused by the picture' read inverse
-  sed '1d;$d;s/^.//;s/.$//' rows >small; says 1 'refused by the picture' read small
+  tr 01 10 <rows >inverse; says 1 'inverse: refused because of the picture' read inverse
+  sed '1d;$d;s/^.//;s/.$//' rows >small; says 1 'refused because of the picture' read small
   run 1 read --json light
   json "d['outcome'] == 'refused' and d['refused_by'] == 'picture' and d['refusal'] is None and d['position'] is None"
   run 1 read --raw light; silent out; has err 'no dark pixel'
