@@ -208,9 +208,19 @@ static void open_manifest(Batch *b)
     fputs("line,serial,file,version,level,mask,bits\n", b->manifest);
 }
 
-static void prepare(Batch *b, Wish *w)
+/* A signal that is ignored stays ignored, as nohup wants it. */
+static void catch_signal(int number)
 {
     struct sigaction action;
+    if (sigaction(number, NULL, &action) != 0 || action.sa_handler == SIG_IGN)
+        return;
+    memset(&action, 0, sizeof action);
+    action.sa_handler = stop;
+    sigaction(number, &action, NULL);
+}
+
+static void prepare(Batch *b, Wish *w)
+{
     Words why;
     b->wish = w;
     if (w->count != 1 || w->directory == NULL)
@@ -227,11 +237,9 @@ static void prepare(Batch *b, Wish *w)
         fail("%s", why.text);
     open_manifest(b);
     b->bar = isatty(STDERR_FILENO);
-    memset(&action, 0, sizeof action);
-    action.sa_handler = stop;
-    sigaction(SIGINT, &action, NULL);
-    sigaction(SIGTERM, &action, NULL);
-    sigaction(SIGHUP, &action, NULL);
+    catch_signal(SIGINT);
+    catch_signal(SIGTERM);
+    catch_signal(SIGHUP);
 }
 
 int verb_batch(Wish *w)

@@ -1,7 +1,9 @@
+#define _POSIX_C_SOURCE 200809L /* for isatty */
 #include "options.h"
 
 #include <stdlib.h>
 #include <string.h>
+#include <unistd.h>
 
 enum {
     LEVEL,
@@ -93,18 +95,28 @@ static Format format_of(const char *text)
     return FORMAT_TEXT;
 }
 
-void choose_format(Wish *wish, const char *name)
+/* By the extension of a file's name; standard output has none. */
+static Format format_by_name(const char *name)
 {
     const char *dot = strrchr(name, '.');
     size_t i;
-    if (wish->has_format)
-        return;
-    wish->look.format = FORMAT_TEXT;
+    if (strcmp(name, "-") == 0)
+        return FORMAT_TEXT;
     for (i = 0; i < FORMATS && dot != NULL; i++)
         if (i != FORMAT_P4 && strcmp(dot + 1, FORMAT_EXTENSIONS[i]) == 0)
-            wish->look.format = (Format)i;
-    if (wish->look.format == FORMAT_TEXT && strcmp(name, "-") != 0 && (dot == NULL || strcmp(dot, ".txt") != 0))
-        fail("the name '%s' does not tell the format (.txt, .pbm, .svg, .png): give --format", name);
+            return (Format)i;
+    fail("the name '%s' does not tell the format (.txt, .pbm, .svg, .png): give --format", name);
+    return FORMAT_TEXT;
+}
+
+void choose_format(Wish *wish, const char *name)
+{
+    int terminal = strcmp(name, "-") == 0 && isatty(STDOUT_FILENO);
+    if (!wish->has_format)
+        wish->look.format = format_by_name(name);
+    if (terminal && (wish->look.format == FORMAT_P4 || wish->look.format == FORMAT_PNG))
+        fail("a %s file is not for a terminal: give -o FILE", FORMAT_NAMES[wish->look.format]);
+    wish->look.colours = terminal;
 }
 
 static void set_mark(Wish *w, int option, const char *value)

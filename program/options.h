@@ -28,7 +28,7 @@ typedef struct {
 /* All arguments behind the verb. Wrong ones, and --help, end the program. */
 Wish wish_of(Verb verb, char **arguments);
 
-/* The format by the option or by the extension of the name, else text. */
+/* The format by the option or by the extension of the name, else text; and whether it has colours for a terminal. */
 void choose_format(Wish *wish, const char *name);
 
 /* The text of --help for a verb. */

@@ -1,8 +1,6 @@
-#define _POSIX_C_SOURCE 200809L /* for isatty */
 #include "reading.h"
 
 #include <string.h>
-#include <unistd.h>
 
 typedef struct {
     size_t data, information, unknown;
@@ -63,7 +61,6 @@ int verb_overlay(Wish *w)
     choose_format(w, name);
     if (w->look.format == FORMAT_PBM || w->look.format == FORMAT_P4)
         fail("an overlay has colours: its format is text, svg or png");
-    w->look.colours = strcmp(name, "-") == 0 && isatty(STDOUT_FILENO);
     read_picture(w, w->operands[0], &reading);
     if (reading.outcome == DONE) {
         draw(w, name, &reading);

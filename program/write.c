@@ -1,8 +1,6 @@
-#define _POSIX_C_SOURCE 200809L /* for isatty */
 #include "options.h"
 
 #include <string.h>
-#include <unistd.h>
 
 /* A file's text is its serial: a byte order mark in front and one line end behind are the editor's. */
 static void strip(hx_payload *payload)
@@ -48,9 +46,6 @@ int verb_write(Wish *w)
     hx_status status;
     take_serial(w, &mark.payload);
     choose_format(w, name);
-    if (strcmp(name, "-") == 0 && isatty(STDOUT_FILENO) && (w->look.format == FORMAT_P4 || w->look.format == FORMAT_PNG))
-        fail("a %s file is not for a terminal: give -o FILE", FORMAT_NAMES[w->look.format]);
-    w->look.colours = strcmp(name, "-") == 0 && isatty(STDOUT_FILENO);
     status = mark_write(&mark, &w->choice);
     if (status != HX_OK) {
         fprintf(stderr, "hanxin: refused: %zu, %s\n", status, hx_refusal_words(status));

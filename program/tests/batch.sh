@@ -144,12 +144,21 @@ batch_formats() {
   run 0 read as-default/*.p[nb][gm]
 }
 
+await() {   # await DIR: until a run has come far enough to be stopped
+  local i
+  for ((i = 0; i < 200; i++)); do
+    if [ -e "$1/manifest.csv" ] && [ "$(wc -l <"$1/manifest.csv")" -gt 100 ]; then return; fi
+    sleep 0.05
+  done
+  fault "a run does not come far enough"
+}
+
 # What is there when a long run is stopped: the files that the manifest has, whole, and no others.
 batch_stopped() {   # batch_stopped SIGNAL STATUS
   local folder=stopped-$1 status=0 job
   seq -f 'SN-%07g' 1000000 >long
-  "$hanxin" batch --format pbm --scale 1 -d "$folder" long >out 2>err & job=$!
-  until [ "$(wc -l 2>/dev/null <"$folder/manifest.csv" || echo 0)" -gt 100 ]; do sleep 0.05; done
+  env --default-signal=TERM,INT "$hanxin" batch --format pbm --scale 1 -d "$folder" long >out 2>err & job=$!
+  await "$folder"
   kill "-$1" $job
   { wait $job; } 2>/dev/null || status=$?
   last="batch, stopped by $1"
@@ -163,7 +172,22 @@ batch_stopped() {   # batch_stopped SIGNAL STATUS
   same serials read_serials
 }
 
+# A run that was told to ignore a signal, as nohup does, goes on.
+batch_ignored() {
+  local status=0 job
+  seq 1000 >list
+  (trap '' HUP; exec "$hanxin" batch --format pbm --scale 1 -d ignored list >out 2>err) & job=$!
+  await ignored
+  kill -HUP $job
+  wait $job || status=$?
+  last='batch, with HUP ignored'
+  check "ended with $status, not 0" [ $status = 0 ]
+  has out 'written: 1000, refused: 0, failed: 0'
+}
+
 batch_signals() {
+  batch_ignored
+  if ! env --default-signal=INT true 2>/dev/null; then left_out+=("signals, env cannot set them to their defaults"); return; fi
   batch_stopped TERM 2
   check "the manifest has other files" cmp -s found listed
   leaves_no stopped-TERM/any.part
@@ -182,7 +206,14 @@ batch_words() {
   seq 300 >list
   check "it fails on a terminal" script -qec "'$hanxin' batch --format pbm -d bar list" typescript >/dev/null
   check "there is no bar" grep -qa '\[=====* *\]  *[0-9]* %, written: ' typescript
-  check "a PNG goes to a terminal" grep -q 'not for a terminal' <(script -qec "'$hanxin' write --format p4 1" /dev/null || true)
+  run 0 write -o mark.pbm 1
+  local arguments
+  for arguments in 'write --format p4 1' 'write --format png 1' 'overlay --format png mark.pbm'; do
+    script -qec "'$hanxin' $arguments" /dev/null >out </dev/null || true
+    has out 'file is not for a terminal: give -o FILE'
+  done
+  script -qec "'$hanxin' write 1" /dev/null >out </dev/null
+  check "there are no colours" grep -qa $'^\e\[30;107m' out
 }
 
 test_batch() {
