@@ -156,7 +156,7 @@ await() {   # await DIR: until a run has come far enough to be stopped
 # What is there when a long run is stopped: the files that the manifest has, whole, and no others.
 batch_stopped() {   # batch_stopped SIGNAL STATUS
   local folder=stopped-$1 status=0 job
-  seq -f 'SN-%07g' 1000000 >long
+  seq -f 'SN-%07g' 20000 >long
   env --default-signal=TERM,INT "$hanxin" batch --format pbm --scale 1 -d "$folder" long >out 2>err & job=$!
   await "$folder"
   kill "-$1" $job
