@@ -162,10 +162,12 @@ batch_stopped() {   # batch_stopped SIGNAL STATUS
   kill "-$1" $job
   { wait $job; } 2>/dev/null || status=$?
   last="batch, stopped by $1"
+  cp err stopped_words
   check "ended with $status, not $2" [ $status = "$2" ]
   (cd "$folder" && find . -name '*.pbm' | cut -c 3- | sort) >found
   sed 1d "$folder/manifest.csv" | cut -d , -f 3 | sort >listed
   check "a file has no row in the manifest" [ -z "$(comm -23 found listed)" ]
+  check "it went on to the end" [ "$(wc -l <listed)" -lt 20000 ]
   sed 's/.*/SN-0&/;s/\.pbm//' found >serials
   run 0 read "$folder"/*.pbm
   sed -n 's/^  payload     10 bytes: "\(.*\)"$/\1/p' out | sort >read_serials
@@ -189,6 +191,7 @@ batch_signals() {
   batch_ignored
   if ! env --default-signal=INT true 2>/dev/null; then left_out+=("signals, env cannot set them to their defaults"); return; fi
   batch_stopped TERM 2
+  has stopped_words 'hanxin: stopped behind line '
   check "the manifest has other files" cmp -s found listed
   leaves_no stopped-TERM/any.part
   batch_stopped KILL 137
