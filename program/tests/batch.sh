@@ -144,29 +144,30 @@ batch_formats() {
   run 0 read as-default/*.p[nb][gm]
 }
 
-# await DIR: until a run has come far enough to be stopped, at most half a minute
-await() {
-  local turn
-  for turn in {1..600}; do
+await() {   # await DIR: until a run has come far enough to be stopped
+  local i
+  for ((i = 0; i < 200; i++)); do
     if [ -e "$1/manifest.csv" ] && [ "$(wc -l <"$1/manifest.csv")" -gt 100 ]; then return; fi
     sleep 0.05
   done
-  fault "it does not come to line 100 (${turn:?} looks at its manifest)"
+  fault "a run does not come far enough"
 }
 
 # What is there when a long run is stopped: the files that the manifest has, whole, and no others.
 batch_stopped() {   # batch_stopped SIGNAL STATUS
   local folder=stopped-$1 status=0 job
-  seq -f 'SN-%07g' 1000000 >long
-  env --default-signal=INT,TERM "$hanxin" batch --format pbm --scale 1 -d "$folder" long >out 2>err & job=$!
+  seq -f 'SN-%07g' 20000 >long
+  env --default-signal=TERM,INT "$hanxin" batch --format pbm --scale 1 -d "$folder" long >out 2>err & job=$!
   await "$folder"
   kill "-$1" $job
   { wait $job; } 2>/dev/null || status=$?
   last="batch, stopped by $1"
+  cp err stopped_words
   check "ended with $status, not $2" [ $status = "$2" ]
   (cd "$folder" && find . -name '*.pbm' | cut -c 3- | sort) >found
   sed 1d "$folder/manifest.csv" | cut -d , -f 3 | sort >listed
   check "a file has no row in the manifest" [ -z "$(comm -23 found listed)" ]
+  check "it went on to the end" [ "$(wc -l <listed)" -lt 20000 ]
   sed 's/.*/SN-0&/;s/\.pbm//' found >serials
   run 0 read "$folder"/*.pbm
   sed -n 's/^  payload     10 bytes: "\(.*\)"$/\1/p' out | sort >read_serials
@@ -190,6 +191,7 @@ batch_signals() {
   batch_ignored
   if ! env --default-signal=INT true 2>/dev/null; then left_out+=("signals, env cannot set them to their defaults"); return; fi
   batch_stopped TERM 2
+  has stopped_words 'hanxin: stopped behind line '
   check "the manifest has other files" cmp -s found listed
   leaves_no stopped-TERM/any.part
   batch_stopped KILL 137
