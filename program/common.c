@@ -1,8 +1,9 @@
-#define _POSIX_C_SOURCE 200809L /* for link, lstat */
+#define _POSIX_C_SOURCE 200809L /* for link, open, fdopen */
 #include "common.h"
 
 #include <ctype.h>
 #include <errno.h>
+#include <fcntl.h>
 #include <stdarg.h>
 #include <stdlib.h>
 #include <string.h>
@@ -152,6 +153,13 @@ static int is_there(const char *name, int *regular)
     return there;
 }
 
+/* A file that was not there before. */
+static FILE *new_file(const char *name)
+{
+    int place = open(name, O_WRONLY | O_CREAT | O_EXCL, 0666);
+    return place == -1 ? NULL : fdopen(place, "wb");
+}
+
 int output_open(Output *output, const char *name, int force, Words *why)
 {
     int regular, there = is_there(name, &regular);
@@ -163,11 +171,14 @@ int output_open(Output *output, const char *name, int force, Words *why)
         return 1;
     if (there && regular && !force)
         return say(why, "'%s' is there already (--force replaces it)", name);
-    if (regular && (size_t)snprintf(output->beside, sizeof output->beside, "%s.part", name) >= sizeof output->beside)
+    if (regular
+        && (size_t)snprintf(output->beside, sizeof output->beside, "%s.%ld.part", name, (long)getpid()) >= sizeof output->beside)
         return say(why, "the name of the file is too long: '%.80s..'", name);
-    output->file = fopen(regular ? output->beside : name, "wb");
-    if (output->file == NULL)
+    output->file = regular ? new_file(output->beside) : fopen(name, "wb");
+    if (output->file == NULL) {
+        output->beside[0] = 0; /* nothing of ours to take away */
         return say(why, "cannot write '%s': %s", name, strerror(errno));
+    }
     return 1;
 }
 

@@ -154,6 +154,8 @@ write_usage() {
 
 write_places() {
   printf mine >there.pbm
+  printf mine >own.pbm.part; run 0 write -o own.pbm SN-1; check "a file of the user was replaced" [ "$(cat own.pbm.part)" = mine ]
+  rm own.pbm.part
   says 2 "'there.pbm' is there already (--force replaces it)" write -o there.pbm SN-1
   check "the file was changed" [ "$(cat there.pbm)" = mine ]
   run 0 write --force -o there.pbm SN-1; reads SN-1 there.pbm
