@@ -147,8 +147,8 @@ static int write_file(Batch *b, Words *why)
     static char path[8200];
     Output output;
     name_file(b);
-    if (strlen(b->file) > 250)
-        return say(why, "the name of the file is longer than 250 bytes");
+    if (strlen(b->file) > 230)
+        return say(why, "the name of the file is longer than 230 bytes");
     if (!is_new_name(b, why))
         return 0;
     snprintf(path, sizeof path, "%s/%s", b->wish->directory, b->file);
