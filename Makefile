@@ -3,6 +3,7 @@
 #   make              the library, static and shared, and the program hanxin; the first time it proves the library, which takes minutes
 #   make install      installs both, the header, the page of the manual and what pkg-config reads; builds what is not built
 #   make uninstall    removes what 'make install' with the same variables put there
+#   make check        the tests of all that is in C, some minutes; .ci/run has all tests
 #   make clean        removes what 'make' built, and leaves what is proved
 #   make help         these lines
 #
@@ -89,6 +90,9 @@ uninstall:
 	for file in $(licences); do rm -f '$(DESTDIR)$(DOCDIR)'/$$file || exit 1; done
 	rmdir '$(DESTDIR)$(DOCDIR)' 2>/dev/null || true
 
+check:
+	c/run $(PROVED)
+
 clean:
 	rm -f $(archive) $(BUILD)/lib/libhan_xin.so* $(program)
 
@@ -97,5 +101,5 @@ help:
 
 always:
 
-.PHONY: all install uninstall clean help always
+.PHONY: all install uninstall check clean help always
 .DELETE_ON_ERROR:

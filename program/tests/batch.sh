@@ -76,7 +76,7 @@ batch_names() {
   batch 2 same --force --pattern '{serial}' twice
   payloads same 'a b' c
   check "the manifest has a file twice" [ "$(rows same 2,3)" = 'a b,a_b.pbm c,c.pbm ' ]
-  batch 2 long --pattern "{n}$(printf '%0230d' 0)" lf
+  batch 2 too-long --pattern "{n}$(printf '%0230d' 0)" lf
   has err 'line 1: the name of the file is longer than 230 bytes'; has out 'written: 0, refused: 0, failed: 2'
   says 2 '--pattern has {n} or {serial}' batch -d none --pattern mark list
   says 2 '--pattern has {n} or {serial}' batch -d none --pattern 'a/{n}' list
