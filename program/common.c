@@ -190,13 +190,14 @@ int output_flush(Output *output, Words *why)
         error = errno;
     }
     output->file = NULL;
-    if (!good) {
-        say(why, "cannot write %s%s%s: %s", strcmp(output->name, "-") == 0 ? "" : "'",
-            strcmp(output->name, "-") == 0 ? "standard output" : output->name, strcmp(output->name, "-") == 0 ? "" : "'",
-            strerror(error));
-        output_drop(output);
-    }
-    return good;
+    if (good)
+        return 1;
+    if (strcmp(output->name, "-") == 0)
+        say(why, "cannot write standard output: %s", strerror(error));
+    else
+        say(why, "cannot write '%s': %s", output->name, strerror(error));
+    output_drop(output);
+    return 0;
 }
 
 const char *output_place(const Output *output) { return output->beside[0] == 0 ? output->name : output->beside; }
