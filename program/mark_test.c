@@ -179,19 +179,74 @@ static void test_damaged(size_t turn)
     check(memcmp(found.modules, q.modules, side * side) == 0, "damaged, other modules", turn);
 }
 
+/* A mark that is not mirrored is never taken so while its information modules fit, even where they fit a mark mirrored too: as those of
+ * these three do. When they are mirrored, that is not told. */
+static void test_mirrored_words(void)
+{
+    static const size_t kinds[3][3] = {{43, 1, 3}, {51, 3, 3}, {52, 2, 0}};
+    static Square q, found;
+    size_t i, n;
+    for (i = 0; i < 6; i++) {
+        const size_t *kind = kinds[i / 2];
+        Position p = {0, 0, 1, 2, 2}, position;
+        p.mirrored = i % 2 == 1;
+        random_mark(kind[0], kind[1], kind[2], 9, &q);
+        for (n = 0; n < 8 && !p.mirrored; n++)
+            q.modules[information_place(q.side, n % 2 == 0, 4 * n)] ^= 1;
+        check(find(&q, &p, &found, &position) && !position.mirrored, "taken as mirrored", kind[0]);
+    }
+}
+
+/* A mirrored mark is told by its information modules as long as no more of them are flipped than a reading allows, which is 10. */
+static void test_mirrored_and_flipped(void)
+{
+    static Square q, found;
+    size_t flips, n;
+    for (flips = 0; flips <= 11; flips++) {
+        Position p = {0, 1, 1, 2, 2}, position;
+        random_mark(10, 0, 0, 9, &q);
+        for (n = 0; n < flips; n++)
+            q.modules[information_place(q.side, n % 2 == 0, 3 * n)] ^= 1;
+        check(find(&q, &p, &found, &position), "mirrored and flipped, not found", flips);
+        check(position.mirrored == (flips <= 10), "mirrored and flipped, told otherwise", flips);
+    }
+}
+
+/* An outer row is light, so that the dark area is no square; the border, as wide on each side, tells where the mark is. */
+static void test_lost_row(void)
+{
+    static Square q, found;
+    size_t edge, i;
+    for (edge = 0; edge < 4; edge++) {
+        Position p = {0, 0, 3, 5, 5}, position; /* draw leaves five pixels behind the mark */
+        random_mark(4, 2, 1, 9, &q);
+        for (i = 0; i < q.side; i++)
+            q.modules[edge == 0   ? i
+                      : edge == 1 ? q.side * (q.side - 1) + i
+                      : edge == 2 ? q.side * i
+                                  : q.side * i + q.side - 1] = 0;
+        check(find(&q, &p, &found, &position), "a lost row, not found", edge);
+        check(position.left == 5 && position.top == 5 && position.scale == 3 && position.turned == 0, "a lost row, elsewhere",
+              edge);
+        check(memcmp(found.modules, q.modules, q.side * q.side) == 0, "a lost row, other modules", edge);
+    }
+}
+
 /* Two corners lost, the odd one among them: then no position is nearer than all others, and nothing is guessed. */
 static void test_not_told(void)
 {
     static Square q, found;
     Position p = {0, 0, 1, 0, 0}, position;
-    size_t i;
+    size_t i, turn;
     random_mark(5, 2, 1, 9, &q);
     for (i = 0; i < 49; i++)
         q.modules[(i / 7) * q.side + i % 7] = q.modules[(q.side - 7 + i / 7) * q.side + i % 7] = 0;
     check(!find(&q, &p, &found, &position), "told without its finders", 0);
-    for (i = 0; i < q.side * q.side; i++)
-        q.modules[i] = (uint8_t)below(2);
-    check(!find(&q, &p, &found, &position), "found in noise", 0);
+    for (turn = 0; turn < 300; turn++) {
+        for (i = 0; i < q.side * q.side; i++)
+            q.modules[i] = (uint8_t)below(2);
+        check(!find(&q, &p, &found, &position), "found in noise", turn);
+    }
 }
 
 int main(int count, char **arguments)
@@ -205,6 +260,9 @@ int main(int count, char **arguments)
     test_masks(arguments[1]);
     for (i = 0; i < 600; i++)
         test_damaged(i);
+    test_mirrored_words();
+    test_mirrored_and_flipped();
+    test_lost_row();
     test_not_told();
     printf("layouts, masks and positions: %lu checks\n", checks);
     return 0;

@@ -415,6 +415,7 @@ static void test_sizes(const Square *square)
         {FORMAT_PBM, 1, 10000, 1, 0},      {FORMAT_SVG, 0, 9989, 1, 0},
         {FORMAT_TEXT, 0, 20001, 1, 0},     {FORMAT_PBM, (size_t)-1, 3, 1, 0},
         {FORMAT_SVG, 1, (size_t)-1, 1, 0}, {FORMAT_SVG, 1, (size_t)-1 / 2, 1, 0},
+        {FORMAT_P4, 348, 0, 1, 0}, /* 8,004 x 8,004 pixels */
     };
     size_t i;
     test_refusal(&LOOKS[0], square, "the scale is at least 1");

@@ -180,8 +180,10 @@ static int check_sizes(Writer *w)
     if (scale == 0)
         return say(w->why, "a module cannot be drawn with 0 pixels: the scale is at least 1");
     w->side = look->quiet > SIDE_MOST ? SIDE_MOST + 1 : w->square->side + 2 * look->quiet;
-    if (scale > SIDE_MOST || w->side * scale > SIDE_MOST)
-        return say(w->why, "the picture would have more than 20,000 pixels on a side: the scale or the quiet zone is too large");
+    if (scale > SIDE_MOST || w->side * scale > SIDE_MOST || w->side * scale * w->side * scale > PIXELS_MOST) /* as in reading */
+        return say(w->why,
+                   "the picture would have more than 20,000 pixels on a side, or more than 64 million in all: the scale or the "
+                   "quiet zone is too large");
     if ((look->format == FORMAT_SVG || look->format == FORMAT_PNG) && !(look->module >= 1e-6 && look->module <= 1e6))
         return say(w->why, "the side of a module is %g mm: it must be 0.000001 to 1,000,000", look->module);
     return 1;

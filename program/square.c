@@ -102,12 +102,12 @@ static unsigned upright_differs(const Picture *p, const Frame *f)
     return finders_differ(&corners, 0);
 }
 
-/* The smallest frame around all that is not light: its edges are the first and last pixels of it, and those behind the last. */
+/* The smallest area with all that is not light: left and top are its first column and row, right and bottom the first ones behind it. */
 typedef struct {
     size_t left, top, right, bottom;
 } Area;
 
-/* Widens the area by one row. Only pixels outside of it are looked at. */
+/* Widens the area by one row. */
 static void add_row(const Picture *p, size_t y, Area *area)
 {
     const uint8_t *row = p->pixels + y * p->width;
@@ -124,7 +124,7 @@ static void add_row(const Picture *p, size_t y, Area *area)
     area->bottom = y + 1;
 }
 
-/* Answers whether there is anything. */
+/* Answers whether anything is not light. */
 static int dark_area(const Picture *p, Area *area)
 {
     size_t y;
