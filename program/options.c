@@ -128,7 +128,7 @@ static void set_mark(Wish *w, int option, const char *value)
     else if (strcmp(value, "auto") == 0)
         w->choice.mask = MASK_AUTO;
     else
-        w->choice.mask = number_of(value, "--mask is auto or", 0, 3);
+        w->choice.mask = number_of(value, "--mask, if it is not auto,", 0, 3);
 }
 
 static void set_look(Wish *w, int option, const char *value)
@@ -138,14 +138,8 @@ static void set_look(Wish *w, int option, const char *value)
         w->look.format = format_of(value);
         w->has_format = 1;
         break;
-    case SCALE:
-        w->look.scale = number_of(value, "--scale", 1, 500);
-        w->has_scale = 1;
-        break;
-    case QUIET:
-        w->look.quiet = number_of(value, "--quiet-zone", 0, 100);
-        w->has_quiet = 1;
-        break;
+    case SCALE: w->look.scale = number_of(value, "--scale", 1, 500); break;
+    case QUIET: w->look.quiet = number_of(value, "--quiet-zone", 0, 100); break;
     default: w->look.module = length_of(value);
     }
 }
@@ -264,6 +258,7 @@ Wish wish_of(Verb verb, char **arguments)
 {
     Wish w;
     size_t count = 0, i = 0;
+    int operands = 0; /* whether all that follows are operands */
     while (arguments[count] != NULL)
         count++;
     memset(&w, 0, sizeof w);
@@ -277,10 +272,11 @@ Wish wish_of(Verb verb, char **arguments)
     w.most_repairs = SIZE_MAX;
     w.operands = arguments; /* the operands are moved to the front */
     while (i < count) {
-        if (strcmp(arguments[i], "--") == 0 && !w.literal) {
-            w.literal = w.count == 0 ? 1 : 2;
+        if (strcmp(arguments[i], "--") == 0 && !operands) {
+            operands = 1;
+            w.literal = w.count == 0;
             i++;
-        } else if (!w.literal && arguments[i][0] == '-' && arguments[i][1] != 0) {
+        } else if (!operands && arguments[i][0] == '-' && arguments[i][1] != 0) {
             i += (size_t)take_option(&w, arguments + i);
         } else {
             w.operands[w.count++] = arguments[i++];

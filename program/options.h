@@ -11,7 +11,7 @@ typedef struct {
     Verb verb;
     Choice choice; /* of a mark that is written */
     Look look;     /* of a picture that is written */
-    int has_format, has_scale, has_quiet;
+    int has_format;
     const char *output, *file; /* -o, --file */
     int exact, force;
     Expected expected; /* of a mark that is read */

@@ -62,6 +62,7 @@ write_sources() {
 write_operands() {
   run 0 write -o dash.pbm -- - </dev/null; reads - dash.pbm
   run 0 write -o option.pbm -- --level; reads --level option.pbm
+  run 0 write -o before.pbm - -- <lf; reads SN-1 before.pbm
   run 0 write -o dashes.pbm -- --; reads -- dashes.pbm
   run 0 write SN-1 -o behind.pbm; reads SN-1 behind.pbm
   run 0 write --output=a.pbm --level=3 --mask=1 SN-1; has out 'a.pbm: version 1, 23 x 23 modules, level 3, mask 1; bits: 46'
@@ -138,7 +139,7 @@ write_usage() {
   says 2 '--level is 0 to 3' write --level= a
   says 2 '--level is 0 to 3' write --level 2x a
   says 2 '--level is 0 to 3' write --level 18446744073709551618 a
-  says 2 '--mask is auto or is 0 to 3' write --mask 4 a
+  says 2 '--mask, if it is not auto, is 0 to 3' write --mask 4 a
   says 2 '--version of a mark is 1 to 84' write --version 85 a
   says 2 '--version of a mark is 1 to 84' write --version 0 a
   says 2 '--scale is 1 to 500' write --scale 0 a
