@@ -301,7 +301,7 @@ static void mirror(const Square *q, Square *mirrored)
 }
 
 /* Finders do not tell whether a square is mirrored. It is taken so only if its information modules fit no mark as it lies, and do fit
- * one mirrored: so a mark that is not mirrored, and whose damage is within reach, is never taken as mirrored. */
+ * one mirrored: so a mark that is not mirrored, with at most 8 of them flipped, is never taken as mirrored. */
 static int is_mirrored(const Square *q, const Square *mirrored, const Expected *expected)
 {
     if (expected->mirrored || expected->upright)
