@@ -6,7 +6,7 @@ ghost use Rattle.bits.specs.Four.{four_of};
 ghost use Rattle.bits.specs.Read.{read_at};
 
 // What reading some bits gives.
-#[derive(Drop)]
+#[derive(Clone, Copy)]
 pub enum Word {
     Value(usize),
     Cut,

@@ -10,14 +10,14 @@ ghost use Rattle.blocks.specs.Inner.{Reads, blocks_in, spliced, answer_of, Corre
 use corrector::Correction;
 
 // What became of the blocks: the count of all corrections, or the refusal number of the first that is refused (SPECIFICATION 2.7).
-#[derive(Drop)]
+#[derive(Clone, Copy)]
 pub enum Blocks {
     Corrected(usize),
     Refused(usize),
 }
 
 // A batch of a row: so many blocks, each with so many data codewords, then so many of parity.
-#[derive(Drop)]
+#[derive(Clone, Copy)]
 pub struct Batch {
     pub count: usize,
     pub info: usize,

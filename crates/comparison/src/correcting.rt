@@ -10,7 +10,7 @@ use parity::Encoded;
 
 // The refusal number or 0, and the count beside it.
 #[repr(C)]
-#[derive(Drop)]
+#[derive(Clone, Copy)]
 pub struct Answer {
     pub number: usize,
     pub count: usize,

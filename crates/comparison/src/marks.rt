@@ -10,7 +10,7 @@ use symbol::{FromSide, LayoutAnswer, Version};
 
 // The refusal number or 0, and the word beside it.
 #[repr(C)]
-#[derive(Drop)]
+#[derive(Clone, Copy)]
 pub struct Bits {
     pub number: usize,
     pub word: u64,
@@ -18,7 +18,7 @@ pub struct Bits {
 
 // The refusal number or 0, and level, mask and distance beside it.
 #[repr(C)]
-#[derive(Drop)]
+#[derive(Clone, Copy)]
 pub struct Near {
     pub number: usize,
     pub level: usize,

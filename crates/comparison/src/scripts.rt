@@ -8,7 +8,7 @@ use segments::Answer;
 
 // SPECIFICATION 10.7: the refusal number, and the lengths of payload and script beside it.
 #[repr(C)]
-#[derive(Drop)]
+#[derive(Clone, Copy)]
 pub struct DataAnswer {
     pub number: usize,
     pub payload: usize,
@@ -62,7 +62,7 @@ pub extern "C" fn hx_from_data(
 
 // SPECIFICATION 10.8: the refusal number, and the number of bits beside it.
 #[repr(C)]
-#[derive(Drop)]
+#[derive(Clone, Copy)]
 pub struct ScriptAnswer {
     pub number: usize,
     pub bits: usize,

@@ -8,7 +8,7 @@ ghost use Rattle.corrector.specs.Inner.{Applied};
 use reed_solomon::{errors, syndromes};
 
 // Whether the block was repaired, and in how many places it changed.
-#[derive(Drop)]
+#[derive(Clone, Copy)]
 pub struct Fix {
     pub done: bool,
     pub count: usize,

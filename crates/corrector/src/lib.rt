@@ -13,7 +13,7 @@ use remainder::Register;
 
 // What became of a block: the count of its corrections, or refusal 5, 15 or 6 (SPECIFICATION 2.7). 15 is for blocks with erased places alone
 // (crate `erasure_corrector`).
-#[derive(Drop)]
+#[derive(Clone, Copy)]
 pub enum Correction {
     Corrected(usize),
     Unfit,

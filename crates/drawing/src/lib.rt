@@ -10,7 +10,7 @@ ghost use Rattle.placement.specs.Walk.{eight_of, behind, bytes_of};
 ghost use Rattle.drawing.specs.Puts.{pattern_of, get_or₀, PatternsFrom, PutBit, PutEight, RowBuffers, Puts, PutsAll};
 
 // Where a row is written: the column, and the next bit of the codewords.
-#[derive(Drop)]
+#[derive(Clone, Copy)]
 pub struct Cursor {
     pub column: usize,
     pub bit: usize,

@@ -8,7 +8,7 @@ ghost use Rattle.queue.specs.Queue.{hand_in, hand_in_of, turn, turn_of};
 
 // What an operation gives that answers a number beside the refusal number: both, and the second is 0 after a refusal.
 #[repr(C)]
-#[derive(Drop)]
+#[derive(Clone, Copy)]
 pub struct Answer {
     pub number: usize,
     pub value: usize,

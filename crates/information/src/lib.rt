@@ -9,14 +9,14 @@ ghost use Rattle.information.specs.Inner.{Found, ArmWritten, lowest, module_of, 
 use symbol::Version;
 
 // What operation Information word answers.
-#[derive(Drop)]
+#[derive(Clone, Copy)]
 pub enum InfoBits {
     Word(u64),
     OutOfRange,
 }
 
 // What operation Nearest word answers.
-#[derive(Drop)]
+#[derive(Clone, Copy)]
 pub enum NearestInfo {
     Nearest {
         level: usize,
@@ -27,7 +27,7 @@ pub enum NearestInfo {
 }
 
 // A word of a version, level * 4 + mask, and its distance from two copies.
-#[derive(Drop)]
+#[derive(Clone, Copy)]
 pub struct Best {
     pub word: usize,
     pub distance: u32,

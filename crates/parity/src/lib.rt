@@ -13,7 +13,7 @@ use remainder::Register;
 mod division;
 
 // What became of a block: its parity is written, or refusal 5 (SPECIFICATION 2.7).
-#[derive(Drop)]
+#[derive(Clone, Copy)]
 pub enum Encoded {
     Written,
     Unfit,

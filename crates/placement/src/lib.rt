@@ -8,7 +8,7 @@ ghost use Rattle.bits.specs.Bits.{first_words};
 ghost use Rattle.information.specs.Inner.{lowest};
 
 // Where a row is read: the column, the codewords so far, and the first bits of the next, which are the lowest of `value`.
-#[derive(Drop)]
+#[derive(Clone, Copy)]
 pub struct Run {
     pub column: usize,
     pub n: usize,

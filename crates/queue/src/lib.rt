@@ -13,7 +13,7 @@ pub const SIZE: usize = 2 * HEADS;
 
 // What a turn gives: the refusal number or 0, and the head that is served with its side, both 0 if there is none.
 #[repr(C)]
-#[derive(Drop)]
+#[derive(Clone, Copy)]
 pub struct Served {
     pub number: usize,
     pub head: usize,

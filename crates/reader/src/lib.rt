@@ -30,7 +30,7 @@ fn greatest(square: &[u8]) -> u8
 }
 
 // The refusal of a square, or 0, and whether it has unknown modules.
-#[derive(Drop)]
+#[derive(Clone, Copy)]
 pub struct Looked {
     pub refusal: usize,
     pub unknown: bool,

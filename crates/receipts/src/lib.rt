@@ -8,7 +8,7 @@ ghost use Rattle.marks.specs.Receipt.{receipt_of, refusal_receipt};
 use segments::Answer;
 
 // What a square is read with: its version, level and mask, and how far the information was from theirs.
-#[derive(Drop)]
+#[derive(Clone, Copy)]
 pub struct Mark {
     pub version: usize,
     pub level: usize,
@@ -17,7 +17,7 @@ pub struct Mark {
 }
 
 // The answer for a square: the refusal number or 0, the count of corrections, and the lengths of payload and script.
-#[derive(Drop)]
+#[derive(Clone, Copy)]
 pub struct SquareAnswer {
     pub number: usize,
     pub count: usize,

@@ -122,14 +122,14 @@ pub fn zeros(e: &[u8], n: usize) -> usize
     count
 }
 
-#[derive(Drop)]
+#[derive(Clone, Copy)]
 pub struct Fraction {
     pub num: u8,
     pub den: u8,
 }
 
 // The locator divided by x + α^d so far: the last coefficient, the sum over the syndromes and the value at α^d.
-#[derive(Drop)]
+#[derive(Clone, Copy)]
 pub struct Quotient {
     pub m: u8,
     pub num: u8,

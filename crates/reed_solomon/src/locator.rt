@@ -65,7 +65,7 @@ fn grow(field: &[u16; 1280], f: &mut [u8], g: &mut [u8], q: u8, m: usize, top: u
 }
 
 // The length of the register, when the one before it was left, and by how much that one missed.
-#[derive(Drop)]
+#[derive(Clone, Copy)]
 pub struct Search {
     pub l: usize,
     pub rg: usize,

@@ -41,7 +41,7 @@ fn advance_two(field: &[u16; 1280], first: usize, s: &mut [u8], parity: usize, a
 }
 
 // Four bytes, one after the other.
-#[derive(Drop)]
+#[derive(Clone, Copy)]
 pub struct Four {
     pub a: u8,
     pub b: u8,

@@ -17,7 +17,7 @@ pub mod four_words;
 mod table;
 
 // 32 bytes.
-#[derive(Drop)]
+#[derive(Clone, Copy)]
 pub struct Register {
     pub a: u64,
     pub b: u64,

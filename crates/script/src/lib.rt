@@ -13,7 +13,7 @@ pub mod commands;
 pub mod values;
 
 // A command with its operand: a mode of 1 to 7 with the number of its payload bytes, or an ECI with its value.
-#[derive(Drop)]
+#[derive(Clone, Copy)]
 pub enum Command {
     Run(usize, usize),
     Eci(usize),
@@ -21,7 +21,7 @@ pub enum Command {
 }
 
 // A character's word in the present subset or region, or in the other one, behind a switch.
-#[derive(Drop)]
+#[derive(Clone, Copy)]
 pub enum Character {
     Same(usize),
     Other(usize),
@@ -29,14 +29,14 @@ pub enum Character {
 }
 
 // The number of bits of a run.
-#[derive(Drop)]
+#[derive(Clone, Copy)]
 pub enum Cost {
     Takes(usize),
     NotInMode,
 }
 
 // The answers of the check: the number of bits, or why there is none.
-#[derive(Drop)]
+#[derive(Clone, Copy)]
 pub enum Check {
     Bits(usize),
     Malformed,

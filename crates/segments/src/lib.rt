@@ -41,7 +41,7 @@ pub const ECI: usize = 8;
 pub const MAX_DATA: usize = 3886;
 
 // Two numbers: a position with the payload bytes there or with an ECI's value, or the lengths of payload and script.
-#[derive(Drop)]
+#[derive(Clone, Copy)]
 pub enum Count {
     Done(usize, usize),
     Cut,
@@ -110,7 +110,7 @@ pub fn region_size(one: bool) -> usize
 }
 
 // The two bytes of a character.
-#[derive(Drop)]
+#[derive(Clone, Copy)]
 pub struct Pair {
     pub high: usize,
     pub low: usize,
@@ -146,7 +146,7 @@ pub fn pair_of(one: bool, w: usize) -> Pair
 }
 
 // How a run of characters in one region ends.
-#[derive(Drop)]
+#[derive(Clone, Copy)]
 pub enum Region {
     End(usize, usize),
     Switch(usize, usize),
@@ -270,7 +270,7 @@ fn put_eci(script: &mut [u8], m: usize, v: usize)
 }
 
 // Where a pass goes on after a segment: the position, and the lengths of payload and script so far.
-#[derive(Drop)]
+#[derive(Clone, Copy)]
 pub enum Step {
     On(usize, usize, usize),
     Cut,
@@ -278,7 +278,7 @@ pub enum Step {
 }
 
 // Where a pass stands: the position, and the lengths of payload and script so far.
-#[derive(Drop)]
+#[derive(Clone, Copy)]
 pub struct Place {
     pub at: usize,
     pub payload: usize,
@@ -317,7 +317,7 @@ pub fn segment(s: &[u8], place: Place, mode: usize, out: &mut [u8], script: &mut
 }
 
 // The answers of Segments from data; specs/FromData.antt has their numbers.
-#[derive(Drop)]
+#[derive(Clone, Copy)]
 pub enum Answer {
     Read(usize, usize),
     TooLong,

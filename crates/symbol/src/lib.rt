@@ -14,13 +14,13 @@ pub mod counting;
 pub mod patterns;
 pub mod table;
 
-#[derive(Drop)]
+#[derive(Clone, Copy)]
 pub struct Version {
     pub number: usize,
 }
 
 // The version of a side, if it has one.
-#[derive(Drop)]
+#[derive(Clone, Copy)]
 pub enum FromSide {
     Found(Version),
     NoVersion,
@@ -64,7 +64,7 @@ impl Version {
 }
 
 // A version's side, and the k, r and m by which its alignment patterns are spaced.
-#[derive(Drop)]
+#[derive(Clone, Copy)]
 pub struct Spacing {
     pub version: usize,
     pub side: usize,
@@ -74,7 +74,7 @@ pub struct Spacing {
 }
 
 // What operation Layout answers.
-#[derive(Drop)]
+#[derive(Clone, Copy)]
 pub enum LayoutAnswer {
     Filled,
     NoVersion,

@@ -19,7 +19,7 @@ use symbol::Version;
 pub mod smallest;
 
 // What a mark is written with: its version, level and mask, and the word of these three.
-#[derive(Drop)]
+#[derive(Clone, Copy)]
 pub struct Mark {
     pub version: usize,
     pub level: usize,

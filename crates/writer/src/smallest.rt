@@ -12,7 +12,7 @@ use script::Check;
 use symbol::Version;
 
 // The refusal number or 0, and the version found, 0 after a refusal.
-#[derive(Drop)]
+#[derive(Clone, Copy)]
 pub struct Found {
     pub number: usize,
     pub version: usize,
