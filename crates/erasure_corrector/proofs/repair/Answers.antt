@@ -1,0 +1,59 @@
+-- `repair` meets its contract: a codeword is its own; else the locator refuses the block, or is applied. Assumes nothing.
+use Rattle.general.proofs.Names.{refl, sym, ◌∙◌, arith}
+use Rattle.field.specs.Table.{poly_of}
+use Rattle.field.proofs.Entries.{the_field}
+use Rattle.reed_solomon.proofs.Massey.{zeros}
+use Rattle.reed_solomon.proofs.Erased.{erasures_zeros}
+use Rattle.reed_solomon.specs.Erased.{admitted}
+use Rattle.corrector.specs.Correct.{outcome, settled}
+use Rattle.erasure_corrector.proofs.Repairs.{Settles, clean_settled, long_settled, applied_settled}
+use Rattle.erasure_corrector.proofs.repair.Goals as goal
+
+-- what the locator that was applied makes of the block
+applied : (c : tie.After-apply) →
+    let start = c.before.before.before.before.before.before.before.before.before.before.before.before.before.before.before.before.before.before in
+    let block = start.args.block.now in
+    let fix = c.apply in
+    Settles (settled block (admitted (poly_of start.args.field.now) start.args.first start.args.parity start.args.flags.now block))
+    fix.result.done fix.result.count fix.new.1.1.0
+applied c =
+    let rooted = c.before.before.before.before.before in
+    let located = rooted.before.before.before.before in
+    let tested = located.before.before.before in
+    let start = tested.before.before.before.before.before.before in
+    let bytes = tested.before.before.before.before.before.slice-known in
+    applied_settled (the_field _ start.requires.0.0) _ (λ i. omega (arith, bytes.given i)) start.requires.1.0 start.requires.1.1
+    (sym tested.if1.false ∙ tested.before.clean.ensures) located.locate.ensures rooted.add-roots.ensures c.apply.ensures
+    (omega (arith, rooted.before.before.if2.false))
+
+pub returns-then-clean : goal.returns-then-clean
+unfolding outcome
+returns-then-clean c =    
+    clean_settled (the_field _ c.requires.field.0) _ (λ i. omega (arith, c.type_inv.block i)) c.requires.has_erased.0 c.requires.has_erased.1
+    (sym c.if-clean.true ∙ c.clean.ensures)
+
+pub locate-l-requires : goal.locate-l-requires
+locate-l-requires c = let B = c.requires.has_erased.0 in
+    record { field = c.requires.field.0; parity_bound = (B.parity_le, omega (arith, B.size, B.small), B.fit, B.are); s_len = (c.requires.has_erased.1.size, refl, zeros 256) }
+
+pub returns-then-parity-l : goal.returns-then-parity-l
+unfolding outcome
+returns-then-parity-l c =    
+    long_settled (the_field _ c.requires.field.0) _ (λ i. omega (arith, c.type_inv.block i)) c.requires.has_erased.0 c.requires.has_erased.1
+    (sym c.if-clean.false ∙ c.clean.ensures) c.locate-l.ensures c.if-parity-l.true
+
+pub add_roots-top-requires : goal.add_roots-top-requires
+add_roots-top-requires c = let B = c.requires.has_erased.0 in
+    let short = c.locate-l.ensures.shortest in record { field = c.requires.field.0; f_len = (short.size, short.unit, short.tail); flags_len_bound = (omega (arith, B.size, B.small), omega (arith, c.if-parity-l.false, B.are, B.parity_le)) }
+
+pub apply-fix-requires : goal.apply-fix-requires
+apply-fix-requires c = let B = c.requires.has_erased.0 in
+    let r = c.add_roots-top.ensures in record { field = c.requires.field.0; first_bound = (c.requires.field.1, B.parity_le, B.small); h_len = (r.size, r.bytes, omega (arith, r.count, erasures_zeros c.args.flags.now, B.are, c.if-parity-l.false)); syndromes = c.requires.has_erased.1 }
+
+pub returns-then-fix : goal.returns-then-fix
+unfolding outcome
+returns-then-fix c = (applied c).repaired (sym c.if-fix.true)
+
+pub returns : goal.returns
+unfolding outcome
+returns c = (applied c).lost (sym c.if-fix.false)

@@ -1,0 +1,108 @@
+-- `numeric` meets its contract. Assumes nothing.
+use Rattle.general.proofs.Names.{◌∙◌, refl, arith, ◌-◌}
+use Rattle.bits.proofs.Words.{WordAt}
+use Rattle.segments.specs.Segments.{digits, groups_of, numeric_of}
+use Rattle.segments.specs.Positions.{numeric_at}
+use Rattle.segments.proofs.Turns.{Remains, remains_start, remains_cut, remains_word, remains_lacks, remains_end, remains_on, remains_none}
+use Rattle.segments.proofs.Turns.{length_digits, numeric_lacks, numeric_first, groups_more, groups_lack, groups_large, groups_end}
+use Rattle.segments.proofs.numeric.numeric.Goals as goal
+
+-- all of the mode is to come
+begins : (c : tie.Start invariant-loop decreases-loop)
+    → let a = c.args in Remains 10 (numeric_at a.s.now a.from a.to a.out.now) a.s.now a.from a.to a.from a.to a.out.now numeric_of
+begins c = remains_start c.requires.1 c.requires.2
+
+word1 : (c : tie.After-known-told invariant-loop decreases-loop)
+    → let a = c.before.before.before.before.before.before.args in WordAt 10 a.from c.before.start.given.0.0 a.s.now
+word1 c = let b = c.before.before.before in remains_word (begins b.before.before.before) b.read-bits.ensures (omega arith) c.before.start.given.1
+
+word2 : (c : tie.After-known-told2 invariant-loop decreases-loop)
+    → let l = c.before.before.before.before.loop in
+    WordAt 10 l.at c.before.got.given.0.0
+    c.before.before.before.before.before.before.before.before.before.before.before.before.args.s.now
+word2 c = let b = c.before.before.before in remains_word b.before.loop.invariant.2 b.read-bits2.ensures (omega arith) c.before.got.given.1
+
+pub enum_known-start : goal.enum_known-start
+enum_known-start c = c.in-Value.keys1
+
+pub enum_told-1 : goal.enum_told-1
+enum_told-1 c = c.in_default.keys2
+
+pub returns-in_default : goal.returns-in_default
+unfolding numeric_of
+returns-in_default c = record { left = rw (remains_cut (begins c) c.read_bits-start.ensures c.in_default.is refl) refl; inside = tt }
+
+pub returns-then-first-ge1000 : goal.returns-then-first-ge1000
+returns-then-first-ge1000 c = record { left = rw (remains_lacks (begins c) (word1 c) (numeric_lacks c.if-first-ge1000.true)) refl; inside = tt }
+
+pub overflow_add-at : goal.overflow_add-at
+overflow_add-at c = omega arith
+
+pub loop-w-init : goal.loop-w-init
+loop-w-init c =    
+    let w = c.in-Value.first in
+    (refl, c.if-first-ge1000.false, remains_none (begins c) (word1 c) (groups_of w) (numeric_first c.if-first-ge1000.false))
+
+pub enum_known-got : goal.enum_known-got
+enum_known-got c = c.in-Value-got.keys1
+
+pub enum_told-in_default-got : goal.enum_told-in_default-got
+enum_told-in_default-got c = c.in_default-got.keys2
+
+pub shape_of-out-in_default-got : goal.shape_of-out-in_default-got
+shape_of-out-in_default-got c = omega arith
+
+pub returns-in_default-got : goal.returns-in_default-got
+unfolding groups_of
+returns-in_default-got c = record { left = rw (remains_cut c.loop-w.invariant.2 c.read_bits-got.ensures c.in_default-got.is refl) refl; inside = tt }
+
+pub overflow_add-at-in-loop-w : goal.overflow_add-at-in-loop-w
+overflow_add-at-in-loop-w c = omega arith
+
+pub shape_of-out-then-w-le1020 : goal.shape_of-out-then-w-le1020
+shape_of-out-then-w-le1020 c = omega arith
+
+pub returns-then-w-le1020 : goal.returns-then-w-le1020
+returns-then-w-le1020 c = record { left = rw (remains_lacks c.loop-w.invariant.2 (word2 c) (groups_lack c.loop-w.p c.if-w-ge1000.true c.if-w-le1020.true)) refl; inside = tt }
+
+pub overflow_sub-k : goal.overflow_sub-k
+overflow_sub-k c = omega arith
+
+pub power_of_ten-requires : goal.power_of_ten-requires
+power_of_ten-requires c = let r = (word2 c).small in omega arith
+
+pub shape_of-out-then-power_of_ten-p : goal.shape_of-out-then-power_of_ten-p
+shape_of-out-then-power_of_ten-p c = omega arith
+
+pub returns-then-power_of_ten-p : goal.returns-then-power_of_ten-p
+returns-then-power_of_ten-p c = record { left = rw (remains_lacks c.loop-w.invariant.2 (word2 c) (groups_large c.loop-w.p c.if-w-ge1000.true c.if-w-le1020.false (omega arith))) refl; inside = tt }
+
+pub push_digits-requires : goal.push_digits-requires
+push_digits-requires c = let r = (word2 c).small in (omega arith, omega arith)
+
+pub overflow_add-result : goal.overflow_add-result
+overflow_add-result c = let r = (word2 c).small in omega arith
+
+pub shape_of-out-then-w-ge1000 : goal.shape_of-out-then-w-ge1000
+shape_of-out-then-w-ge1000 c = c.push_digits.auto.0 ∙ c.loop-w.invariant.0
+
+pub returns-then-w-ge1000 : goal.returns-then-w-ge1000
+returns-then-w-ge1000 c = let w = c.in-Value-got.w in
+    let r = word2 c in
+    let e = remains_end c.loop-w.invariant.2 r (digits (w - 1020) c.loop-w.p) (groups_end c.loop-w.p c.if-w-ge1000.true c.if-w-le1020.false (omega arith)) in
+    record { left = rw (e, length_digits) (refl, c.push_digits.ensures); inside = (omega arith, omega arith, omega arith, omega arith) }
+
+pub push_digits-requires-in-loop-w : goal.push_digits-requires-in-loop-w
+push_digits-requires-in-loop-w c = (omega arith, omega arith)
+
+pub overflow_add-n : goal.overflow_add-n
+overflow_add-n c = omega arith
+
+pub loop-w-smaller : goal.loop-w-smaller
+loop-w-smaller c = let m = (word2 c).room in omega arith
+
+pub loop-w-preserved : goal.loop-w-preserved
+unfolding digits
+loop-w-preserved c =    
+    let w = c.in-Value-got.w in
+    (c.push_digits-in-loop-w.auto.0 ∙ c.loop-w.invariant.0, c.if-w-ge1000.false, remains_on c.loop-w.invariant.2 (word2 c) (digits 3 c.loop-w.p) (groups_of w) (groups_more c.loop-w.p c.if-w-ge1000.false) (omega arith) c.push_digits-in-loop-w.ensures)
