@@ -9,9 +9,9 @@ use Rattle.bits.proofs.Appending.{Joins, joined_is, appended, behind_set}
 use Rattle.bits.proofs.write_bits.Goals as goal
 
 -- what is stored
-joins : (c : tie.After-store-four-arg) → Joins c.before.as-usize.result (c.before.before.before.before.before.args.at % 8)
-    c.before.before.before.before.before.args.n c.before.before.before.before.before.args.v
-joins c = joined_is _ _ _ _ c.before.as-usize.ensures.1 (omega arith) (omega arith)
+joins : (c : goal.After-store_four-arg-1) → Joins c.as_usize-old.result (c.args.at % 8)
+    c.args.n c.args.v
+joins c = joined_is _ _ _ _ c.as_usize-old.ensures.1 (omega arith) (omega arith)
 
 pub returns-then-buf-i-lt4 : goal.returns-then-buf-i-lt4
 returns-then-buf-i-lt4 c =
@@ -30,12 +30,12 @@ pub nonzero_rem-v : goal.nonzero_rem-v
 nonzero_rem-v c = rw (one_shifted c.args.n (omega arith)) (pow_pos c.args.n)
 
 pub overflow_add-before : goal.overflow_add-before
-overflow_add-before c = let j = joins c in rw j.0 (omega arith)
+overflow_add-before c = let j = joins (goal.at.overflow_add-before c).After-store_four-arg-1 in rw j.0 (omega arith)
 
 pub store_four-requires : goal.store_four-requires
-store_four-requires c = let j = joins c in (omega arith, rw j.0 j.1)
+store_four-requires c = let j = joins (goal.at.store_four-requires c).After-store_four-arg-1 in (omega arith, rw j.0 j.1)
 
 pub returns : goal.returns
 returns c =
-    let j = joins c in
+    let j = joins (goal.at.returns c).After-store_four-arg-1 in
     rw (c.store_four.ensures, j.0, c.as_usize-old.ensures.0) (appended c.args.buf.now c.args.at c.args.n c.args.v (omega arith) (omega arith))

@@ -29,13 +29,12 @@ pub loop-i-smaller : goal.loop-i-smaller
 loop-i-smaller c = omega arith
 
 pub loop-i-preserved : goal.loop-i-preserved
-loop-i-preserved c =
-    let l = c.loop-i in (
-      c.write_bit.auto.0 ∙ l.invariant.0,
-      omega arith,
-      l.invariant.2 ∙ write_more (bits_of l.buf) c.args.at c.args.n l.i c.args.v (omega arith)
-          ∙ ap (λ (B : List ℕ). sets B (c.args.at + (l.i + 1)) (low_bits (c.args.n - (l.i + 1)) c.args.v)) (sym c.write_bit.ensures),
-    )
+loop-i-preserved c = (
+  c.write_bit.auto.0 ∙ c.loop-i.invariant.0,
+  omega arith,
+  c.loop-i.invariant.2 ∙ write_more (bits_of c.loop-i.buf) c.args.at c.args.n c.loop-i.i c.args.v (omega arith)
+      ∙ ap (λ (B : List ℕ). sets B (c.args.at + (c.loop-i.i + 1)) (low_bits (c.args.n - (c.loop-i.i + 1)) c.args.v)) (sym c.write_bit.ensures),
+)
 
 pub shape_of-buf : goal.shape_of-buf
 shape_of-buf c = omega arith

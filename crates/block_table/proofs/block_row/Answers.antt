@@ -21,7 +21,7 @@ nine-requires c = (omega arith, omega arith)
 
 pub returns-then-version-le10 : goal.returns-then-version-le10
 unfolding blocks
-returns-then-version-le10 c =    
+returns-then-version-le10 c =
     let v = c.args.version in
     let level = c.args.level in
     row_copied v level c.requires.0 c.requires.1 c.requires.2 _ c.nine.ensures.0

@@ -14,13 +14,13 @@ pub overflow_mul-table : goal.overflow_mul-table
 overflow_mul-table c = omega (arith, c.type_inv.table (4 * (c.loop-version.version - 1) + c.args.level))
 
 pub returns-then-bits-table : goal.returns-then-bits-table
-returns-then-bits-table c =    
+returns-then-bits-table c =
     sym (c.loop-version.invariant.2
     ∙ search_stops (enough c.args.table.now c.args.level c.args.bits) c.loop-version.version 85 c.loop-version-test.true
     (le-leb _ _ c.if-bits-table.true))
 
 pub loop-version-preserved : goal.loop-version-preserved
-loop-version-preserved c =    
+loop-version-preserved c =
     let e = search_goes_on (enough c.args.table.now c.args.level c.args.bits) c.loop-version.version 85 c.loop-version-test.true
     (lt-leb _ _ c.if-bits-table.false) in
     (omega arith, omega (arith, c.loop-version-test.true), c.loop-version.invariant.2 ∙ e)

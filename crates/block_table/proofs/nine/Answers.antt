@@ -22,13 +22,12 @@ pub loop-n-smaller : goal.loop-n-smaller
 loop-n-smaller c = omega arith
 
 pub loop-n-preserved : goal.loop-n-preserved
-loop-n-preserved c =    
-    (
-      omega arith,
-      length-set c.loop-n.row c.loop-n.n _ ∙ c.loop-n.invariant.1,
-      copied_more (λ k. get_or c.args.table.now (c.args.at + k) 0)
-          c.loop-n.row c.loop-n.n _ (omega arith) refl c.loop-n.invariant.2,
-    )
+loop-n-preserved c = (
+  omega arith,
+  length-set c.loop-n.row c.loop-n.n _ ∙ c.loop-n.invariant.1,
+  copied_more (λ k. get_or c.args.table.now (c.args.at + k) 0)
+      c.loop-n.row c.loop-n.n _ (omega arith) refl c.loop-n.invariant.2,
+)
 
 pub returns : goal.returns
 returns c = (c.loop-n.invariant.1, λ k h. c.loop-n.invariant.2 k (omega arith))

@@ -5,7 +5,7 @@ use Rattle.blocks.proofs.Transfers.{only_room}
 use Rattle.block_writer.proofs.write_batch.Goals as goal
 
 pub write_one-requires : goal.write_one-requires
-write_one-requires c =    
+write_one-requires c =
     let one = c.is_one_short.ensures c.if-is_one_short.true in
     let fit = batch_fit _ _ _ c.requires.2 (omega (arith, one)) in
     let room = only_room c.args.b one c.requires.3 in

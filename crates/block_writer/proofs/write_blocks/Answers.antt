@@ -8,25 +8,19 @@ use Rattle.blocks.proofs.Transfers.{TransferLeft, transfer_start, row_writes, ba
 use Rattle.block_writer.proofs.write_blocks.Goals as goal
 
 -- the blocks of a turn's batch are written
-next : (c : tie.After-struct-known invariant-loop decreases-loop) →
-    let start = c.before.before.before.before.before.before.before.before.before.before.before in
-    let b = c.before.before.before.before.before.batch-of.result in
-    let loop = c.before.before.before.before.before.before.before.loop in
-    TransferLeft writing (shapes start.args.row.now) 0 0 start.args.«data».now start.args.stream.now (behind (loop.k + 1) start.args.row.now)
-    (loop.n + b.count * (b.info + b.parity)) (loop.from + b.count * b.info) c.before.before.before.write-batch.new.0
+next : (c : goal.After-struct_known-1) → let b = c.batch_of-b.result in
+    TransferLeft writing (shapes c.args.row.now) 0 0 c.args.«data».now c.args.stream.now (behind (c.loop-k.k + 1) c.args.row.now)
+    (c.loop-k.n + b.count * (b.info + b.parity)) (c.loop-k.from + b.count * b.info) c.write_batch.new.stream
 next c =
-    let batch-of = c.before.before.before.before.before.batch-of in
-    let write-batch = c.before.before.before.write-batch in
-    let turn = c.before.before.before.before.before.before in
-    batch_transferred _ _ turn.before.loop.invariant turn.loop-test.true
-    batch-of.result batch-of.ensures.is write-batch.ensures write-batch.auto.0
+    batch_transferred _ _ c.loop-k.invariant c.loop-k-test.true
+    c.batch_of-b.result c.batch_of-b.ensures.is c.write_batch.ensures c.write_batch.auto.0
 
 pub loop-k-init : goal.loop-k-init
 unfolding behind
 loop-k-init c = transfer_start (row_writes _ _ _ c.requires.2 c.requires.3)
 
 pub write_batch-requires : goal.write_batch-requires
-write_batch-requires c =    
+write_batch-requires c =
     let few = c.loop-k-test.true in
     let batch = c.batch_of-b.ensures in
     (batch.info, batch.parity, row_batch _ _ (row_sound _ _ c.requires.1) few _ batch.is, batch_room _ _ c.loop-k.invariant few _ batch.is)
@@ -35,26 +29,25 @@ pub overflow_add-n : goal.overflow_add-n
 overflow_add-n c = omega (arith, c.batch_of-b.ensures)
 
 pub overflow_mul-n : goal.overflow_mul-n
-overflow_mul-n c = omega (arith, (next c).room.into)
+overflow_mul-n c = omega (arith, (next (goal.at.overflow_mul-n c).After-struct_known-1).room.into)
 
 pub overflow_add-n-in-loop-k : goal.overflow_add-n-in-loop-k
-overflow_add-n-in-loop-k c = omega (arith, (next c).room.into)
+overflow_add-n-in-loop-k c = omega (arith, (next (goal.at.overflow_add-n-in-loop-k c).After-struct_known-1).room.into)
 
 pub overflow_mul-from : goal.overflow_mul-from
-overflow_mul-from c = omega (arith, (next c).room.out)
+overflow_mul-from c = omega (arith, (next (goal.at.overflow_mul-from c).After-struct_known-1).room.out)
 
 pub overflow_add-from : goal.overflow_add-from
-overflow_add-from c = omega (arith, (next c).room.out)
+overflow_add-from c = omega (arith, (next (goal.at.overflow_add-from c).After-struct_known-1).room.out)
 
 pub loop-k-preserved : goal.loop-k-preserved
-loop-k-preserved c = next c
+loop-k-preserved c = next (goal.at.loop-k-preserved c).After-struct_known-1
 
 pub shape_of-stream : goal.shape_of-stream
 shape_of-stream c = c.loop-k.invariant.size
 
 pub returns : goal.returns
-returns c =    
-    let bytes = c.type_inv.data in
+returns c =
     transfer_end c.loop-k.invariant (behind_all c.args.row.now _ c.loop-k-test.false)
     ∙ written_row (shapes c.args.row.now) c.args.«data».now c.args.stream.now c.requires.2 c.requires.3
-    (row_sound _ _ c.requires.1) (λ i. omega (arith, bytes i))
+    (row_sound _ _ c.requires.1) (λ i. omega (arith, c.type_inv.data i))

@@ -15,11 +15,11 @@ pub overflow_cast-result-3 : goal.overflow_cast-result-3
 overflow_cast-result-3 c = omega (arith, c.type_inv.row (3 * c.args.k + 2))
 
 pub returns : goal.returns
-returns c = let byte = c.type_inv.row in
+returns c =
     let at = 3 * c.args.k in
     record {
       is = refl;
-      info = omega (arith, byte (at + 1));
-      parity = omega (arith, byte (at + 2));
-      «data» = product _ _ (omega (arith, byte at)) (omega (arith, byte (at + 1)));
+      info = omega (arith, c.type_inv.row (at + 1));
+      parity = omega (arith, c.type_inv.row (at + 2));
+      «data» = product _ _ (omega (arith, c.type_inv.row at)) (omega (arith, c.type_inv.row (at + 1)));
     }

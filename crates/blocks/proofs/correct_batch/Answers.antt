@@ -15,7 +15,7 @@ correct_one-requires c = let b = c.args.b in
     omega (arith, ap total_size one ∙ total_batch 1 b.info b.parity)
 
 pub returns-then-is_one_short : goal.returns-then-is_one_short
-returns-then-is_one_short c =    
+returns-then-is_one_short c =
     rw (only_is c.args.b (c.is_one_short.ensures c.if-is_one_short.true))
     (without_flags _ c.if-flags-ne0.false c.correct_one.ensures)
 

@@ -1,3 +1,4 @@
+use Rattle.general.proofs.Names.{[]}
 use Rattle.block_table.specs.Blocks.{batch}
 use Rattle.blocks.specs.Inner.{blocks_in}
 use Rattle.blocks.proofs.Corrects.{BlocksLeft}

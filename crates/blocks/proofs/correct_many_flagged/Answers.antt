@@ -4,20 +4,14 @@ use Rattle.reed_solomon.proofs.Massey.{zeros}
 use Rattle.block_table.specs.Blocks.{batch}
 use Rattle.blocks.specs.Inner.{blocks_in}
 use Rattle.blocks.proofs.Rule.{batch_none}
-use Rattle.blocks.proofs.Corrects.{BlocksLeft, blocks_left_start, block_room, block_next, block_stop, blocks_left_end}
+use Rattle.blocks.proofs.Corrects.{BlocksLeft, blocks_left_start, block_room, block_stop, blocks_left_end}
 use Rattle.blocks.proofs.correct_many_flagged.Goals as goal
 
 -- the block of a turn is corrected
-next : (c : tie.After-known-told invariant-loop decreases-loop) →
-    let start = c.before.before.before.before.before.before.before.before.before.before.before.before.before.before.before.before.before.before.before in
-    let b = start.args.b in
-    let loop = c.before.before.before.before.before.before.before.before.before.before.loop in
-    BlocksLeft start.args.flags.now (blocks_in b) start.args.from start.args.stream.now (batch (loop.left - 1) b.info b.parity)
-    (loop.at + (b.info + b.parity)) (loop.n + c.before.r.given.0.0) c.before.before.before.before.before.correct-flagged.new.1.1.0
-next c =
-    let turn = c.before.before.before.before.before.before.before.before.before in
-    let correct-flagged = c.before.before.before.before.before.correct-flagged in
-    block_next _ _ _ turn.before.loop.invariant turn.loop-test.true _ correct-flagged.ensures c.before.r.given.1 correct-flagged.auto.1.1.0
+next : (c : goal.In-Corrected) → let b = c.args.b in
+    BlocksLeft c.args.flags.now (blocks_in b) c.args.from c.args.stream.now (batch (c.loop-left.left - 1) b.info b.parity)
+    (c.loop-left.at + (b.info + b.parity)) (c.loop-left.n + c.in-Corrected.m) c.correct_flagged-r.new.stream
+next c =block_next _ _ _ c.loop-left.invariant c.loop-left-test.true _ c.correct_flagged-r.ensures c.in-Corrected.is c.correct_flagged-r.auto.1.1.0
 
 pub returns-then-b-eq0 : goal.returns-then-b-eq0
 returns-then-b-eq0 c = blocks_left_end (blocks_left_start _ _ _ _ c.requires.0) (batch_none _ _ _ (omega arith))
@@ -41,16 +35,16 @@ pub returns-in_default : goal.returns-in_default
 returns-in_default c = block_stop _ _ _ c.loop-left.invariant c.loop-left-test.true _ c.correct_flagged-r.ensures c.in_default.is
 
 pub overflow_add-n : goal.overflow_add-n
-overflow_add-n c = omega (arith, (next c).few, (next c).room)
+overflow_add-n c = omega (arith, (next (goal.at.overflow_add-n c).In-Corrected).few, (next (goal.at.overflow_add-n c).In-Corrected).room)
 
 pub overflow_add-at : goal.overflow_add-at
-overflow_add-at c = omega (arith, (next c).room)
+overflow_add-at c = omega (arith, (next (goal.at.overflow_add-at c).In-Corrected).room)
 
 pub overflow_add-at-in-loop-left : goal.overflow_add-at-in-loop-left
-overflow_add-at-in-loop-left c = omega (arith, (next c).room)
+overflow_add-at-in-loop-left c = omega (arith, (next (goal.at.overflow_add-at-in-loop-left c).In-Corrected).room)
 
 pub loop-left-preserved : goal.loop-left-preserved
-loop-left-preserved c = next c
+loop-left-preserved c = next (goal.at.loop-left-preserved c).In-Corrected
 
 pub shape_of-stream : goal.shape_of-stream
 shape_of-stream c = c.loop-left.invariant.size

@@ -7,17 +7,13 @@ use Rattle.blocks.proofs.Transfers.{TransferLeft, transfer_start, one_room, one_
 use Rattle.blocks.proofs.gather_batch.Goals as goal
 
 -- the data part of a turn's block is copied
-next : (c : tie.After-struct-known invariant-loop decreases-loop) →
-    let start = c.before.before.before.before.before.before.before.before.before in
-    let b = start.args.b in
-    let loop = c.before.before.before.before.before.before.loop in
-    TransferLeft gathering (blocks_in b) start.args.to start.args.from start.args.stream.now start.args.out.now
-    (batch (loop.left - 1) b.info b.parity) (loop.into + b.info) (loop.at + (b.info + b.parity)) c.before.before.before.copy.new.0
+next : (c : goal.After-struct_known-1) → let b = c.args.b in
+    TransferLeft gathering (blocks_in b) c.args.to c.args.from c.args.stream.now c.args.out.now
+    (batch (c.loop-left.left - 1) b.info b.parity) (c.loop-left.into + b.info) (c.loop-left.at + (b.info + b.parity)) c.copy.new.dst
 unfolding transferred batch
 next c =
-    let copy = c.before.before.before.copy in
-    one_next _ _ _ c.before.before.before.before.before.before.loop.invariant c.before.before.before.before.before.loop-test.true
-    copy.ensures copy.auto.0
+    one_next _ _ _ c.loop-left.invariant c.loop-left-test.true
+    c.copy.ensures c.copy.auto.0
 
 pub loop-left-init : goal.loop-left-init
 loop-left-init c = transfer_start c.requires
@@ -26,16 +22,16 @@ pub copy-requires : goal.copy-requires
 copy-requires c = let room = one_room _ _ _ c.loop-left.invariant c.loop-left-test.true in (room.0, omega arith)
 
 pub overflow_add-into : goal.overflow_add-into
-overflow_add-into c = omega (arith, (next c).room.into)
+overflow_add-into c = omega (arith, (next (goal.at.overflow_add-into c).After-struct_known-1).room.into)
 
 pub overflow_add-at : goal.overflow_add-at
-overflow_add-at c = omega (arith, (next c).room.out)
+overflow_add-at c = omega (arith, (next (goal.at.overflow_add-at c).After-struct_known-1).room.out)
 
 pub overflow_add-at-in-loop-left : goal.overflow_add-at-in-loop-left
-overflow_add-at-in-loop-left c = omega (arith, (next c).room.out)
+overflow_add-at-in-loop-left c = omega (arith, (next (goal.at.overflow_add-at-in-loop-left c).After-struct_known-1).room.out)
 
 pub loop-left-preserved : goal.loop-left-preserved
-loop-left-preserved c = next c
+loop-left-preserved c = next (goal.at.loop-left-preserved c).After-struct_known-1
 
 pub shape_of-out : goal.shape_of-out
 shape_of-out c = c.loop-left.invariant.size

@@ -5,12 +5,12 @@ use Rattle.codewords.proofs.from_stream.Goals as goal
 
 pub loop-start-init : goal.loop-start-init
 loop-start-init c = (
-      move_first false c.args.total c.args.stream.now c.args.out.now c.requires.0 c.requires.1
-          c.requires.2,
-      refl,
-      omega arith,
-      refl,
-    )
+  move_first false c.args.total c.args.stream.now c.args.out.now c.requires.0 c.requires.1
+      c.requires.2,
+  refl,
+  omega arith,
+  refl,
+)
 
 pub collect_start-i-requires : goal.collect_start-i-requires
 collect_start-i-requires c = (c.loop-start.invariant.0, c.loop-start-test.true)

@@ -5,12 +5,12 @@ use Rattle.codewords.proofs.to_stream.Goals as goal
 
 pub loop-start-init : goal.loop-start-init
 loop-start-init c = (
-      move_first true c.args.total c.args.codewords.now c.args.out.now c.requires.0 c.requires.1
-          c.requires.2,
-      refl,
-      omega arith,
-      refl,
-    )
+  move_first true c.args.total c.args.codewords.now c.args.out.now c.requires.0 c.requires.1
+      c.requires.2,
+  refl,
+  omega arith,
+  refl,
+)
 
 pub store_start-i-requires : goal.store_start-i-requires
 store_start-i-requires c = (c.loop-start.invariant.0, c.loop-start-test.true)

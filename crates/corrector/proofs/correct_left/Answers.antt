@@ -9,7 +9,7 @@ use Rattle.corrector.proofs.correct_left.Goals as goal
 
 pub returns-then-is_none : goal.returns-then-is_none
 unfolding outcome
-returns-then-is_none c =    
+returns-then-is_none c =
     let fits = c.requires.tabled in
     none_settled _ _ _ fits.2 (λ i. omega (arith, c.type_inv.block i)) c.requires.remains (c.is_none.ensures c.if-is_none.true)
     ∙ fit_settled _ _ _ _ (fit _ _ (λ e. omega arith) fits.1 fits.2)
@@ -19,11 +19,15 @@ syndromes-requires c = record { field = c.han_xin-field.ensures.0; first_bound =
 
 pub repair-requires : goal.repair-requires
 repair-requires c = let fits = c.requires.tabled in
-    let field = c.han_xin-field.ensures in record { field = field.0; first_bound = (omega arith, omega arith, fits.2); syndromes = c.syndromes.ensures c.args.block.now
-            (left_as c.requires.remains field.1 (omega arith)) }
+    let field = c.han_xin-field.ensures in record {
+      field = field.0;
+      first_bound = (omega arith, omega arith, fits.2);
+      syndromes = c.syndromes.ensures c.args.block.now
+          (left_as c.requires.remains field.1 (omega arith));
+    }
 
 pub returns : goal.returns
-returns c =    
+returns c =
     let fits = c.requires.tabled in
     c.repair.ensures ∙ ap (λ (p : ℕ). settled c.args.block.now
     (nearest p 1 c.args.parity c.args.block.now))

@@ -11,7 +11,7 @@ locator-l-requires c = record { field = c.requires.field; n_bound = omega arith;
 
 pub returns-then-parity-l : goal.returns-then-parity-l
 unfolding outcome
-returns-then-parity-l c =    
+returns-then-parity-l c =
     long_settled _ (the_field _ c.requires.field) _ _ _ c.requires.first_bound.2 (λ i. omega (arith, c.type_inv.block i))
     _ c.requires.syndromes _ _ c.locator-l.ensures c.if-parity-l.true
 
@@ -21,13 +21,13 @@ apply-fix-requires c = let f = c.locator-l.ensures in
 
 pub returns-then-fix : goal.returns-then-fix
 unfolding outcome
-returns-then-fix c =    
+returns-then-fix c =
     repaired_settled _ (the_field _ c.requires.field) _ _ _ c.requires.first_bound.2 (λ i. omega (arith, c.type_inv.block i))
     _ c.requires.syndromes _ _ c.locator-l.ensures _ _ _ c.apply-fix.ensures (sym c.if-fix.true)
     (omega (arith, c.if-parity-l.false))
 
 pub returns : goal.returns
 unfolding outcome
-returns c =    
+returns c =
     left_settled _ (the_field _ c.requires.field) _ _ _ c.requires.first_bound.2 (λ i. omega (arith, c.type_inv.block i))
     _ c.requires.syndromes _ _ c.locator-l.ensures _ _ _ c.apply-fix.ensures (sym c.if-fix.false)

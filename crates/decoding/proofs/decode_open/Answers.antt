@@ -11,6 +11,6 @@ pub decode_stream-requires : goal.decode_stream-requires
 decode_stream-requires c = (in_table _ _ c.requires.0, omega (arith, total_open _ c.requires.0.low c.requires.1), record { enough = λ h. absurd (omega arith) })
 
 pub returns : goal.returns
-returns c =    
+returns c =
     let t = c.decode_stream.ensures in
     (open_blocks c.args.m _ _ _ _ c.requires.0 c.requires.1 (t.reading _ c.read_open_stream.ensures (flags_absent c.requires.2 refl)), t.small)

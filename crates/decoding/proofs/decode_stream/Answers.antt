@@ -5,7 +5,7 @@ use Rattle.decoding.proofs.Readings.{count_small, blocks_refused, blocks_correct
 use Rattle.decoding.proofs.decode_stream.Goals as goal
 
 pub correct_blocks-requires : goal.correct_blocks-requires
-correct_blocks-requires c =    
+correct_blocks-requires c =
     let m = c.args.m in
     let f = c.requires.0 in
     let row = c.block_row-row.ensures in
@@ -17,24 +17,23 @@ correct_blocks-requires c =
     )
 
 pub decode_segments-requires : goal.decode_segments-requires
-decode_segments-requires c =    
+decode_segments-requires c =
     let m = c.args.m in
     let f = c.requires.0 in
     let row = c.block_row-row.ensures in
-    let long = row_total m.version m.level f.low f.high f.level _ row in
-    let n = c.count-1.given in (
+    let long = row_total m.version m.level f.low f.high f.level _ row in (
       search rules,
       omega (arith, long, c.requires.1),
       row_data _ _ f.low f.high f.level _ row,
-      count_small m f _ row _ n.0.0 _ _ n.1 (λ z. (c.correct_blocks.ensures.1 z).0),
+      count_small m f _ row _ c.in-Corrected.count _ _ c.in-Corrected.is (λ z. (c.correct_blocks.ensures.1 z).0),
     )
 
 pub returns-in-Corrected : goal.returns-in-Corrected
-returns-in-Corrected c = let n = c.count-1.given in
-    blocks_corrected c.args.m c.requires.0 _ c.block_row-row.ensures _ _ _ _ c.correct_blocks.result n.0.0 _ _ _ _ _ n.1
+returns-in-Corrected c =
+    blocks_corrected c.args.m c.requires.0 _ c.block_row-row.ensures _ _ _ _ c.correct_blocks.result c.in-Corrected.count _ _ _ _ _ c.in-Corrected.is
     c.correct_blocks.ensures.0 c.correct_blocks.ensures.1 c.decode_segments.ensures
 
 pub returns-in-Refused : goal.returns-in-Refused
-returns-in-Refused c = let n = c.number-1.given in
+returns-in-Refused c =
     let q = c.correct_blocks.ensures in
-    blocks_refused c.args.m c.requires.0 _ c.block_row-row.ensures _ _ _ _ _ n.0.0 _ n.1 q.3 q.0 c.refused.ensures
+    blocks_refused c.args.m c.requires.0 _ c.block_row-row.ensures _ _ _ _ _ c.in-Refused.number _ c.in-Refused.is q.3 q.0 c.refused.ensures

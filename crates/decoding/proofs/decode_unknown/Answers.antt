@@ -11,11 +11,11 @@ pub read_stream-requires : goal.read_stream-requires
 read_stream-requires c = (c.requires.0, c.requires.1, c.requires.2, omega (arith, total_small _ c.requires.0.low c.requires.0.high))
 
 pub decode_stream-requires : goal.decode_stream-requires
-decode_stream-requires c =    
+decode_stream-requires c =
     let t = total_small _ c.requires.0.low c.requires.0.high in
     (in_table _ _ c.requires.0, omega (arith, t, c.read_stream.auto), record { enough = λ h. omega (arith, t, c.read_flags.auto) })
 
 pub returns : goal.returns
-returns c =    
+returns c =
     let t = c.decode_stream.ensures in
     (t.reading _ c.read_stream.ensures (flags_some c.read_flags.ensures (omega (arith, c.read_flags.auto))), t.small)

@@ -11,7 +11,7 @@ pub decode_stream-requires : goal.decode_stream-requires
 decode_stream-requires c = (in_table _ _ c.requires.0, omega (arith, total_ten _ c.requires.0.low c.if-m-le10.true), record { enough = λ h. absurd (omega arith) })
 
 pub returns-then-m-le10 : goal.returns-then-m-le10
-returns-then-m-le10 c =    
+returns-then-m-le10 c =
     let t = c.decode_stream.ensures in
     (t.reading _ c.read_stream.ensures (flags_absent (c.requires.3.none c.if-unknown.false) refl), t.small)
 
@@ -22,6 +22,6 @@ pub decode_stream-requires-2 : goal.decode_stream-requires-2
 decode_stream-requires-2 c = (in_table _ _ c.requires.0, omega (arith, total_small _ c.requires.0.low c.requires.0.high), record { enough = λ h. absurd (omega arith) })
 
 pub returns : goal.returns
-returns c =    
+returns c =
     let t = c.decode_stream-2.ensures in
     (t.reading _ c.read_stream-2.ensures (flags_absent (c.requires.3.none c.if-unknown.false) refl), t.small)

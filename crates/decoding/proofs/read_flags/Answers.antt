@@ -12,7 +12,7 @@ read_flags-requires c = let f = c.requires.0 in
     record { modules_and_kinds = (modules_and_kinds c.args.m _ _ f d, λ i. omega (arith, zeros_below 1 3886 (lit< tt) i)); total_in_bounds = (c.total_codewords-total.ensures.1, enough_bits c.args.m _ _ f d _ refl _ c.total_codewords-total.result c.total_codewords-total.ensures.0 c.requires.2) }
 
 pub returns : goal.returns
-returns c =    
+returns c =
     let sq = c.args.square.now in
     flags_are c.args.m _ _ c.requires.0 c.requires.1 (map (λ m. m / 2) sq) (length-map sq (λ m. m / 2)) _ _ _ (halves_are sq c.requires.0.modules) c.total_codewords-total.ensures.0
     (c.to_stream.ensures ∙ ap (λ (x : List ℕ). to_stream x ++ drop c.total_codewords-total.result c.args.flags.now)

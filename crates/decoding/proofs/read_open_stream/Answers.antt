@@ -9,20 +9,23 @@ use Rattle.decoding.proofs.read_open_stream.Goals as goal
 
 pub read_open-requires : goal.read_open-requires
 read_open-requires c = let f = c.requires.0 in
-    record { le_version = (f.low, omega (arith, c.requires.1), f.mask, f.size, c.requires.3); total_in_bounds = (
+    record {
+      le_version = (f.low, omega (arith, c.requires.1), f.mask, f.size, c.requires.3);
+      total_in_bounds = (
         omega (arith, c.total_codewords-total.ensures.0, total_open _ f.low c.requires.1),
         enough_bits c.args.m _ _ f (open_layout _) _ refl _ c.total_codewords-total.result
             c.total_codewords-total.ensures.0 (open_enough _ f.low (omega (arith, c.requires.1))),
-      ) }
+      );
+    }
 
 pub to_stream-requires : goal.to_stream-requires
-to_stream-requires c =    
+to_stream-requires c =
     let total = c.total_codewords-total.ensures in
     let t = total_open _ c.requires.0.low c.requires.1 in
     (omega (arith, total.0, c.requires.2), omega (arith, total.0, t, c.read_open.auto), omega (arith, total.1))
 
 pub returns : goal.returns
-returns c =    
+returns c =
     let sq = c.args.square.now in
     stream_is c.args.m _ _ c.requires.0 (open_layout _) sq refl _ _ _ _ (sym (bits_are sq c.requires.3)) refl c.total_codewords-total.ensures.0
     (c.to_stream.ensures ∙ ap (λ (x : List ℕ). to_stream x ++ drop c.total_codewords-total.result c.args.stream.now)

@@ -15,7 +15,7 @@ read_codewords-requires c = let f = c.requires.0 in
     let size = f.size ∙ sym (ap (λ (n : ℕ). n * n) side) in record { modules_and_kinds = (modules_and_kinds c.args.m _ _ f d, omega (arith, side), omega (arith, side, f.high), size); total_in_bounds = (total.1, enough_bits c.args.m _ _ f d _ (length_lowest c.args.square.now) _ c.total_codewords-total.result total.0 c.requires.2) }
 
 pub returns : goal.returns
-returns c =    
+returns c =
     let sq = c.args.square.now in
     stream_is c.args.m _ _ c.requires.0 c.requires.1 (lowest sq) (length_lowest sq) _ _ _ _ (lowest_is sq c.requires.0.modules) c.side-side.ensures c.total_codewords-total.ensures.0
     (c.to_stream.ensures ∙ ap (λ (x : List ℕ). to_stream x ++ drop c.total_codewords-total.result c.args.stream.now)

@@ -17,7 +17,7 @@ pub loop-i-smaller : goal.loop-i-smaller
 loop-i-smaller c = omega arith
 
 pub loop-i-preserved : goal.loop-i-preserved
-loop-i-preserved c =    
+loop-i-preserved c =
     let kinds = c.args.kinds.now in (
       omega arith,
       length-set c.loop-i.square c.loop-i.i c.pattern.result

@@ -11,7 +11,7 @@ pub slice_bounds-place_all-end-2 : goal.slice_bounds-place_all-end-2
 slice_bounds-place_all-end-2 c = sym (length-take-le _ _ c.requires.total_in_bounds.0)
 
 pub place_all-requires : goal.place_all-requires
-place_all-requires c =    
+place_all-requires c =
     let kinds = length-take-le (c.args.side * c.args.side) c.args.kinds.now (omega arith) in (
       c.requires.square_in_bounds.3
           ∙ sym kinds,
@@ -26,7 +26,7 @@ place_all-requires c =
     )
 
 pub returns : goal.returns
-returns c =    
+returns c =
     c.place_all.ensures
     ∙ ap (λ (n : ℕ). placed (mask_bit c.args.side c.args.mask) 0 (take n c.args.kinds.now)
     (bits_of (take c.args.total c.args.codewords.now))) (sym c.requires.square_in_bounds.3)

@@ -8,7 +8,7 @@ pub spread-requires : goal.spread-requires
 spread-requires c = omega (arith, value_lt c.args.codewords.now c.args.p.bit 8)
 
 pub returns : goal.returns
-returns c =    
+returns c =
     let bytes = masked_bytes _ c.args.row.now c.args.p.bit c.args.p.column (omega arith) c.requires.3
     c.window.ensures c.spread.ensures
     c.eight.ensures in

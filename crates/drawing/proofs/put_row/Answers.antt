@@ -23,7 +23,7 @@ shape_of-square c = c.put_last.auto.0 ∙ c.loop-p.invariant.0.size
     ∙ sym c.requires.0.size
 
 pub returns : goal.returns
-returns c =    
+returns c =
     (puts_end c.loop-p.invariant.2 c.put_last.ensures).go _ _
     (placing_begun _ _ _
     _ c.requires.0.size c.requires.1)

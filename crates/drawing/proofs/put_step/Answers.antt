@@ -9,7 +9,7 @@ put_eight-requires c = let buffers = c.requires.0 in
     (omega arith, omega arith, buffers.room, buffers.masks, omega arith, buffers.few)
 
 pub returns-then-p-codewords : goal.returns-then-p-codewords
-returns-then-p-codewords c =    
+returns-then-p-codewords c =
     let put = c.put_eight.ensures in (
       omega arith,
       omega arith,
@@ -21,8 +21,7 @@ pub put_one-requires : goal.put_one-requires
 put_one-requires c = (c.requires.0, omega arith)
 
 pub returns : goal.returns
-returns c =    
-    let bytes = c.type_inv.kinds in
-    let s = passed c.args.kinds.now _ (λ i. omega (arith, bytes i)) c.eight-k.ensures
+returns c =
+    let s = passed c.args.kinds.now _ (λ i. omega (arith, c.type_inv.kinds i)) c.eight-k.ensures
     (omega arith) c.if-k-eq0-2.false c.no_data.ensures in
     (omega arith, s.most, puts_skip s refl)

@@ -6,40 +6,29 @@ use Rattle.encoding.proofs.Segments.{Next, begun, never_wrong, run_next, eci_nex
 use Rattle.encoding.proofs.encode.Goals as goal
 
 -- the segment in front, where the command is one of modes 1 to 7
-next_run : (c : tie.After-known-told invariant-loop decreases-loop)
-    → let l = c.before.before.before.before.before.loop in
-    let a = c.before.before.before.before.before.before.before.before.before.args in
-    let v = c.before.next.given.0 in
+next_run : (c : goal.In-Run) → let v = c.next-1.given.0 in
     (1 ≤ v.0) × (v.0 ≤ 7)
-    × Next a.script.now a.payload.now (length a.codewords.now) l.codewords l.i l.j l.at
-    (run v.0 (take v.1.0 (drop l.j a.payload.now))) (command_size v.0) v.1.0
+    × Next c.args.script.now c.args.payload.now (length c.args.codewords.now) c.loop-i.codewords c.loop-i.i c.loop-i.j c.loop-i.at
+    (run v.0 (take v.1.0 (drop c.loop-i.j c.args.payload.now))) (command_size v.0) v.1.0
 next_run c =
-    let g = c.before.before.before in
-    let y = g.before.before.before.before.before in
-    run_next (omega arith) g.command-at.ensures g.before.before.loop.invariant.4 (λ q. omega (arith, y.shared-slice-known.given q))
-    c.before.next.given.1
+    run_next (omega arith) c.command_at-next.ensures c.loop-i.invariant.4 (λ q. omega (arith, c.type_inv.script q))
+    c.in-Run.is
 
 -- and where it is an ECI
-next_eci : (c : tie.After-known-told2 invariant-loop decreases-loop)
-    → let l = c.before.before.before.before.before.loop in
-    let a = c.before.before.before.before.before.before.before.before.before.args in
-    Next a.script.now a.payload.now (length a.codewords.now) l.codewords l.i l.j l.at (eci c.before.next2.given.0.0) 4 0
+next_eci : (c : goal.In-Eci) → Next c.args.script.now c.args.payload.now (length c.args.codewords.now) c.loop-i.codewords c.loop-i.i c.loop-i.j c.loop-i.at (eci c.in-Eci.v) 4 0
 next_eci c =
-    let g = c.before.before.before in
-    let y = g.before.before.before.before.before in
-    eci_next (omega arith) g.command-at.ensures g.before.before.loop.invariant.4 (λ q. omega (arith, y.shared-slice-known.given q))
-    c.before.next2.given.1
+    eci_next (omega arith) c.command_at-next.ensures c.loop-i.invariant.4 (λ q. omega (arith, c.type_inv.script q))
+    c.in-Eci.is
 
 pub loop-i-init : goal.loop-i-init
-loop-i-init c =    
-    (
-      refl,
-      omega arith,
-      omega arith,
-      c.requires.1,
-      begun c.args.script.now c.args.payload.now (length c.args.codewords.now) c.args.codewords.now
-          (λ k. omega (arith, c.type_inv.script k)) c.requires.0,
-    )
+loop-i-init c = (
+  refl,
+  omega arith,
+  omega arith,
+  c.requires.1,
+  begun c.args.script.now c.args.payload.now (length c.args.codewords.now) c.args.codewords.now
+      (λ k. omega (arith, c.type_inv.script k)) c.requires.0,
+)
 
 pub command_at-next-requires : goal.command_at-next-requires
 command_at-next-requires c = omega arith
@@ -48,21 +37,21 @@ pub enum_known-next : goal.enum_known-next
 enum_known-next c = c.in-Run.keys1
 
 pub overflow_add-end : goal.overflow_add-end
-overflow_add-end c = let t = next_run c in omega arith
+overflow_add-end c = let t = next_run (goal.at.overflow_add-end c).In-Run in omega arith
 
 pub slice_bounds-write_run-count : goal.slice_bounds-write_run-count
-slice_bounds-write_run-count c = let t = next_run c in omega arith
+slice_bounds-write_run-count c = let t = next_run (goal.at.slice_bounds-write_run-count c).In-Run in omega arith
 
 pub slice_bounds-write_run-start : goal.slice_bounds-write_run-start
-slice_bounds-write_run-start c = let t = next_run c in omega arith
+slice_bounds-write_run-start c = let t = next_run (goal.at.slice_bounds-write_run-start c).In-Run in omega arith
 
 pub slice_bounds-write_run-end : goal.slice_bounds-write_run-end
-slice_bounds-write_run-end c = let t = next_run c in omega arith
+slice_bounds-write_run-end c = let t = next_run (goal.at.slice_bounds-write_run-end c).In-Run in omega arith
 
 pub write_run-at-requires : goal.write_run-at-requires
-write_run-at-requires c =    
+write_run-at-requires c =
     let n = c.in-Run.n in
-    let t = next_run c in
+    let t = next_run (goal.at.write_run-at-requires c).In-Run in
     let z : c.loop-i.j + n - c.loop-i.j ≡ n = omega arith in
     let w = c.loop-i.invariant.0 in
     rw (z, w) (omega arith, t.0, t.1, t.2.mode_has, t.2.room)
@@ -71,12 +60,12 @@ pub overflow_add-i : goal.overflow_add-i
 overflow_add-i c = omega arith
 
 pub loop-i-smaller-in-Run : goal.loop-i-smaller-in-Run
-loop-i-smaller-in-Run c = let t = next_run c in omega arith
+loop-i-smaller-in-Run c = let t = next_run (goal.at.loop-i-smaller-in-Run c).In-Run in omega arith
 
 pub loop-i-preserved-in-Run : goal.loop-i-preserved-in-Run
-loop-i-preserved-in-Run c =    
+loop-i-preserved-in-Run c =
     let n = c.in-Run.n in
-    let t = next_run c in
+    let t = next_run (goal.at.loop-i-preserved-in-Run c).In-Run in
     let z : c.loop-i.j + n - c.loop-i.j ≡ n = omega arith in
     let e = c.command_size-i.ensures.0 in
     (c.write_run-at.auto.0 ∙ c.loop-i.invariant.0, omega arith, omega arith, c.loop-i.invariant.3, rw e (t.2.done (rw z at c.write_run-at.ensures)))
@@ -85,17 +74,17 @@ pub enum_known-next-in-Eci-1 : goal.enum_known-next-in-Eci-1
 enum_known-next-in-Eci-1 c = c.in-Eci.keys2
 
 pub write_eci-at-requires : goal.write_eci-at-requires
-write_eci-at-requires c = rw c.loop-i.invariant.0 (omega arith, (next_eci c).room)
+write_eci-at-requires c = rw c.loop-i.invariant.0 (omega arith, (next_eci (goal.at.write_eci-at-requires c).In-Eci).room)
 
 pub overflow_add-i-in-Eci : goal.overflow_add-i-in-Eci
 overflow_add-i-in-Eci c = omega arith
 
 pub loop-i-smaller : goal.loop-i-smaller
-loop-i-smaller c = let t = next_eci c in omega arith
+loop-i-smaller c = let t = next_eci (goal.at.loop-i-smaller c).In-Eci in omega arith
 
 pub loop-i-preserved : goal.loop-i-preserved
-loop-i-preserved c =    
-    let t = next_eci c in
+loop-i-preserved c =
+    let t = next_eci (goal.at.loop-i-preserved c).In-Eci in
     (c.write_eci-at.auto.0 ∙ c.loop-i.invariant.0, omega arith, omega arith, c.loop-i.invariant.3, rw add-zero at (t.done c.write_eci-at.ensures))
 
 pub enum_told-1 : goal.enum_told-1

@@ -13,6 +13,6 @@ pub clear-requires : goal.clear-requires
 clear-requires c = omega arith
 
 pub returns : goal.returns
-returns c =    
+returns c =
     padded _ _ _ c.args.at c.write_bits.auto.0 (omega arith) c.write_bits.ensures
     c.clear.ensures

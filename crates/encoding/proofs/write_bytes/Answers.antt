@@ -5,19 +5,18 @@ use Rattle.encoding.proofs.WordsLeft.{word_room, word_done, all_done, words_left
 use Rattle.encoding.proofs.write_bytes.Goals as goal
 
 -- the byte that is next
-next : (c : tie.In-loop invariant-loop decreases-loop)
-    → WordsLeft 8 c.before.before.before.before.args.buf.now c.before.before.before.before.args.from
-    c.before.before.before.before.args.run.now c.before.loop.buf c.before.loop.at
-    (get_or c.before.before.before.before.args.run.now c.before.loop.j 0 ∷ drop (c.before.loop.j + 1)
-    c.before.before.before.before.args.run.now)
-next c = let l = c.before.loop in words_left_as (next_byte _ l.j (omega arith)) l.invariant.2
+next : (c : goal.In-loop-j) → WordsLeft 8 c.args.buf.now c.args.from
+    c.args.run.now c.loop-j.buf c.loop-j.at
+    (get_or c.args.run.now c.loop-j.j 0 ∷ drop (c.loop-j.j + 1)
+    c.args.run.now)
+next c = words_left_as (next_byte _ c.loop-j.j (omega arith)) c.loop-j.invariant.2
 
 pub bounds-run-j : goal.bounds-run-j
 bounds-run-j c = omega arith
 
 pub put-at-requires : goal.put-at-requires
-put-at-requires c =    
-    let r = word_room (8 * length c.args.buf.now) (next c) (omega arith) in
+put-at-requires c =
+    let r = word_room (8 * length c.args.buf.now) (next (goal.at.put-at-requires c).In-loop-j) (omega arith) in
     (omega arith, omega arith, omega arith)
 
 pub overflow_add-j : goal.overflow_add-j
@@ -27,7 +26,7 @@ pub loop-j-smaller : goal.loop-j-smaller
 loop-j-smaller c = omega arith
 
 pub loop-j-preserved : goal.loop-j-preserved
-loop-j-preserved c = (c.put-at.auto.0 ∙ c.loop-j.invariant.0, omega arith, word_done (next c) (rw c.as_usize.ensures.0 at c.put-at.ensures))
+loop-j-preserved c = (c.put-at.auto.0 ∙ c.loop-j.invariant.0, omega arith, word_done (next (goal.at.loop-j-preserved c).In-loop-j) (rw c.as_usize.ensures.0 at c.put-at.ensures))
 
 pub shape_of-buf : goal.shape_of-buf
 shape_of-buf c = c.loop-j.invariant.0

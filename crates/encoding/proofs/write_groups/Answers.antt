@@ -1,39 +1,23 @@
 -- `write_groups` meets its contract. Assumes nothing.
-use Rattle.general.proofs.Names.{refl, ◌∙◌, ◌∷◌, ◌+◌, ◌-◌, ◌*◌, arith, length, get_or, drop}
+use Rattle.general.proofs.Names.{refl, ◌∙◌, [], ◌∷◌, ◌+◌, ◌-◌, ◌*◌, arith, length, get_or, drop}
 use Rattle.script.specs.Writer.{numeric_words}
 use Rattle.encoding.specs.Written.{WordsLeft, group_at}
 use Rattle.encoding.proofs.WordsLeft.{begun, word_room, word_done, all_done, words_left_as, three_digits, one_digit, two_digits, no_digit}
 use Rattle.encoding.proofs.write_groups.Goals as goal
 
 -- three digits are left, or one, or two, or none
-three : (c : tie.In-loop invariant-loop decreases-loop)
-    → let l = c.before.loop in
-    let a = c.before.before.before.before.args in
-    WordsLeft 10 a.buf.now a.from (numeric_words a.run.now) l.buf l.at (group_at a.run.now l.j ∷ numeric_words (drop (l.j + 3) a.run.now))
-three c = let l = c.before.loop in words_left_as (three_digits c.before.before.before.before.args.run.now l.j (omega arith)) l.invariant.2
+three : (c : goal.In-loop-j) → WordsLeft 10 c.args.buf.now c.args.from (numeric_words c.args.run.now) c.loop-j.buf c.loop-j.at (group_at c.args.run.now c.loop-j.j ∷ numeric_words (drop (c.loop-j.j + 3) c.args.run.now))
+three c = words_left_as (three_digits c.args.run.now c.loop-j.j (omega arith)) c.loop-j.invariant.2
 
-one : (c : tie.Then1 invariant-loop decreases-loop)
-    → let l = c.before.before.loop in
-    let a = c.before.before.before.before.before.args in
-    WordsLeft 10 a.buf.now a.from (numeric_words a.run.now) l.buf l.at ((get_or a.run.now l.j 0 - 48) ∷ 1021 ∷ [])
-one c = let l = c.before.before.loop in words_left_as (one_digit c.before.before.before.before.before.args.run.now l.j (omega arith)) l.invariant.2
+one : (c : goal.Then-left-eq1) → WordsLeft 10 c.args.buf.now c.args.from (numeric_words c.args.run.now) c.loop-j.buf c.loop-j.at ((get_or c.args.run.now c.loop-j.j 0 - 48) ∷ 1021 ∷ [])
+one c = words_left_as (one_digit c.args.run.now c.loop-j.j (omega arith)) c.loop-j.invariant.2
 
-two : (c : tie.Then2 invariant-loop decreases-loop)
-    → let l = c.before.before.before.loop in
-    let a = c.before.before.before.before.before.before.args in
-    WordsLeft 10 a.buf.now a.from (numeric_words a.run.now) l.buf l.at
-    (((get_or a.run.now l.j 0 - 48) * 10 + (get_or a.run.now (l.j + 1) 0 - 48)) ∷ 1022 ∷ [])
-two c =
-    let l = c.before.before.before.loop in
-    words_left_as (two_digits c.before.before.before.before.before.before.args.run.now l.j (omega arith)) l.invariant.2
+two : (c : goal.Then-left-eq2) → WordsLeft 10 c.args.buf.now c.args.from (numeric_words c.args.run.now) c.loop-j.buf c.loop-j.at
+    (((get_or c.args.run.now c.loop-j.j 0 - 48) * 10 + (get_or c.args.run.now (c.loop-j.j + 1) 0 - 48)) ∷ 1022 ∷ [])
+two c =words_left_as (two_digits c.args.run.now c.loop-j.j (omega arith)) c.loop-j.invariant.2
 
-none : (c : tie.Else2 invariant-loop decreases-loop)
-    → let l = c.before.before.before.loop in
-    let a = c.before.before.before.before.before.before.args in
-    WordsLeft 10 a.buf.now a.from (numeric_words a.run.now) l.buf l.at (1023 ∷ [])
-none c =
-    let l = c.before.before.before.loop in
-    words_left_as (no_digit c.before.before.before.before.before.before.args.run.now l.j (omega arith)) l.invariant.2
+none : (c : goal.Else-left-eq2) → WordsLeft 10 c.args.buf.now c.args.from (numeric_words c.args.run.now) c.loop-j.buf c.loop-j.at (1023 ∷ [])
+none c =words_left_as (no_digit c.args.run.now c.loop-j.j (omega arith)) c.loop-j.invariant.2
 
 pub loop-j-init : goal.loop-j-init
 loop-j-init c = (refl, omega arith, begun 10 c.args.buf.now c.args.from (numeric_words c.args.run.now))
@@ -46,7 +30,7 @@ group-requires c = omega arith
 
 pub put-at-requires : goal.put-at-requires
 put-at-requires c =    
-    let r = word_room (8 * length c.args.buf.now) (three c) (omega arith) in
+    let r = word_room (8 * length c.args.buf.now) (three (goal.at.put-at-requires c).In-loop-j) (omega arith) in
     (omega arith, omega arith, omega arith)
 
 pub overflow_add-j : goal.overflow_add-j
@@ -56,7 +40,7 @@ pub loop-j-smaller : goal.loop-j-smaller
 loop-j-smaller c = omega arith
 
 pub loop-j-preserved : goal.loop-j-preserved
-loop-j-preserved c = (c.put-at.auto.0 ∙ c.loop-j.invariant.0, omega arith, word_done (three c) (rw c.group.ensures.0 at c.put-at.ensures))
+loop-j-preserved c = (c.put-at.auto.0 ∙ c.loop-j.invariant.0, omega arith, word_done (three (goal.at.loop-j-preserved c).In-loop-j) (rw c.group.ensures.0 at c.put-at.ensures))
 
 pub overflow_sub-left : goal.overflow_sub-left
 overflow_sub-left c = omega arith
@@ -66,19 +50,19 @@ digit-requires c = omega arith
 
 pub put-next-requires : goal.put-next-requires
 put-next-requires c =    
-    let r = word_room (8 * length c.args.buf.now) (one c) (omega arith) in
+    let r = word_room (8 * length c.args.buf.now) (one (goal.at.put-next-requires c).Then-left-eq1) (omega arith) in
     (omega arith, omega arith, omega arith)
 
 pub put-requires : goal.put-requires
 put-requires c =    
-    let r = word_room (8 * length c.args.buf.now) (word_done (one c) (rw c.digit.ensures.0 at c.put-next.ensures)) (omega arith) in
+    let r = word_room (8 * length c.args.buf.now) (word_done (one (goal.at.put-requires c).Then-left-eq1) (rw c.digit.ensures.0 at c.put-next.ensures)) (omega arith) in
     (omega arith, omega arith, omega arith)
 
 pub shape_of-buf-then-left-eq1 : goal.shape_of-buf-then-left-eq1
 shape_of-buf-then-left-eq1 c = c.put.auto.0 ∙ c.put-next.auto.0 ∙ c.loop-j.invariant.0
 
 pub returns-then-left-eq1 : goal.returns-then-left-eq1
-returns-then-left-eq1 c = all_done (word_done (word_done (one c) (rw c.digit.ensures.0 at c.put-next.ensures)) c.put.ensures)
+returns-then-left-eq1 c = all_done (word_done (word_done (one (goal.at.returns-then-left-eq1 c).Then-left-eq1) (rw c.digit.ensures.0 at c.put-next.ensures)) c.put.ensures)
 
 pub digit-requires-then-left-eq2 : goal.digit-requires-then-left-eq2
 digit-requires-then-left-eq2 c = omega arith
@@ -97,12 +81,12 @@ overflow_add-digit c = omega arith
 
 pub put-next-requires-then-left-eq2 : goal.put-next-requires-then-left-eq2
 put-next-requires-then-left-eq2 c =    
-    let r = word_room (8 * length c.args.buf.now) (two c) (omega arith) in
+    let r = word_room (8 * length c.args.buf.now) (two (goal.at.put-next-requires-then-left-eq2 c).Then-left-eq2) (omega arith) in
     (omega arith, omega arith, omega arith)
 
 pub put-requires-then-left-eq2 : goal.put-requires-then-left-eq2
 put-requires-then-left-eq2 c =    
-    let r = word_room (8 * length c.args.buf.now) (word_done (two c) (rw (c.digit-then-left-eq2.ensures.0, c.digit-then-left-eq2-2.ensures.0) at c.put-next-then-left-eq2.ensures))
+    let r = word_room (8 * length c.args.buf.now) (word_done (two (goal.at.put-requires-then-left-eq2 c).Then-left-eq2) (rw (c.digit-then-left-eq2.ensures.0, c.digit-then-left-eq2-2.ensures.0) at c.put-next-then-left-eq2.ensures))
     (omega arith) in
     (omega arith, omega arith, omega arith)
 
@@ -110,15 +94,15 @@ pub shape_of-buf-then-left-eq2 : goal.shape_of-buf-then-left-eq2
 shape_of-buf-then-left-eq2 c = c.put-then-left-eq2.auto.0 ∙ c.put-next-then-left-eq2.auto.0 ∙ c.loop-j.invariant.0
 
 pub returns-then-left-eq2 : goal.returns-then-left-eq2
-returns-then-left-eq2 c = all_done (word_done (word_done (two c) (rw (c.digit-then-left-eq2.ensures.0, c.digit-then-left-eq2-2.ensures.0) at c.put-next-then-left-eq2.ensures)) c.put-then-left-eq2.ensures)
+returns-then-left-eq2 c = all_done (word_done (word_done (two (goal.at.returns-then-left-eq2 c).Then-left-eq2) (rw (c.digit-then-left-eq2.ensures.0, c.digit-then-left-eq2-2.ensures.0) at c.put-next-then-left-eq2.ensures)) c.put-then-left-eq2.ensures)
 
 pub put-requires-2 : goal.put-requires-2
 put-requires-2 c =    
-    let r = word_room (8 * length c.args.buf.now) (none c) (omega arith) in
+    let r = word_room (8 * length c.args.buf.now) (none (goal.at.put-requires-2 c).Else-left-eq2) (omega arith) in
     (omega arith, omega arith, omega arith)
 
 pub shape_of-buf : goal.shape_of-buf
 shape_of-buf c = c.put-2.auto.0 ∙ c.loop-j.invariant.0
 
 pub returns : goal.returns
-returns c = all_done (word_done (none c) c.put-2.ensures)
+returns c = all_done (word_done (none (goal.at.returns c).Else-left-eq2) c.put-2.ensures)

@@ -26,7 +26,7 @@ pub overflow_add-first : goal.overflow_add-first
 overflow_add-first c = omega arith
 
 pub put-at-requires : goal.put-at-requires
-put-at-requires c =    
+put-at-requires c =
     let r = two_room (8 * length c.args.buf.now) (words_left_as (six_digits _ c.loop-j.j (omega arith)) c.loop-j.invariant.3) (omega arith) in
     (omega arith, omega arith, omega arith)
 
@@ -37,7 +37,7 @@ pub loop-j-smaller : goal.loop-j-smaller
 loop-j-smaller c = omega arith
 
 pub loop-j-preserved : goal.loop-j-preserved
-loop-j-preserved c =    
+loop-j-preserved c =
     let d = words_left_as (six_digits c.args.run.now c.loop-j.j (omega arith)) c.loop-j.invariant.3 in
     (c.put-at.auto.0 ∙ c.loop-j.invariant.0, omega arith, omega arith, two_done d (rw (c.group-first.ensures.0, c.group-second.ensures.0) at (rw (two_words 10 10 _ _) at c.put-at.ensures)))
 
@@ -45,6 +45,6 @@ pub shape_of-buf : goal.shape_of-buf
 shape_of-buf c = c.loop-j.invariant.0
 
 pub returns : goal.returns
-returns c =    
+returns c =
     let e : c.loop-j.j ≡ length c.args.run.now / 6 * 6 = omega arith in
     words_left_as (ap (λ (k : ℕ). numeric_words (drop k c.args.run.now)) e) c.loop-j.invariant.3

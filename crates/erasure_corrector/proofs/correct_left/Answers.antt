@@ -12,7 +12,7 @@ returns-then-is_none c = none_settled (λ i. omega (arith, c.type_inv.block i)) 
 
 pub returns-then-fix : goal.returns-then-fix
 unfolding outcome
-returns-then-fix c =    
+returns-then-fix c =
     one_settled (λ i. omega (arith, c.type_inv.block i)) c.requires.has_erased.0 (λ i. omega (arith, c.type_inv.block i)) c.try_one-fix.ensures
     (sym c.if-fix.true)
 
@@ -21,10 +21,13 @@ syndromes-requires c = record { field = c.requires.field.0; first_bound = (omega
 
 pub repair-requires : goal.repair-requires
 repair-requires c = let O = c.try_one-fix.ensures in
-    let left = sym c.if-fix.false in record { field = (c.requires.field.0, omega arith); has_erased = (
+    let left = sym c.if-fix.false in record {
+      field = (c.requires.field.0, omega arith);
+      has_erased = (
         left_erased O left c.requires.field.1 c.requires.has_erased.0,
         c.syndromes.ensures _ (left_remains O left c.requires.field.1 c.requires.has_erased.1),
-      ) }
+      );
+    }
 
 pub returns : goal.returns
 returns c = left_settled c.try_one-fix.ensures (sym c.if-fix.false) c.requires.field.1 _ c.repair.ensures

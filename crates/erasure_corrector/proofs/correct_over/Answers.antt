@@ -30,19 +30,22 @@ pub syndromes-requires : goal.syndromes-requires
 syndromes-requires c = record { field = c.requires.field; parity_bound = omega arith; s_len = (refl, zeros 256) }
 
 pub repair-requires : goal.repair-requires
-repair-requires c = record { field = (c.requires.field, c.requires.first_bound.0); has_erased = (
-        record {
-          parity_le = omega arith;
-          small = omega arith;
-          size = c.requires.first_bound.1;
-          c = omega (arith, c.if-f-eq0.false);
-          fit = omega arith;
-          are = c.erased-f.ensures;
-        },
-        c.syndromes.ensures,
-      ) }
+repair-requires c = record {
+  field = (c.requires.field, c.requires.first_bound.0);
+  has_erased = (
+    record {
+      parity_le = omega arith;
+      small = omega arith;
+      size = c.requires.first_bound.1;
+      c = omega (arith, c.if-f-eq0.false);
+      fit = omega arith;
+      are = c.erased-f.ensures;
+    },
+    c.syndromes.ensures,
+  );
+}
 
 pub returns : goal.returns
-returns c =    
+returns c =
     c.repair.ensures
     ∙ fit_settled _ _ _ _ _ (fit _ _ c.if-parity-eq0.false (omega arith) (omega arith)) (omega (arith, c.erased-f.ensures))

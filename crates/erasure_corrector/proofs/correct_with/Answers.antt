@@ -14,7 +14,7 @@ erased-f-requires c = let fits = c.is_untabled.ensures c.if-is_untabled.false in
 
 pub returns-then-parity-f : goal.returns-then-parity-f
 unfolding outcome
-returns-then-parity-f c =    
+returns-then-parity-f c =
     let fits = c.is_untabled.ensures c.if-is_untabled.false in
     many_refused _ _ _ _ _ (fit _ _ (λ e. omega (arith, fits.0.0)) fits.1 fits.2) (omega (arith, c.erased-f.ensures))
 
@@ -23,13 +23,15 @@ correct_left-requires c = let fits = c.is_untabled.ensures c.if-is_untabled.fals
     record { tabled = fits; remains = whole_left (c.remainder-left.ensures _ c.requires.2) fits.0 (omega arith) }
 
 pub returns-then-f-eq0 : goal.returns-then-f-eq0
-returns-then-f-eq0 c =    
+returns-then-f-eq0 c =
     c.correct_left.ensures
     ∙ none_erased _ _ _ _ _ (sym c.erased-f.ensures ∙ c.if-f-eq0.true)
 
 pub correct_left-requires-2 : goal.correct_left-requires-2
 correct_left-requires-2 c = let fits = c.is_untabled.ensures c.if-is_untabled.false in
-    record { field = (c.requires.0, c.requires.1, c.requires.2, fits.0); has_erased = (
+    record {
+      field = (c.requires.0, c.requires.1, c.requires.2, fits.0);
+      has_erased = (
         record {
           parity_le = omega (arith, fits.0.1);
           small = fits.2;
@@ -39,10 +41,11 @@ correct_left-requires-2 c = let fits = c.is_untabled.ensures c.if-is_untabled.fa
           are = c.erased-f.ensures;
         },
         whole_left (c.remainder-left.ensures _ c.requires.2) fits.0 (omega arith),
-      ) }
+      );
+    }
 
 pub returns : goal.returns
-returns c =    
+returns c =
     let fits = c.is_untabled.ensures c.if-is_untabled.false in
     c.correct_left-2.ensures
     ∙ fit_settled _ _ _ _ _ (fit _ _ (λ e. omega (arith, fits.0.0)) fits.1 fits.2)

@@ -7,21 +7,19 @@ use Rattle.erasure_corrector.proofs.Repairs.{erased_next}
 use Rattle.erasure_corrector.proofs.erased.Goals as goal
 
 -- the place of a turn is counted
-next : (c : tie.After-differ invariant-loop decreases-loop) →
-    let flags = c.before.before.before.before.before.args.flags.now in
-    let loop = c.before.before.before.loop in
-    loop.count + c.differ.result + zeros_of (loop.k + 1) (seq flags) ≡ loop.k + 1
-next c = erased_next _ _ _ _ c.before.before.before.loop.invariant.0 c.differ.ensures
+next : (c : goal.After-differ-count) → let flags = c.args.flags.now in
+    c.loop-k.count + c.differ-count.result + zeros_of (c.loop-k.k + 1) (seq flags) ≡ c.loop-k.k + 1
+next c = erased_next _ _ _ _ c.loop-k.invariant.0 c.differ-count.ensures
 
 pub loop-k-init : goal.loop-k-init
 unfolding zeros_of
 loop-k-init c = (refl, omega arith)
 
 pub overflow_add-count : goal.overflow_add-count
-overflow_add-count c = omega (arith, next c)
+overflow_add-count c = omega (arith, next (goal.at.overflow_add-count c).After-differ-count)
 
 pub loop-k-preserved : goal.loop-k-preserved
-loop-k-preserved c = (next c, omega arith)
+loop-k-preserved c = (next (goal.at.loop-k-preserved c).After-differ-count, omega arith)
 
 pub returns : goal.returns
 returns c = let flags = c.args.flags.now in

@@ -10,25 +10,17 @@ use Rattle.erasure_corrector.proofs.Repairs.{Settles, clean_settled, long_settle
 use Rattle.erasure_corrector.proofs.repair.Goals as goal
 
 -- what the locator that was applied makes of the block
-applied : (c : tie.After-apply) →
-    let start = c.before.before.before.before.before.before.before.before.before.before.before.before.before.before.before.before.before.before in
-    let block = start.args.block.now in
-    let fix = c.apply in
-    Settles (settled block (admitted (poly_of start.args.field.now) start.args.first start.args.parity start.args.flags.now block))
-    fix.result.done fix.result.count fix.new.1.1.0
+applied : (c : goal.After-apply-fix) → let block = c.args.block.now in
+    Settles (settled block (admitted (poly_of c.args.field.now) c.args.first c.args.parity c.args.flags.now block))
+    c.apply-fix.result.done c.apply-fix.result.count c.apply-fix.new.block
 applied c =
-    let rooted = c.before.before.before.before.before in
-    let located = rooted.before.before.before.before in
-    let tested = located.before.before.before in
-    let start = tested.before.before.before.before.before.before in
-    let bytes = tested.before.before.before.before.before.slice-known in
-    applied_settled (the_field _ start.requires.0.0) _ (λ i. omega (arith, bytes.given i)) start.requires.1.0 start.requires.1.1
-    (sym tested.if1.false ∙ tested.before.clean.ensures) located.locate.ensures rooted.add-roots.ensures c.apply.ensures
-    (omega (arith, rooted.before.before.if2.false))
+    applied_settled (the_field _ c.requires.field.0) _ (λ i. omega (arith, c.type_inv.block i)) c.requires.has_erased.0 c.requires.has_erased.1
+    (sym c.if-clean.false ∙ c.clean.ensures) c.locate-l.ensures c.add_roots-top.ensures c.apply-fix.ensures
+    (omega (arith, c.if-parity-l.false))
 
 pub returns-then-clean : goal.returns-then-clean
 unfolding outcome
-returns-then-clean c =    
+returns-then-clean c =
     clean_settled (the_field _ c.requires.field.0) _ (λ i. omega (arith, c.type_inv.block i)) c.requires.has_erased.0 c.requires.has_erased.1
     (sym c.if-clean.true ∙ c.clean.ensures)
 
@@ -38,7 +30,7 @@ locate-l-requires c = let B = c.requires.has_erased.0 in
 
 pub returns-then-parity-l : goal.returns-then-parity-l
 unfolding outcome
-returns-then-parity-l c =    
+returns-then-parity-l c =
     long_settled (the_field _ c.requires.field.0) _ (λ i. omega (arith, c.type_inv.block i)) c.requires.has_erased.0 c.requires.has_erased.1
     (sym c.if-clean.false ∙ c.clean.ensures) c.locate-l.ensures c.if-parity-l.true
 
@@ -52,8 +44,8 @@ apply-fix-requires c = let B = c.requires.has_erased.0 in
 
 pub returns-then-fix : goal.returns-then-fix
 unfolding outcome
-returns-then-fix c = (applied c).repaired (sym c.if-fix.true)
+returns-then-fix c = (applied (goal.at.returns-then-fix c).After-apply-fix).repaired (sym c.if-fix.true)
 
 pub returns : goal.returns
 unfolding outcome
-returns c = (applied c).lost (sym c.if-fix.false)
+returns c = (applied (goal.at.returns c).After-apply-fix).lost (sym c.if-fix.false)

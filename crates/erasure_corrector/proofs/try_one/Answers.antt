@@ -14,7 +14,7 @@ pub remainder-requires : goal.remainder-requires
 remainder-requires c = (c.requires.field.1.size, search rules)
 
 pub returns-then-is_none : goal.returns-then-is_none
-returns-then-is_none c =    
+returns-then-is_none c =
     tried _ _ _ _ c.if-n-k.false c.only_erased-k.ensures c.requires.field.2
     (c.remainder.ensures _ c.requires.field.1) refl (c.is_none.ensures c.if-is_none.true) c.differ.ensures
 

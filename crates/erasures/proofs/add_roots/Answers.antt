@@ -5,7 +5,7 @@ use Rattle.erasures.proofs.Rooting.{rooted_start, rooted_next, rooted_end, roote
 use Rattle.erasures.proofs.add_roots.Goals as goal
 
 pub loop-k-init : goal.loop-k-init
-loop-k-init c =    
+loop-k-init c =
     let one = c.requires.f_len in
     (rooted_start _ (the_field _ c.requires.field) _ c.requires.flags_len_bound.0 _ _ _ one.0 (λ i. omega (arith, c.type_inv.f i)) one.1 one.2, omega arith)
 

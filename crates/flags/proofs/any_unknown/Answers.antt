@@ -7,7 +7,7 @@ pub loop-i-init : goal.loop-i-init
 loop-i-init c = absurd (omega arith)
 
 pub loop-i-preserved : goal.loop-i-preserved
-loop-i-preserved c =    
+loop-i-preserved c =
     let here = get_or c.args.square.now c.loop-i.i 0 in
     λ k a b. elim (dec_lt k c.loop-i.i) [
       | yes l ↦ omega (arith, c.loop-i.invariant k a l, or_add_and c.loop-i.seen here, and_le_r c.loop-i.seen here)

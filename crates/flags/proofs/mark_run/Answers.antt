@@ -11,6 +11,6 @@ loop-i-preserved c = let made = c.mark_group.ensures in
     (made.0, omega arith, omega arith, made.1 ∙ c.loop-i.invariant.3)
 
 pub returns : goal.returns
-returns c =    
+returns c =
     let e : c.loop-i.i ≡ c.args.to = omega arith in
     (rw e at c.loop-i.invariant.0, c.loop-i.invariant.3)

@@ -56,7 +56,7 @@ pub offset_bounds-table-c-in-loop-c-2 : goal.offset_bounds-table-c-in-loop-c-2
 offset_bounds-table-c-in-loop-c-2 c = omega arith
 
 pub bounds-table-c-in-loop-c-2 : goal.bounds-table-c-in-loop-c-2
-bounds-table-c-in-loop-c-2 c =    
+bounds-table-c-in-loop-c-2 c =
     let first = set c.loop-c.table (192 + c.loop-c.c) c.factor.result in
     omega (arith, length-set c.loop-c.table (192 + c.loop-c.c) c.factor.result, length-set first (384 + c.loop-c.c) c.rest_of.result)
 

@@ -22,7 +22,7 @@ pub bounds-table-at : goal.bounds-table-at
 bounds-table-at c = omega arith
 
 pub overflow_cast-row : goal.overflow_cast-row
-overflow_cast-row c =    
+overflow_cast-row c =
     omega (
       arith,
       (bit_copied c.args.i c.requires.3 c.requires.0 c.requires.1 c.section-at.ensures.0 c.section-at.ensures.1
@@ -39,7 +39,7 @@ pub loop-c-smaller : goal.loop-c-smaller
 loop-c-smaller c = omega arith
 
 pub loop-c-preserved : goal.loop-c-preserved
-loop-c-preserved c =    
+loop-c-preserved c =
     let bit = bit_copied c.args.i c.requires.3 c.requires.0 c.requires.1 c.section-at.ensures.0 c.section-at.ensures.1 c.loop-c-test.true in
     filling_next _ c.loop-c.invariant c.requires.0 (omega arith) bit.0 bit.1
 

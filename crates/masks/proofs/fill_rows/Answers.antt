@@ -41,7 +41,7 @@ pub offset_bounds-table-c-in-loop-c-2 : goal.offset_bounds-table-c-in-loop-c-2
 offset_bounds-table-c-in-loop-c-2 c = omega arith
 
 pub bounds-table-c-in-loop-c-2 : goal.bounds-table-c-in-loop-c-2
-bounds-table-c-in-loop-c-2 c =    
+bounds-table-c-in-loop-c-2 c =
     let first = set c.loop-c.table (192 + c.loop-c.c) c.inverts_low.result in
     omega (arith, length-set c.loop-c.table (192 + c.loop-c.c) c.inverts_low.result, length-set first (384 + c.loop-c.c) c.inverts_low-in-loop-c.result)
 
@@ -52,12 +52,11 @@ pub loop-c-smaller : goal.loop-c-smaller
 loop-c-smaller c = omega arith
 
 pub loop-c-preserved : goal.loop-c-preserved
-loop-c-preserved c =    
-    (
-      rows_next _ _ _ c.loop-c.invariant.0 (omega arith) c.requires.3 c.inverts_low-in-loop-c-2.ensures c.inverts_low.ensures
-          c.inverts_low-in-loop-c.ensures,
-      omega arith,
-    )
+loop-c-preserved c = (
+  rows_next _ _ _ c.loop-c.invariant.0 (omega arith) c.requires.3 c.inverts_low-in-loop-c-2.ensures c.inverts_low.ensures
+      c.inverts_low-in-loop-c.ensures,
+  omega arith,
+)
 
 pub shape_of-table : goal.shape_of-table
 shape_of-table c = c.loop-c.invariant.0.size ∙ sym c.requires.1

@@ -10,7 +10,7 @@ pub overflow_add-result-3 : goal.overflow_add-result-3
 overflow_add-result-3 c = omega (arith, rest_le (c.args.i + 1))
 
 pub returns : goal.returns
-returns c =    
+returns c =
     let t = c.args.table.now in
     let i = c.args.i in
     let k = c.args.c in

@@ -16,7 +16,7 @@ pub loop-c-init : goal.loop-c-init
 loop-c-init c = filling_start c.requires.4
 
 pub inverts_three-requires : goal.inverts_three-requires
-inverts_three-requires c =    
+inverts_three-requires c =
     let m : 2 < c.args.mask = omega arith in (
       c.requires.2.size,
       c.requires.0,
@@ -36,7 +36,7 @@ pub loop-c-smaller : goal.loop-c-smaller
 loop-c-smaller c = omega arith
 
 pub loop-c-preserved : goal.loop-c-preserved
-loop-c-preserved c =    
+loop-c-preserved c =
     let m : 2 < c.args.mask = omega arith in
     filling_next _ c.loop-c.invariant (omega (arith, m)) (omega arith)
     (c.inverts_three.ensures.0 ∙ mask_above c.args.mask _ _ m) c.inverts_three.ensures.1

@@ -7,12 +7,15 @@ use Rattle.general.proofs.Names.{arith}
 use Rattle.parity.proofs.encode_over.Goals as goal
 
 pub returns-then-parity-eq0 : goal.returns-then-parity-eq0
+unfolding encoding
 returns-then-parity-eq0 c = unfit_refused _ _ _ _ (unfit_parity _ _ c.if-parity-eq0.true)
 
 pub returns-then-n-parity : goal.returns-then-n-parity
+unfolding encoding
 returns-then-n-parity c = unfit_refused _ _ _ _ (unfit_length _ _ c.if-n-parity.true)
 
 pub returns-then-n-gt255 : goal.returns-then-n-gt255
+unfolding encoding
 returns-then-n-gt255 c = unfit_refused _ _ _ _ (unfit_long _ _ c.if-n-gt255.true)
 
 pub write_parity-requires : goal.write_parity-requires
@@ -20,7 +23,7 @@ write_parity-requires c = record { field = c.requires.field; k_in_bounds = (omeg
 
 pub returns : goal.returns
 unfolding encoding
-returns c =    
+returns c =
     fit_written _ _ _ _
     (fit _ _ c.if-parity-eq0.false (omega arith) (omega arith))
     (omega arith) _

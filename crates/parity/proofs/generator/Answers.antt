@@ -15,12 +15,11 @@ pub slice_bounds-add_moved-end-in-loop-n : goal.slice_bounds-add_moved-end-in-lo
 slice_bounds-add_moved-end-in-loop-n c = sym c.loop-n.invariant.0
 
 pub loop-n-preserved : goal.loop-n-preserved
-loop-n-preserved c =    
-    (
-      c.add_moved.ensures.size ∙ c.loop-n.invariant.0,
-      multiplied _ (the_field _ c.requires.field) _ _ _ _ _ c.loop-n.invariant.1 c.power-root.ensures c.add_moved.ensures,
-      omega arith,
-    )
+loop-n-preserved c = (
+  c.add_moved.ensures.size ∙ c.loop-n.invariant.0,
+  multiplied _ (the_field _ c.requires.field) _ _ _ _ _ c.loop-n.invariant.1 c.power-root.ensures c.add_moved.ensures,
+  omega arith,
+)
 
 pub returns : goal.returns
 returns c = (c.loop-n.invariant.0, generator_end _ _ _ _ _ c.loop-n.invariant.1 c.loop-n.invariant.2 (omega arith))

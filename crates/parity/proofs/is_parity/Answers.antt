@@ -19,13 +19,13 @@ returns-then-b-i-ne0 c = λ e. absurd (false≢true e)
 
 pub loop-i-preserved : goal.loop-i-preserved
 loop-i-preserved c = (
-      omega arith,
-      omega arith,
-      λ k h l. elim (dec_lt k c.loop-i.i) [
-        | yes q ↦ c.loop-i.invariant.2 k h q
-        | no q ↦ let e : k ≡ c.loop-i.i = omega arith in rw e (omega arith)
-      ],
-    )
+  omega arith,
+  omega arith,
+  λ k h l. elim (dec_lt k c.loop-i.i) [
+    | yes q ↦ c.loop-i.invariant.2 k h q
+    | no q ↦ let e : k ≡ c.loop-i.i = omega arith in rw e (omega arith)
+  ],
+)
 
 pub returns : goal.returns
 returns c = λ e. ((omega arith, omega arith, omega arith), λ i h l. c.loop-i.invariant.2 i h (omega arith))

@@ -5,14 +5,13 @@ use Rattle.parity.proofs.Left.{left_written}
 use Rattle.parity.proofs.put_left.Goals as goal
 
 pub put_behind-requires : goal.put_behind-requires
-put_behind-requires c =    
+put_behind-requires c =
     let fits = c.is_parity.ensures c.if-is_parity.true in
     (c.requires.k_in_bounds.0, omega arith, c.bytes-b.ensures.0)
 
 pub returns-then-is_parity : goal.returns-then-is_parity
-returns-then-is_parity c =    
-    let fits = c.is_parity.ensures c.if-is_parity.true in
-    (
+returns-then-is_parity c =
+    let fits = c.is_parity.ensures c.if-is_parity.true in (
       λ _. left_written _ _ _ _ _ (λ i. omega (
         arith,
         c.type_inv.block

@@ -8,7 +8,7 @@ pub divide-requires : goal.divide-requires
 divide-requires c = record { field = c.requires.field; d_in_bounds = (omega arith, omega arith, omega arith); monic = c.requires.monic }
 
 pub returns : goal.returns
-returns c =    
+returns c =
     written _ (the_field _ c.requires.field) _ _ _ _ _ _ (λ i. omega (arith, c.type_inv.block i))
     c.requires.k_in_bounds.1 c.requires.k_in_bounds.0
     c.copy.ensures c.divide.ensures.1 c.copy-2.ensures

@@ -8,7 +8,7 @@ write_parity-requires c = let g = c.generator-g.ensures in
     record { field = c.han_xin-field.ensures.0; k_in_bounds = (c.requires.0, c.requires.1, omega arith); monic = g.1.monic }
 
 pub returns : goal.returns
-returns c =    
+returns c =
     c.write_parity.ensures 1 c.generator-g.ensures.1
     ∙ ap (λ (p : ℕ). written_of p 1 (length c.args.block.now - c.args.k) c.args.block.now)
     c.han_xin-field.ensures.1

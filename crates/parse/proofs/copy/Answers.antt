@@ -25,6 +25,6 @@ pub shape_of-to : goal.shape_of-to
 shape_of-to c = c.loop-i.invariant.0
 
 pub returns : goal.returns
-returns c =    
+returns c =
     let e : c.loop-i.i ≡ c.args.n = omega arith in
     c.loop-i.invariant.2 ∙ rw e

@@ -5,7 +5,7 @@ use Rattle.general.proofs.Names.{◌≡◌, refl, ap, subst, ℕ, ◌+◌, ◌-�
 use Rattle.placement.proofs.push.Goals as goal
 
 pub overflow_add-v : goal.overflow_add-v
-overflow_add-v c =    
+overflow_add-v c =
     omega (
       arith,
       sum_small c.requires.0 _ _ c.requires.1 c.requires.2,
@@ -14,12 +14,12 @@ overflow_add-v c =
     )
 
 pub returns-then-bits-lt8 : goal.returns-then-bits-lt8
-returns-then-bits-lt8 c =    
+returns-then-bits-lt8 c =
     let v = ap (λ (y : ℕ). y + c.args.x) (shifted c.requires.0 _ _ c.requires.1 c.requires.2) in
     let few = few_pushed c.requires.0 _ _ c.requires.1 c.requires.2 v refl refl c.if-bits-lt8.true in (few.0, refl, few.1)
 
 pub returns : goal.returns
-returns c =    
+returns c =
     let left = c.args.r.bits + c.args.w - 8 in
     let l : c.args.r.bits + c.args.w ≡ 8 + (c.args.r.bits + c.args.w - 8) = omega arith in
     let e = shifted c.requires.0 _ _ c.requires.1 c.requires.2 in

@@ -35,20 +35,18 @@ pub overflow_shr-x : goal.overflow_shr-x
 overflow_shr-x c = omega arith
 
 pub advance-r-requires : goal.advance-r-requires
-advance-r-requires c =    
+advance-r-requires c =
     let a = c.requires.0 in
     (c.loop-r.invariant.0, omega arith, omega arith, omega (arith, a.masked.side, lowest_size a))
 
 pub loop-r-smaller : goal.loop-r-smaller
-loop-r-smaller c =    
-    let bytes = c.type_inv.kinds in
-    let m = last_moves c.requires.0 (λ i. omega (arith, bytes i)) c.requires.3 c.loop-r-test.true (omega arith)
+loop-r-smaller c =
+    let m = last_moves c.requires.0 (λ i. omega (arith, c.type_inv.kinds i)) c.requires.3 c.loop-r-test.true (omega arith)
     c.eight-k.ensures c.modules-x.ensures c.advance-r.ensures.1 in omega arith
 
 pub loop-r-preserved : goal.loop-r-preserved
-loop-r-preserved c =    
-    let bytes = c.type_inv.kinds in
-    let m = last_moves c.requires.0 (λ i. omega (arith, bytes i)) c.requires.3 c.loop-r-test.true (omega (arith, c.loop-r.invariant.1, c.requires.4))
+loop-r-preserved c =
+    let m = last_moves c.requires.0 (λ i. omega (arith, c.type_inv.kinds i)) c.requires.3 c.loop-r-test.true (omega (arith, c.loop-r.invariant.1, c.requires.4))
     c.eight-k.ensures c.modules-x.ensures c.advance-r.ensures.1 in
     (c.advance-r.ensures.0, omega arith, m.1, reads_on c.loop-r.invariant.3 m.2, c.advance-r.auto.0 ∙ c.loop-r.invariant.4)
 

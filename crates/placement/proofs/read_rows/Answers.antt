@@ -9,9 +9,8 @@ use Rattle.information.specs.Inner.{lowest}
 use Rattle.placement.proofs.read_rows.Goals as goal
 
 -- the row of a turn lies in the square
-inside : (c : tie.In-loop invariant-loop decreases-loop) →
-    let side = c.before.before.before.before.before.before.before.before.args.side in c.before.loop.i * side + side ≤ side * side
-inside c = row_inside _ _ c.loop-test.true
+inside : (c : goal.In-loop-i) → let side = c.args.side in c.loop-i.i * side + side ≤ side * side
+inside c = row_inside _ _ c.loop-i-test.true
 
 pub overflow_add-columns : goal.overflow_add-columns
 overflow_add-columns c = omega arith
@@ -26,7 +25,7 @@ pub columns-requires : goal.columns-requires
 columns-requires c = (omega arith, refl)
 
 pub loop-i-init : goal.loop-i-init
-loop-i-init c =    
+loop-i-init c =
     let m = mask_bit _ _ in
     let ks = c.args.kinds.now in
     let sq = lowest c.args.square.now in
@@ -47,10 +46,10 @@ mask_row-requires c = let columns = c.columns.ensures in
     (omega arith, omega arith, columns_fewer (omega arith) columns, columns, c.loop-i.invariant.0)
 
 pub overflow_mul-at : goal.overflow_mul-at
-overflow_mul-at c = omega (arith, inside c)
+overflow_mul-at c = omega (arith, inside (goal.at.overflow_mul-at c).In-loop-i)
 
 pub overflow_add-end : goal.overflow_add-end
-overflow_add-end c = omega (arith, inside c)
+overflow_add-end c = omega (arith, inside (goal.at.overflow_add-end c).In-loop-i)
 
 pub slice_bounds-read_row-count : goal.slice_bounds-read_row-count
 slice_bounds-read_row-count c = omega arith
@@ -59,7 +58,7 @@ pub slice_bounds-read_row-start : goal.slice_bounds-read_row-start
 slice_bounds-read_row-start c = omega arith
 
 pub slice_bounds-read_row-end : goal.slice_bounds-read_row-end
-slice_bounds-read_row-end c = omega (arith, inside c, length_lowest c.args.square.now)
+slice_bounds-read_row-end c = omega (arith, inside (goal.at.slice_bounds-read_row-end c).In-loop-i, length_lowest c.args.square.now)
 
 pub slice_bounds-read_row-count-in-loop-i : goal.slice_bounds-read_row-count-in-loop-i
 slice_bounds-read_row-count-in-loop-i c = omega arith
@@ -68,15 +67,15 @@ pub slice_bounds-read_row-start-in-loop-i : goal.slice_bounds-read_row-start-in-
 slice_bounds-read_row-start-in-loop-i c = omega arith
 
 pub slice_bounds-read_row-end-in-loop-i : goal.slice_bounds-read_row-end-in-loop-i
-slice_bounds-read_row-end-in-loop-i c = omega (arith, inside c)
+slice_bounds-read_row-end-in-loop-i c = omega (arith, inside (goal.at.slice_bounds-read_row-end-in-loop-i c).In-loop-i)
 
 pub slice_bounds-read_row-end-in-loop-i-2 : goal.slice_bounds-read_row-end-in-loop-i-2
 slice_bounds-read_row-end-in-loop-i-2 c = sym c.mask_row.ensures.0.size
 
 pub read_row-r-requires : goal.read_row-r-requires
-read_row-r-requires c =    
+read_row-r-requires c =
     let side = c.args.side in
-    let h : c.loop-i.i * c.args.side + c.args.side ≤ length c.args.square.now = omega (arith, inside c) in
+    let h : c.loop-i.i * c.args.side + c.args.side ≤ length c.args.square.now = omega (arith, inside (goal.at.read_row-r-requires c).In-loop-i) in
     let few = part_length (c.loop-i.i * side) side c.args.kinds.now (omega arith) in
     let row = aligned (c.loop-i.i * side) side c.requires.0 c.mask_row.ensures.0 c.requires.2 (omega arith) in
     (row, record { few = c.loop-i.invariant.1.few; small = c.loop-i.invariant.1.small }, refl, omega (arith, few))
@@ -88,9 +87,9 @@ pub loop-i-smaller : goal.loop-i-smaller
 loop-i-smaller c = omega arith
 
 pub loop-i-preserved : goal.loop-i-preserved
-loop-i-preserved c =    
+loop-i-preserved c =
     let side = c.args.side in
-    let h : c.loop-i.i * c.args.side + c.args.side ≤ length c.args.square.now = omega (arith, inside c) in
+    let h : c.loop-i.i * c.args.side + c.args.side ≤ length c.args.square.now = omega (arith, inside (goal.at.loop-i-preserved c).In-loop-i) in
     let mask-row = c.mask_row.ensures in
     let read-row = c.read_row-r.ensures in
     let sq = c.args.square.now in
@@ -104,7 +103,7 @@ pub shape_of-out : goal.shape_of-out
 shape_of-out c = c.loop-i.invariant.3.words.size
 
 pub returns : goal.returns
-returns c =    
+returns c =
     let e : c.loop-i.i ≡ c.args.side = omega arith in
     rows_done _ _ _ _
     (omega (arith, ap (λ (n : ℕ). n * c.args.side) e, length_lowest c.args.square.now)) c.loop-i.invariant.1 c.loop-i.invariant.3

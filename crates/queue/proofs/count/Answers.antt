@@ -6,20 +6,17 @@ use Rattle.queue.proofs.Loops.{here, count_start, count_stop, count_next, count_
 use Rattle.queue.proofs.count.Goals as goal
 
 -- what was answered for the entry
-answered : (c : tie.After-refusal invariant-loop decreases-loop)
-    → let start = c.before.before.before.before.before.before.before.before in
-    let loop = c.before.before.before.before.before.before.loop in
-    c.refusal.result ≡ entry_refusal (front loop.n start.args.state.now) (here _ _ loop.invariant start.requires)
-answered c = rw (c.before.before.before.wide.ensures, c.before.wide2.ensures) at c.refusal.ensures
+answered : (c : goal.After-refusal) → c.refusal.result ≡ entry_refusal (front c.loop-n.n c.args.state.now) (here _ _ c.loop-n.invariant c.requires)
+answered c = rw (c.wide.ensures, c.wide-in-loop-n.ensures) at c.refusal.ensures
 
 pub loop-n-init : goal.loop-n-init
 loop-n-init c = count_start _
 
 pub returns-then-refusal-ne0 : goal.returns-then-refusal-ne0
-returns-then-refusal-ne0 c = count_stop _ _ c.loop-n.invariant c.requires (omega arith) (λ e. c.if-refusal-ne0.true (answered c ∙ e))
+returns-then-refusal-ne0 c = count_stop _ _ c.loop-n.invariant c.requires (omega arith) (λ e. c.if-refusal-ne0.true (answered (goal.at.returns-then-refusal-ne0 c).After-refusal ∙ e))
 
 pub loop-n-preserved : goal.loop-n-preserved
-loop-n-preserved c = count_next _ _ c.loop-n.invariant c.requires (omega arith) (sym (answered c) ∙ c.if-refusal-ne0.false)
+loop-n-preserved c = count_next _ _ c.loop-n.invariant c.requires (omega arith) (sym (answered (goal.at.loop-n-preserved c).After-refusal) ∙ c.if-refusal-ne0.false)
 
 pub returns : goal.returns
 returns c = count_end _ _ c.loop-n.invariant c.requires (omega arith)

@@ -7,47 +7,43 @@ use Rattle.queue.proofs.Events.{hand_in_short, hand_in_refused, hand_in_accepted
 use Rattle.queue.proofs.hand_in.Goals as goal
 
 -- what was answered is the refusal behind the queue
-answered : (c : tie.After-refusal)
-    → let o = c.before.before.before.before.before.before.args in
-    c.refusal.result ≡ entry_refusal (queue_of o.state.now) (waiting o.head o.side)
-answered c = rw c.before.before.count.ensures.is c.refusal.ensures
+answered : (c : goal.After-refusal-number) → c.refusal-number.result ≡ entry_refusal (queue_of c.args.state.now) (waiting c.args.head c.args.side)
+answered c = rw c.count-n.ensures.is c.refusal-number.ensures
 
 -- nothing refuses the head
-unrefused : (c : tie.Else2)
-    → let o = c.before.before.before.before.before.before.before.args in entry_refusal (queue_of o.state.now) (waiting o.head o.side) ≡ 0
-unrefused c = sym (answered c.before) ∙ c.if2.false
+unrefused : (c : goal.Else-number-ne0) → entry_refusal (queue_of c.args.state.now) (waiting c.args.head c.args.side) ≡ 0
+unrefused c = sym (answered c.before) ∙ c.if-number-ne0.false
 
 -- so there is room for it
-room : (c : tie.Else2) → c.before.before.before.count.result ≤ 5
+room : (c : goal.Else-number-ne0) → c.count-n.result ≤ 5
 room c =
-    let start = c.before.before.before.before.before.before.before in
     omega (
       arith,
-      counted_length _ c.before.before.before.before.before.if1.false _ c.before.before.before.count.ensures,
-      room_for_one _ _ (queue_accepted start.args.state.now) (unrefused c),
+      counted_length _ c.if-state-ne-SIZE.false _ c.count-n.ensures,
+      room_for_one _ _ (queue_accepted c.args.state.now) (unrefused c),
     )
 
 pub returns-then-state-ne-SIZE : goal.returns-then-state-ne-SIZE
 returns-then-state-ne-SIZE c = sym (hand_in_short _ c.if-state-ne-SIZE.true _ _)
 
 pub returns-then-number-ne0 : goal.returns-then-number-ne0
-returns-then-number-ne0 c = sym (hand_in_refused _ c.if-state-ne-SIZE.false _ _ _ (answered c) c.if-number-ne0.true)
+returns-then-number-ne0 c = sym (hand_in_refused _ c.if-state-ne-SIZE.false _ _ _ (answered (goal.at.returns-then-number-ne0 c).After-refusal-number) c.if-number-ne0.true)
 
 pub overflow_cast-state : goal.overflow_cast-state
-overflow_cast-state c = omega (arith, (comes _ _ (unrefused c)).low)
+overflow_cast-state c = omega (arith, (comes _ _ (unrefused (goal.at.overflow_cast-state c).Else-number-ne0)).low)
 
 pub bounds-state-n : goal.bounds-state-n
-bounds-state-n c = omega (arith, room c, c.keep.auto.0)
+bounds-state-n c = omega (arith, room (goal.at.bounds-state-n c).Else-number-ne0, c.keep.auto.0)
 
 pub overflow_cast-state-2 : goal.overflow_cast-state-2
-overflow_cast-state-2 c = omega (arith, side_low _ (comes _ _ (unrefused c)).sided)
+overflow_cast-state-2 c = omega (arith, side_low _ (comes _ _ (unrefused (goal.at.overflow_cast-state-2 c).Else-number-ne0)).sided)
 
 pub bounds-state-n-2 : goal.bounds-state-n-2
-bounds-state-n-2 c = rw length-set (omega (arith, room c, c.keep.auto.0))
+bounds-state-n-2 c = rw length-set (omega (arith, room (goal.at.bounds-state-n-2 c).Else-number-ne0, c.keep.auto.0))
 
 pub returns : goal.returns
-returns c =    
+returns c =
     let long = c.if-state-ne-SIZE.false in
     rw c.keep.ensures
-    (sym (hand_in_accepted _ long _ _ (unrefused c)
-    ∙ ap (hand_in 0) (sym (stored_last _ long _ c.count-n.ensures _ _ (room c)))))
+    (sym (hand_in_accepted _ long _ _ (unrefused (goal.at.returns c).Else-number-ne0)
+    ∙ ap (hand_in 0) (sym (stored_last _ long _ c.count-n.ensures _ _ (room (goal.at.returns c).Else-number-ne0)))))

@@ -15,7 +15,7 @@ pub bounds-state-i : goal.bounds-state-i
 bounds-state-i c = omega (arith, c.loop-i.invariant.0.size)
 
 pub loop-i-preserved : goal.loop-i-preserved
-loop-i-preserved c =    
+loop-i-preserved c =
     let at = c.args.from + c.loop-i.i in (
       each_next _ _ _ _ _ c.loop-i.invariant.0 (omega arith)
           (c.byte_before.ensures ∙ ap (λ (x : ℕ). cond (ltb at c.args.end) x 0) (c.loop-i.invariant.0.rest at (omega arith))),

@@ -6,10 +6,9 @@ use Rattle.queue.specs.Inner.{front}
 use Rattle.queue.proofs.refusal.Goals as goal
 
 -- only the side is left
-of_side : (c : tie.Else2) → let o = c.before.before.before.before.args in entry_refusal (front o.n o.state.now) (waiting o.head o.side) ≡ side_refusal o.side
+of_side : (c : goal.Else-is_waiting) → entry_refusal (front c.args.n c.args.state.now) (waiting c.args.head c.args.side) ≡ side_refusal c.args.side
 unfolding entry_refusal
-of_side c =
-    rw (le-ltb 5 c.before.before.before.before.args.head (omega (arith, c.before.before.if1.false)), ← c.before.is-waiting.ensures, c.if2.false)
+of_side c =rw (le-ltb 5 c.args.head (omega (arith, c.if-head-ge-HEADS.false)), ← c.is_waiting.ensures, c.if-is_waiting.false)
 
 pub returns-then-head-ge-HEADS : goal.returns-then-head-ge-HEADS
 unfolding entry_refusal
@@ -20,7 +19,7 @@ unfolding entry_refusal
 returns-then-is_waiting c = rw (le-ltb 5 c.args.head (omega (arith, c.if-head-ge-HEADS.false)), ← c.is_waiting.ensures, c.if-is_waiting.true)
 
 pub returns-in-Found : goal.returns-in-Found
-returns-in-Found c = sym (of_side c ∙ sym c.from_side.ensures.0 ∙ ap side_number c.in-Found.is)
+returns-in-Found c = sym (of_side (goal.at.returns-in-Found c).Else-is_waiting ∙ sym c.from_side.ensures.0 ∙ ap side_number c.in-Found.is)
 
 pub returns-in-NoVersion : goal.returns-in-NoVersion
-returns-in-NoVersion c = sym (of_side c ∙ sym c.from_side.ensures.0 ∙ ap side_number c.in-NoVersion.is)
+returns-in-NoVersion c = sym (of_side (goal.at.returns-in-NoVersion c).Else-is_waiting ∙ sym c.from_side.ensures.0 ∙ ap side_number c.in-NoVersion.is)

@@ -12,7 +12,7 @@ returns-then-n-eq0 c = let long = c.if-state-ne-SIZE.false in
     sym (turn_nobody _ long (nobody_waits _ long _ c.count-n.ensures c.if-n-eq0.true))
 
 pub returns : goal.returns
-returns c =    
+returns c =
     let long = c.if-state-ne-SIZE.false in
     rw (c.wide-head.ensures, c.wide-side.ensures, c.keep.ensures, kept_rest _ long _ c.count-n.ensures (omega arith))
     (sym (turn_serves _ long _ _ (first_waits _ long _ c.count-n.ensures (omega arith))))

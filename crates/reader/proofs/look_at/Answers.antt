@@ -15,7 +15,7 @@ returns-then-top-gt2 c = (wrong_byte c.args.square.now c.args.side c.if-square-s
 
 pub returns : goal.returns
 returns c = (
-      right_square c.args.square.now c.args.side c.if-square-side.false
-          (all_modules _ _ c.greatest-top.ensures (omega (arith, c.if-top-gt2.false))),
-      untold _ _ c.greatest-top.ensures,
-    )
+  right_square c.args.square.now c.args.side c.if-square-side.false
+      (all_modules _ _ c.greatest-top.ensures (omega (arith, c.if-top-gt2.false))),
+  untold _ _ c.greatest-top.ensures,
+)

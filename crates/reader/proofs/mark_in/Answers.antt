@@ -9,12 +9,11 @@ pub read_copy-second-requires : goal.read_copy-second-requires
 read_copy-second-requires c = in_square _ _ c.args.square.now c.requires.0 c.requires.1 c.side-side.ensures c.requires.2
 
 pub returns-in-Nearest : goal.returns-in-Nearest
-returns-in-Nearest c =    
-    let g = c.level-1.given in
-    nearest_mark _ _ _ _ _ c.requires.3 c.side-side.ensures c.read_copy-first.ensures c.read_copy-second.ensures _ g.0.0 g.0.1.0 g.0.1.1.0 g.1
+returns-in-Nearest c =
+    nearest_mark _ _ _ _ _ c.requires.3 c.side-side.ensures c.read_copy-first.ensures c.read_copy-second.ensures _ c.in-Nearest.level c.in-Nearest.mask c.in-Nearest.distance c.in-Nearest.is
     c.nearest_info.ensures
 
 pub returns-in-NoVersion : goal.returns-in-NoVersion
-returns-in-NoVersion c =    
+returns-in-NoVersion c =
     absurd (no_version _ _ _ _ c.args.square.now c.requires.3 c.side-side.ensures c.read_copy-first.ensures c.read_copy-second.ensures _ c.requires.0 c.requires.1
     c.in-NoVersion.is c.nearest_info.ensures)

@@ -8,7 +8,7 @@ pub loop-i-init : goal.loop-i-init
 loop-i-init c = (omega arith, λ poly x e h R z. ap (λ (v : ℕ). behind poly x (digits poly x e 4 v) c.args.r) (no_digits h c.args.x) ∙ z)
 
 pub loop-i-preserved : goal.loop-i-preserved
-loop-i-preserved c =    
+loop-i-preserved c =
     let y = c.args.x in (
       omega arith,
       λ poly x e h R z. ap (behind poly x _) c.add_digit-n.ensures
@@ -16,7 +16,7 @@ loop-i-preserved c =
     )
 
 pub returns : goal.returns
-returns c =    
+returns c =
     let y = c.args.x in
     record {
       adds = λ poly x e h R z. ap (λ (v : ℕ). behind poly x (digits poly x e 4 (bit_xor h v)) c.loop-i.n)

@@ -15,11 +15,10 @@ pub loop-i-preserved : goal.loop-i-preserved
 loop-i-preserved c = (each_next _ _ _ _ _ c.loop-i.invariant.0 (omega arith) c.byte_at.ensures, omega arith)
 
 pub returns : goal.returns
-returns c =    
-    (
-      c.loop-i.invariant.0.size,
-      λ i h. elim (dec_lt i c.kept-k.result) [
-        | yes l ↦ c.loop-i.invariant.0.done i (omega arith)
-        | no l ↦ c.loop-i.invariant.0.rest i (omega arith) ∙ zeros 32 i ∙ sym (c.kept-k.ensures.zeros i (omega arith) h)
-      ],
-    )
+returns c = (
+  c.loop-i.invariant.0.size,
+  λ i h. elim (dec_lt i c.kept-k.result) [
+    | yes l ↦ c.loop-i.invariant.0.done i (omega arith)
+    | no l ↦ c.loop-i.invariant.0.rest i (omega arith) ∙ zeros 32 i ∙ sym (c.kept-k.ensures.zeros i (omega arith) h)
+  ],
+)

@@ -10,12 +10,11 @@ pub extend-requires : goal.extend-requires
 extend-requires c = let one = bit_of c.loop-b.b (omega arith) in (omega arith, omega arith)
 
 pub loop-b-preserved : goal.loop-b-preserved
-loop-b-preserved c =    
-    (
-      filling_next _ _ _ c.requires.1 _ _ _ _ _ c.loop-b.invariant.0 (omega arith) (rw (bit_of c.loop-b.b (omega arith)).0 at c.extend.ensures)
-          c.doubled-r.ensures,
-      omega arith,
-    )
+loop-b-preserved c = (
+  filling_next _ _ _ c.requires.1 _ _ _ _ _ c.loop-b.invariant.0 (omega arith) (rw (bit_of c.loop-b.b (omega arith)).0 at c.extend.ensures)
+      c.doubled-r.ensures,
+  omega arith,
+)
 
 pub shape_of-t : goal.shape_of-t
 shape_of-t c = c.loop-b.invariant.0.size

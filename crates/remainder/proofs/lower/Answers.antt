@@ -13,7 +13,7 @@ pub bounds-s-j : goal.bounds-s-j
 bounds-s-j c = omega (arith, c.loop-j.invariant.0.size)
 
 pub overflow_mul-n : goal.overflow_mul-n
-overflow_mul-n c =    
+overflow_mul-n c =
     let j = c.loop-j.j in
     let few : c.args.n ≤ 255 = c.requires.first_bound.2 in
     let low : c.args.first + j ≤ 511 = omega arith in
@@ -23,13 +23,12 @@ pub bounds-s-j-in-loop-j : goal.bounds-s-j-in-loop-j
 bounds-s-j-in-loop-j c = omega (arith, c.loop-j.invariant.0.size)
 
 pub loop-j-preserved : goal.loop-j-preserved
-loop-j-preserved c =    
-    (
-      each_next _ _ _ _ _ c.loop-j.invariant.0 (omega arith)
-          (c.raised.ensures ∙ ap (mul _ _)
-          (reduced_power _ (the_field _ c.requires.field) _)),
-      omega arith,
-    )
+loop-j-preserved c = (
+  each_next _ _ _ _ _ c.loop-j.invariant.0 (omega arith)
+      (c.raised.ensures ∙ ap (mul _ _)
+      (reduced_power _ (the_field _ c.requires.field) _)),
+  omega arith,
+)
 
 pub shape_of-s : goal.shape_of-s
 shape_of-s c = c.loop-j.invariant.0.size

@@ -14,6 +14,6 @@ pub loop-i-preserved : goal.loop-i-preserved
 loop-i-preserved c = (omega arith, omega arith, left_next _ _ _ _ _ _ c.loop-i.invariant.2 (omega arith) (λ j. omega (arith, c.type_inv.block j)) c.four.ensures.0 c.step-r.ensures)
 
 pub returns : goal.returns
-returns c =    
+returns c =
     let e : c.loop-i.i ≡ c.args.k = omega arith in
     λ parity Q. leaves _ _ _ _ _ Q.rows c.requires.1 (λ j. omega (arith, c.type_inv.block j)) (rw e at c.loop-i.invariant.2)

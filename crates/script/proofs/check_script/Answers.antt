@@ -7,41 +7,24 @@ use Rattle.script.proofs.Checks.{check_from_lacks, end_left, end_lacks, end_empt
 use Rattle.script.proofs.check_script.Goals as goal
 
 -- what the command has
-bounds : (c : tie.After-known-told invariant-loop decreases-loop)
-    → let l = c.before.before.before.before.before.loop in
-    let a = c.before.before.before.before.before.before.before.before.args in
-    let v = c.before.next.given.0 in
-    (1 ≤ v.0) × (v.0 ≤ 7) × (v.1.0 < 65536) × (l.i + command_size v.0 ≤ length a.script.now)
+bounds : (c : goal.In-Run) → let v = c.next-1.given.0 in
+    (1 ≤ v.0) × (v.0 ≤ 7) × (v.1.0 < 65536) × (c.loop-i.i + command_size v.0 ≤ length c.args.script.now)
 bounds c =
-    let g = c.before.before.before in
-    let l = g.before.before.loop in
-    let b = g.before.before.before.before in
-    let a = b.before.args in
-    let v = c.before.next.given in
-    run_bounds a.script.now l.i (λ i. omega (arith, b.shared-slice-known.given i)) (omega arith) g.command-at.result g.command-at.ensures
-    v.0.0 v.0.1.0 v.1
+    run_bounds c.args.script.now c.loop-i.i (λ i. omega (arith, c.type_inv.script i)) (omega arith) c.command_at-next.result c.command_at-next.ensures
+    c.in-Run.mode c.in-Run.n c.in-Run.is
 
 -- the bits of the run are those of its bytes
-cost : (c : tie.After-run-bits invariant-loop decreases-loop)
-    → let l = c.before.before.before.before.before.before.before.before.loop in
-    let a = c.before.before.before.before.before.before.before.before.before.before.before.args in
-    let v = c.before.before.before.before.next.given.0 in
-    c.run-bits.result ≡ cost_of v.0 (take v.1.0 (drop l.j a.payload.now))
+cost : (c : goal.After-run_bits-cost) → let v = c.next-1.given.0 in
+    c.run_bits-cost.result ≡ cost_of v.0 (take v.1.0 (drop c.loop-i.j c.args.payload.now))
 cost c =
-    let l = c.before.before.before.before.before.before.before.before.loop in
-    let n = c.before.before.before.before.next.given.0.1.0 in
-    let z : l.j + n - l.j ≡ n = omega arith in
-    rw z at c.run-bits.ensures.0
+    let n = c.in-Run.n in
+    let z : c.loop-i.j + n - c.loop-i.j ≡ n = omega arith in
+    rw z at c.run_bits-cost.ensures.0
 
-eci_room : (c : tie.After-known-told3 invariant-loop decreases-loop)
-    → c.before.before.before.before.before.loop.i + 4 ≤ length c.before.before.before.before.before.before.before.before.args.script.now
+eci_room : (c : goal.In-Eci) → c.loop-i.i + 4 ≤ length c.args.script.now
 eci_room c =
-    let g = c.before.before.before in
-    let l = g.before.before.loop in
-    let b = g.before.before.before.before in
-    let v = c.before.next2.given in
-    eci_bounds b.before.args.script.now l.i (λ i. omega (arith, b.shared-slice-known.given i)) (omega arith) g.command-at.result
-    g.command-at.ensures v.0.0 v.1
+    eci_bounds c.args.script.now c.loop-i.i (λ i. omega (arith, c.type_inv.script i)) (omega arith) c.command_at-next.result
+    c.command_at-next.ensures c.in-Eci.v c.in-Eci.is
 
 pub loop-i-init : goal.loop-i-init
 loop-i-init c = (omega arith, omega arith, omega arith, check_from_start c.args.script.now c.args.payload.now)
@@ -71,7 +54,7 @@ pub slice_bounds-run_bits-end : goal.slice_bounds-run_bits-end
 slice_bounds-run_bits-end c = omega arith
 
 pub run_bits-cost-requires : goal.run_bits-cost-requires
-run_bits-cost-requires c = let b = bounds c in
+run_bits-cost-requires c = let b = bounds (goal.at.run_bits-cost-requires c).In-Run in
     let n = c.in-Run.n in
     let z : c.loop-i.j + n - c.loop-i.j ≡ n = omega arith in
     let k : n ≤ length (drop c.loop-i.j c.args.payload.now) = rw length-drop (omega arith) in
@@ -81,7 +64,7 @@ pub enum_known-cost : goal.enum_known-cost
 enum_known-cost c = c.in-Takes.keys1
 
 pub capped_sum-total-requires : goal.capped_sum-total-requires
-capped_sum-total-requires c =    
+capped_sum-total-requires c =
     let t = limited c.run_bits-cost.result c.in-Takes.b c.run_bits-cost.ensures.1 c.in-Takes.is in
     (omega arith, omega arith)
 
@@ -92,11 +75,11 @@ pub loop-i-smaller-in-Takes : goal.loop-i-smaller-in-Takes
 loop-i-smaller-in-Takes c = omega arith
 
 pub loop-i-preserved-in-Takes : goal.loop-i-preserved-in-Takes
-loop-i-preserved-in-Takes c =    
+loop-i-preserved-in-Takes c =
     let w = c.command_size-i.ensures in
-    let b = bounds c in
+    let b = bounds (goal.at.loop-i-preserved-in-Takes c).In-Run in
     let d = check_from_takes c.loop-i.invariant.3 (omega arith) c.command_at-next.ensures c.in-Run.is c.if-payload-j.false
-    (cost c) w.0 w.1 in
+    (cost (goal.at.loop-i-preserved-in-Takes c).After-run_bits-cost) w.0 w.1 in
     (omega arith, omega arith, c.capped_sum-total.ensures.1, d c.in-Takes.is c.capped_sum-total.ensures.0)
 
 pub enum_told-1 : goal.enum_told-1
@@ -109,10 +92,10 @@ pub loop-i-smaller-in-NotInMode : goal.loop-i-smaller-in-NotInMode
 loop-i-smaller-in-NotInMode c = omega arith
 
 pub loop-i-preserved-in-NotInMode : goal.loop-i-preserved-in-NotInMode
-loop-i-preserved-in-NotInMode c =    
+loop-i-preserved-in-NotInMode c =
     let w = c.command_size-i-in-NotInMode.ensures in
-    let b = bounds c in
-    let d = check_from_lacks c.loop-i.invariant.3 (omega arith) c.command_at-next.ensures c.in-Run.is c.if-payload-j.false (cost c) w.0
+    let b = bounds (goal.at.loop-i-preserved-in-NotInMode c).In-Run in
+    let d = check_from_lacks c.loop-i.invariant.3 (omega arith) c.command_at-next.ensures c.in-Run.is c.if-payload-j.false (cost (goal.at.loop-i-preserved-in-NotInMode c).After-run_bits-cost) w.0
     w.1 in
     (omega arith, omega arith, c.loop-i.invariant.2, d c.in-NotInMode.is)
 
@@ -129,8 +112,8 @@ pub loop-i-smaller : goal.loop-i-smaller
 loop-i-smaller c = omega arith
 
 pub loop-i-preserved : goal.loop-i-preserved
-loop-i-preserved c =    
-    let r = eci_room c in
+loop-i-preserved c =
+    let r = eci_room (goal.at.loop-i-preserved c).In-Eci in
     let d = check_from_eci c.loop-i.invariant.3 (omega arith) c.command_at-next.ensures c.in-Eci.is in
     (omega arith, omega arith, c.capped_sum-total-in-Eci.ensures.1, d c.eci_bits.ensures.0 c.capped_sum-total-in-Eci.ensures.0)
 

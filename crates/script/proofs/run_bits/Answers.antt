@@ -19,9 +19,8 @@ pub returns-then-mode-eq-FOUR_BYTE : goal.returns-then-mode-eq-FOUR_BYTE
 returns-then-mode-eq-FOUR_BYTE c = (four_lacks _ c.args.mode c.if-mode-eq-FOUR_BYTE.true (sym c.in_four.ensures ∙ c.if-in_four.false), tt)
 
 pub returns : goal.returns
-returns c =    
-    (
-      c.char_bits.ensures.0 ∙ char_cost_lem _ c.args.mode (omega arith) (omega arith) c.if-mode-eq-NUMERIC.false
-          c.if-mode-eq-BYTES.false c.if-mode-eq-FOUR_BYTE.false,
-      c.char_bits.ensures.1,
-    )
+returns c = (
+  c.char_bits.ensures.0 ∙ char_cost_lem _ c.args.mode (omega arith) (omega arith) c.if-mode-eq-NUMERIC.false
+      c.if-mode-eq-BYTES.false c.if-mode-eq-FOUR_BYTE.false,
+  c.char_bits.ensures.1,
+)

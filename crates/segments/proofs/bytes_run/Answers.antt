@@ -1,14 +1,13 @@
 -- `bytes_run` meets its contract. Assumes nothing.
-use Rattle.general.proofs.Names.{sub-zero, ◌∙◌, refl, ◌∷◌, arith, ◌-◌, ◌+◌}
+use Rattle.general.proofs.Names.{sub-zero, ◌∙◌, refl, [], ◌∷◌, arith, ◌-◌, ◌+◌}
 use Rattle.bits.proofs.Words.{WordAt}
 use Rattle.segments.specs.Positions.{bytes_run}
 use Rattle.segments.proofs.Turns.{remains_start, remains_cut, remains_word, remains_on, bytes_run_cut, bytes_run_done, bytes_run_more}
 use Rattle.segments.proofs.bytes_run.Goals as goal
 
 -- what was read, where a word was read
-word : (c : tie.After-known-told invariant-loop decreases-loop)
-    → let g = c.before.before.before.before.before in WordAt 8 g.loop.at c.before.got.given.0.0 g.before.before.before.args.s.now
-word c = let b = c.before.before.before in remains_word b.before.before.loop.invariant.2 b.read-bits.ensures (omega arith) c.before.got.given.1
+word : (c : goal.In-Value) → WordAt 8 c.loop-i.at c.in-Value.w c.args.s.now
+word c = remains_word c.loop-i.invariant.2 c.read_bits-got.ensures (omega arith) c.in-Value.is
 
 pub loop-i-init : goal.loop-i-init
 loop-i-init c = (refl, omega arith, simp sub-zero (remains_start (omega arith) (omega arith)))
@@ -27,7 +26,7 @@ returns-in_default c = let k = c.args.k in
     record { left = rw (remains_cut c.loop-i.invariant.2 c.read_bits-got.ensures c.in_default.is (bytes_run_cut k c.loop-i.i (omega arith))) refl; inside = tt }
 
 pub put-requires : goal.put-requires
-put-requires c = (word c).small
+put-requires c = (word (goal.at.put-requires c).In-Value).small
 
 pub overflow_add-at : goal.overflow_add-at
 overflow_add-at c = omega arith
@@ -39,16 +38,15 @@ pub overflow_add-i : goal.overflow_add-i
 overflow_add-i c = omega arith
 
 pub loop-i-smaller : goal.loop-i-smaller
-loop-i-smaller c = let m = (word c).room in omega arith
+loop-i-smaller c = let m = (word (goal.at.loop-i-smaller c).In-Value).room in omega arith
 
 pub loop-i-preserved : goal.loop-i-preserved
-loop-i-preserved c =    
+loop-i-preserved c =
     let k = c.args.k in
-    let w = c.in-Value.w in
-    (
+    let w = c.in-Value.w in (
       c.put.auto.0 ∙ c.loop-i.invariant.0,
       omega arith,
-      remains_on c.loop-i.invariant.2 (word c) (w ∷ []) (bytes_run (k - (c.loop-i.i + 1)))
+      remains_on c.loop-i.invariant.2 (word (goal.at.loop-i-preserved c).In-Value) (w ∷ []) (bytes_run (k - (c.loop-i.i + 1)))
           (bytes_run_more w k c.loop-i.i (omega arith)) (omega arith) c.put.ensures,
     )
 

@@ -1,5 +1,5 @@
 -- `put_command` meets its contract. Assumes nothing.
-use Rattle.general.proofs.Names.{refl, ◌∷◌, ◌+◌, ◌/◌, ◌%◌, arith, eq-eqb, ne_eqb}
+use Rattle.general.proofs.Names.{refl, [], ◌∷◌, ◌+◌, ◌/◌, ◌%◌, arith, eq-eqb, ne_eqb}
 use Rattle.segments.proofs.Stores.{one_more}
 use Rattle.segments.proofs.put_command.Goals as goal
 
@@ -10,11 +10,9 @@ pub put_pair-requires : goal.put_pair-requires
 put_pair-requires c = (omega arith, omega arith, omega arith)
 
 pub returns : goal.returns
-returns c =    
-    let p = c in
-    let a = p.before.before.before.before.args in
-    rw (ne_eqb a.mode 7 p.before.before.if1.false) (
+returns c =
+    rw (ne_eqb c.args.mode 7 c.if-mode-eq-FOUR_BYTE.false) (
       refl,
-      one_more a.script.now _ c.put_pair.new.out (a.n / 256 ∷ a.n % 256 ∷ []) _ (a.m + 1) a.mode refl
-          p.put2.ensures c.put_pair.ensures,
+      one_more c.args.script.now _ c.put_pair.new.out (c.args.n / 256 ∷ c.args.n % 256 ∷ []) _ (c.args.m + 1) c.args.mode refl
+          c.put-2.ensures c.put_pair.ensures,
     )

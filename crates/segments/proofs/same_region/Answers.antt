@@ -1,5 +1,5 @@
 -- `same_region` meets its contract. Assumes nothing.
-use Rattle.general.proofs.Names.{◌≡◌, ◌∙◌, refl, not, ◌∷◌, arith, sets}
+use Rattle.general.proofs.Names.{◌≡◌, ◌∙◌, refl, not, [], ◌∷◌, arith, sets}
 use Rattle.bits.proofs.Words.{WordAt}
 use Rattle.segments.specs.Segments.{high_of, low_of, region_of}
 use Rattle.segments.proofs.Turns.{remains_start, remains_cut, remains_word, remains_lacks, remains_stop, remains_on, remains_none}
@@ -7,9 +7,8 @@ use Rattle.segments.proofs.Turns.{region_end, region_switch, region_lacks, regio
 use Rattle.segments.proofs.same_region.Goals as goal
 
 -- what was read, where a word was read
-word : (c : tie.After-known-told invariant-loop decreases-loop)
-    → let g = c.before.before.before.before in WordAt 12 g.loop.at c.before.got.given.0.0 g.before.before.before.args.s.now
-word c = let b = c.before.before.before in remains_word b.before.loop.invariant.1 b.read-bits.ensures (omega arith) c.before.got.given.1
+word : (c : goal.In-Value) → WordAt 12 c.loop-w.at c.in-Value.w c.args.s.now
+word c = remains_word c.loop-w.invariant.1 c.read_bits-got.ensures (omega arith) c.in-Value.is
 
 pub loop-w-init : goal.loop-w-init
 loop-w-init c = (refl, remains_start (omega arith) (omega arith))
@@ -34,9 +33,9 @@ pub shape_of-out-then-w-eq4095 : goal.shape_of-out-then-w-eq4095
 shape_of-out-then-w-eq4095 c = c.loop-w.invariant.0
 
 pub returns-then-w-eq4095 : goal.returns-then-w-eq4095
-returns-then-w-eq4095 c =    
+returns-then-w-eq4095 c =
     let one = c.args.one in
-    let r = word c in
+    let r = word (goal.at.returns-then-w-eq4095 c).In-Value in
     let e = remains_stop c.loop-w.invariant.1 r (region_end one c.if-w-eq4095.true) in
     record { cases = (e, (omega arith, omega arith, omega arith, omega arith)) }
 
@@ -44,9 +43,9 @@ pub shape_of-out-then-w-eq4094 : goal.shape_of-out-then-w-eq4094
 shape_of-out-then-w-eq4094 c = c.loop-w.invariant.0
 
 pub returns-then-w-eq4094 : goal.returns-then-w-eq4094
-returns-then-w-eq4094 c =    
+returns-then-w-eq4094 c =
     let one = c.args.one in
-    let r = word c in
+    let r = word (goal.at.returns-then-w-eq4094 c).In-Value in
     let e = remains_none c.loop-w.invariant.1 r (region_of (not one)) (region_switch one c.if-w-eq4095.false c.if-w-eq4094.true) in
     record { cases = (e.same, omega arith, (omega arith, omega arith, omega arith, omega arith)) }
 
@@ -54,11 +53,11 @@ pub shape_of-out-then-w-region_size : goal.shape_of-out-then-w-region_size
 shape_of-out-then-w-region_size c = c.loop-w.invariant.0
 
 pub returns-then-w-region_size : goal.returns-then-w-region_size
-returns-then-w-region_size c =    
+returns-then-w-region_size c =
     let one = c.args.one in
     record {
       cases =
-          remains_lacks c.loop-w.invariant.1 (word c) (region_lacks one c.if-w-eq4095.false c.if-w-eq4094.false (omega arith));
+          remains_lacks c.loop-w.invariant.1 (word (goal.at.returns-then-w-region_size c).In-Value) (region_lacks one c.if-w-eq4095.false c.if-w-eq4094.false (omega arith));
     }
 
 pub pair_of-pair-requires : goal.pair_of-pair-requires
@@ -71,13 +70,13 @@ pub overflow_add-n : goal.overflow_add-n
 overflow_add-n c = omega arith
 
 pub loop-w-smaller : goal.loop-w-smaller
-loop-w-smaller c = let m = (word c).room in omega arith
+loop-w-smaller c = let m = (word (goal.at.loop-w-smaller c).In-Value).room in omega arith
 
 pub loop-w-preserved : goal.loop-w-preserved
-loop-w-preserved c =    
+loop-w-preserved c =
     let w = c.in-Value.w in
     let one = c.args.one in
     let bytes = c.pair_of-pair.ensures in
     let e : c.put_pair.new.out ≡ sets c.loop-w.out c.loop-w.n (high_of one w ∷ low_of one w ∷ []) = rw (← bytes.2, ← bytes.3) c.put_pair.ensures in
     let on = region_pair one c.if-w-eq4095.false c.if-w-eq4094.false (omega arith) in
-    (c.put_pair.auto.0 ∙ c.loop-w.invariant.0, remains_on c.loop-w.invariant.1 (word c) (high_of one w ∷ low_of one w ∷ []) (region_of one) on (omega arith) e)
+    (c.put_pair.auto.0 ∙ c.loop-w.invariant.0, remains_on c.loop-w.invariant.1 (word (goal.at.loop-w-preserved c).In-Value) (high_of one w ∷ low_of one w ∷ []) (region_of one) on (omega arith) e)

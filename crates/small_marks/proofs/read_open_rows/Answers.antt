@@ -19,7 +19,7 @@ pub open_rows-rows-requires : goal.open_rows-rows-requires
 open_rows-rows-requires c = tt
 
 pub loop-i-init : goal.loop-i-init
-loop-i-init c =    
+loop-i-init c =
     let m = mask_bit (side_of c.args.version) c.args.mask in
     let all = data_bits m 0 (layout_of c.args.version) c.args.square.now in
     let z : 0 ≡ 0 * side_of c.args.version = sym (zero-mul (side_of c.args.version)) in (
@@ -76,7 +76,7 @@ pub overflow_sub-side : goal.overflow_sub-side
 overflow_sub-side c = omega (arith, margin_few c.margin-m.ensures)
 
 pub read_span-r-requires : goal.read_span-r-requires
-read_span-r-requires c =    
+read_span-r-requires c =
     let few = margin_few c.margin-m.ensures in
     let v = c.args.version in
     let h : c.loop-i.i * side_of v + side_of v ≤ length c.args.square.now =
@@ -98,7 +98,7 @@ pub loop-i-smaller : goal.loop-i-smaller
 loop-i-smaller c = omega arith
 
 pub loop-i-preserved : goal.loop-i-preserved
-loop-i-preserved c =    
+loop-i-preserved c =
     let v = c.args.version in
     let taken = c.loop-i-test.true in
     let span = c.read_span-r.ensures in
@@ -113,7 +113,7 @@ pub shape_of-out : goal.shape_of-out
 shape_of-out c = c.loop-i.invariant.2.words.size
 
 pub returns : goal.returns
-returns c =    
+returns c =
     let e : c.loop-i.i ≡ side_of c.args.version = omega arith in
     rows_done (mask_bit (side_of c.args.version) c.args.mask) (layout_of c.args.version) c.args.square.now
     (c.loop-i.i * side_of c.args.version) (omega (arith, ap (λ (n : ℕ). n * side_of c.args.version) e)) c.loop-i.invariant.0 c.loop-i.invariant.2

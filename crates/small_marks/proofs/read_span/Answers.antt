@@ -20,7 +20,7 @@ pub loop-r-smaller : goal.loop-r-smaller
 loop-r-smaller c = omega arith
 
 pub loop-r-preserved : goal.loop-r-preserved
-loop-r-preserved c =    
+loop-r-preserved c =
     let taken = c.loop-r-test.true in
     let lo = c.loop-r.invariant.1 in
     let on = c.push-r.ensures.1 in (
@@ -46,7 +46,7 @@ pub lowest-requires : goal.lowest-requires
 lowest-requires c = omega (arith, c.loop-r-test.false)
 
 pub push-requires : goal.push-requires
-push-requires c =    
+push-requires c =
     let w = c.args.to - c.loop-r.r.column in
     (c.loop-r.invariant.0, omega arith, subst (λ (x : ℕ). x < 2 ^ w) (sym c.lowest.ensures) (mod-lt _ (pow_pos w)), omega arith)
 
@@ -54,7 +54,7 @@ pub shape_of-out : goal.shape_of-out
 shape_of-out c = c.push.auto.0 ∙ c.loop-r.invariant.4
 
 pub returns : goal.returns
-returns c =    
+returns c =
     let to = c.args.to in
     let most = c.loop-r.invariant.2 in
     let w = c.args.to - c.loop-r.r.column in

@@ -8,6 +8,6 @@ write_blocks-requires c = let o = c.requires.row_len in
     (o.0, o.1, o.2, omega (arith, c.encode.auto, o.3))
 
 pub returns : goal.returns
-returns c =    
+returns c =
     stream_encoded c.args.script.now c.args.payload.now _ _ c.args.stream.now _ _ c.requires.row_len.3
     c.encode.ensures c.requires.row_len.2 c.write_blocks.auto.0 c.write_blocks.ensures

@@ -8,7 +8,7 @@ place_codewords-requires c = let e = c.side-side.ensures in
     let t = c.total_codewords-total.ensures in record { square_in_bounds = (omega (arith, c.requires.1, c.requires.0.long), omega (arith, e), omega (arith, e, c.requires.0.valid.high), c.requires.1 ∙ sym (ap (λ (n : ℕ). n * n) e)); total_in_bounds = (omega (arith, t.0, c.requires.3, c.from_stream.auto), omega (arith, t.1)) }
 
 pub returns : goal.returns
-returns c =    
+returns c =
     let t = c.total_codewords-total.ensures in
     stream_placed _ _ c.requires.0 c.args.stream.now _ _ c.args.square.now _ _ _ t.0
     c.side-side.ensures (omega (arith, t.0, c.requires.3)) c.from_stream.auto.0

@@ -5,7 +5,7 @@ use Rattle.symbol.proofs.Coordinates.{square_le}
 use Rattle.writer.proofs.write_checked.Goals as goal
 
 pub write_in-requires : goal.write_in-requires
-write_in-requires c =    
+write_in-requires c =
     let low : side_of c.args.m.version ≤ 41 = omega (arith, c.if-m-le10.true) in
     (c.requires.0, c.requires.1, mul-le-mul low low, c.requires.2)
 

@@ -10,20 +10,19 @@ pub returns-then-place-ne0 : goal.returns-then-place-ne0
 returns-then-place-ne0 c = answers_place _ c.requires.0 c.args.script.now c.args.payload.now c.args.square.now _ c.place_refusal-place.ensures c.if-place-ne0.true
 
 pub returns-then-text-ne0 : goal.returns-then-text-ne0
-returns-then-text-ne0 c =    
+returns-then-text-ne0 c =
     answers_script _ c.requires.0 c.args.script.now c.args.payload.now c.args.square.now _ c.place_refusal-place.ensures
     c.if-place-ne0.false _ c.requires.3 c.if-text-ne0.true
 
 pub write_mark-requires : goal.write_mark-requires
-write_mark-requires c =    
-    (
-      mark_with_layout _ c.args.kinds.now _ c.requires.0 c.requires.2 c.layout.ensures.1,
-      none_refused _ c.requires.0 c.args.script.now c.args.payload.now c.args.square.now _
-          c.place_refusal-place.ensures c.if-place-ne0.false _ c.requires.3 c.if-text-ne0.false,
-      c.requires.1,
-    )
+write_mark-requires c = (
+  mark_with_layout _ c.args.kinds.now _ c.requires.0 c.requires.2 c.layout.ensures.1,
+  none_refused _ c.requires.0 c.args.script.now c.args.payload.now c.args.square.now _
+      c.place_refusal-place.ensures c.if-place-ne0.false _ c.requires.3 c.if-text-ne0.false,
+  c.requires.1,
+)
 
 pub returns : goal.returns
-returns c =    
+returns c =
     answers_zero _ c.requires.0 c.args.script.now c.args.payload.now c.args.square.now _ c.place_refusal-place.ensures
     c.if-place-ne0.false _ c.requires.3 c.if-text-ne0.false _ c.write_mark.ensures

@@ -18,35 +18,38 @@ pub encode_stream-requires : goal.encode_stream-requires
 encode_stream-requires c = let R = c.requires.mark_with_layout.0.valid in
     let r = c.requires.row.0 in
     let n = c.data_length-room.ensures in
-    let e = room_is R _ r.is _ n in record { row_len = (
+    let e = room_is R _ r.is _ n in record {
+      row_len = (
         r.nine,
         row_own _ _ R.low R.high R.level _ r.is,
         omega
             (arith, c.requires.row.1, row_total _ _ R.low R.high R.level _ r.is),
         length-take-le _ _ (omega (arith, e.2, c.requires.row.2)) ∙ n,
-      ); fits = fits_lent c.args.script.now c.args.payload.now c.args.spare.now _ _ e.0 e.1 (omega (arith, e.2, c.requires.row.2))
-          (fits _ _ _ c.args.script.now c.args.payload.now c.args.square.now c.requires.mark_with_layout.1) }
+      );
+      fits = fits_lent c.args.script.now c.args.payload.now c.args.spare.now _ _ e.0 e.1 (omega (arith, e.2, c.requires.row.2))
+          (fits _ _ _ c.args.script.now c.args.payload.now c.args.square.now c.requires.mark_with_layout.1);
+    }
 
 pub place_stream-requires : goal.place_stream-requires
 place_stream-requires c = (
-      c.requires.mark_with_layout.0,
-      size _ _ _ c.args.script.now c.args.payload.now c.args.square.now c.requires.mark_with_layout.1,
-      omega
-          (arith, c.encode_stream.auto, c.requires.row.1),
-      lent_back
-          c.data_length-room.result _
-          c.encode_stream.new.data c.args.spare.now
-          c.encode_stream.auto.1.0
-          (omega (
-            arith,
-            (room_is c.requires.mark_with_layout.0.valid _ c.requires.row.0.is _
-                c.data_length-room.ensures).2,
-            c.requires.row.2,
-          )) c.requires.row.2,
-    )
+  c.requires.mark_with_layout.0,
+  size _ _ _ c.args.script.now c.args.payload.now c.args.square.now c.requires.mark_with_layout.1,
+  omega
+      (arith, c.encode_stream.auto, c.requires.row.1),
+  lent_back
+      c.data_length-room.result _
+      c.encode_stream.new.data c.args.spare.now
+      c.encode_stream.auto.1.0
+      (omega (
+        arith,
+        (room_is c.requires.mark_with_layout.0.valid _ c.requires.row.0.is _
+            c.data_length-room.ensures).2,
+        c.requires.row.2,
+      )) c.requires.row.2,
+)
 
 pub write_info-requires : goal.write_info-requires
-write_info-requires c =    
+write_info-requires c =
     let e = c.side-side.ensures in (
       omega (arith, e),
       omega (arith, e, c.requires.mark_with_layout.0.valid.high),
@@ -60,7 +63,7 @@ write_info-requires c =
     )
 
 pub returns : goal.returns
-returns c =    
+returns c =
     let R = c.requires.mark_with_layout.0.valid in
     let r = c.requires.row.0.is in
     mark_made _ c.args.script.now c.args.payload.now _ _ _ _ R

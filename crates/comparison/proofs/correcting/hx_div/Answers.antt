@@ -7,7 +7,7 @@ pub div-requires : goal.div-requires
 div-requires c = record { field = c.han_xin-field.ensures.0; b_nonzero = omega (arith, c.if-b-eq0.false) }
 
 pub returns : goal.returns
-returns c =    
+returns c =
     record {
       some = λ h. ap (λ (p : ℕ). mul p c.div.result c.args.b) (sym c.han_xin-field.ensures.1) ∙ c.div.ensures;
       none = λ z. absurd (c.if-b-eq0.false z);

@@ -9,7 +9,7 @@ pub power-requires : goal.power-requires
 power-requires c = record { field = c.han_xin-field.ensures.0; n_bound = omega arith }
 
 pub returns : goal.returns
-returns c =    
+returns c =
     c.power.ensures ∙ ap (λ (p : ℕ). power p (c.args.n % 255)) c.han_xin-field.ensures.1
     ∙ sym (power_period 0x163 (primitive 0x163 primitive_163) (c.args.n / 255) (c.args.n % 255))
     ∙ (let e : 255 * (c.args.n / 255) + c.args.n % 255 ≡ c.args.n = omega arith in ap (power 0x163) e)

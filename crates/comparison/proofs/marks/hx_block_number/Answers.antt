@@ -27,7 +27,7 @@ returns-then-n-ge9 c = simp (
 
 pub returns : goal.returns
 unfolding row_answer is_version
-returns c =    
+returns c =
     simp (
       le-leb _ _ c.if-version-lt-MIN.false,
       le-leb _ _ c.if-version-gt-MAX.false,

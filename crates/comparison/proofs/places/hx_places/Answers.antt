@@ -5,8 +5,8 @@ use Rattle.comparison.proofs.Horner.{all_copied, values_copied}
 use Rattle.comparison.proofs.places.hx_places.Goals as goal
 
 -- the copy is the locator
-copy_is : (c : tie.After-copy) → c.copy.new.0 ≡ c.before.before.before.before.before.before.before.before.args.f.now
-copy_is c = all_copied _ _ _ 256 c.before.before.before.before.before.if1.false refl c.copy.ensures
+copy_is : (c : goal.After-copy) → c.copy.new.dst ≡ c.args.f.now
+copy_is c = all_copied _ _ _ 256 c.if-f-ne256.false refl c.copy.ensures
 
 pub returns-then-f-ne256 : goal.returns-then-f-ne256
 unfolding search_of
@@ -21,17 +21,20 @@ unfolding search_of
 returns-then-e-gt256 c = sym (simp (eq-eqb _ _ c.if-f-ne256.false, le-leb _ _ c.if-l-gt255.false, lt-leb _ _ c.if-e-gt256.true))
 
 pub search_often-requires : goal.search_often-requires
-search_often-requires c = let same = copy_is c in record { field = c.han_xin-field.ensures.0; l_bound = (
-        omega arith,
-        ap length same ∙ c.if-f-ne256.false,
-        λ i. omega (arith, c.type_inv.f i, ap (λ (z : List ℕ). get_or z i 0) same),
-        omega arith,
-        refl,
-      ) }
+search_often-requires c = let same = copy_is (goal.at.search_often-requires c).After-copy in record {
+  field = c.han_xin-field.ensures.0;
+  l_bound = (
+    omega arith,
+    ap length same ∙ c.if-f-ne256.false,
+    λ i. omega (arith, c.type_inv.f i, ap (λ (z : List ℕ). get_or z i 0) same),
+    omega arith,
+    refl,
+  );
+}
 
 pub returns : goal.returns
 unfolding search_of
-returns c =    
+returns c =
     simp (eq-eqb _ _ c.if-f-ne256.false, le-leb _ _ c.if-l-gt255.false, le-leb _ _ c.if-e-gt256.false)
-    (ap (searched 0) (values_copied _ _ _ _ _ _ _ _ c.han_xin-field.ensures.1 (copy_is c) c.search_often.ensures
+    (ap (searched 0) (values_copied _ _ _ _ _ _ _ _ c.han_xin-field.ensures.1 (copy_is (goal.at.returns c).After-copy) c.search_often.ensures
     c.copy-2.ensures))

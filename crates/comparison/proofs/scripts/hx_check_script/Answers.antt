@@ -3,8 +3,7 @@ use Rattle.general.proofs.Names.{refl, sym, ◌∙◌}
 use Rattle.comparison.proofs.scripts.hx_check_script.Goals as goal
 
 pub returns-in-Bits : goal.returns-in-Bits
-returns-in-Bits c = let v = c.answer-1.given in
-    rw (sym c.check_script-answer.ensures ∙ v.1) (refl, refl)
+returns-in-Bits c = rw (sym c.check_script-answer.ensures ∙ c.in-Bits.is) (refl, refl)
 
 pub returns-in-Malformed : goal.returns-in-Malformed
 returns-in-Malformed c = rw (sym c.check_script-answer.ensures ∙ c.in-Malformed.is) (refl, refl)

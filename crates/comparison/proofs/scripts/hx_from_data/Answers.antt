@@ -4,8 +4,7 @@ use Rattle.comparison.proofs.Fields.{fields}
 use Rattle.comparison.proofs.scripts.hx_from_data.Goals as goal
 
 pub returns-in-Read : goal.returns-in-Read
-returns-in-Read c = let v = c.answer-1.given in
-    fields _ (Read v.0.0 v.0.1.0) _ _ _ c.from_data-answer.ensures v.1
+returns-in-Read c = fields _ (Read c.in-Read.n c.in-Read.m) _ _ _ c.from_data-answer.ensures c.in-Read.is
 
 pub returns-in-TooLong : goal.returns-in-TooLong
 returns-in-TooLong c = fields _ TooLong _ _ _ c.from_data-answer.ensures c.in-TooLong.is

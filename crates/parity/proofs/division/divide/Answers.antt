@@ -12,13 +12,12 @@ loop-i-init c = (
 )
 
 pub loop-i-preserved : goal.loop-i-preserved
-loop-i-preserved c =    
-    (
-      c.add_moved.ensures.size ∙ c.loop-i.invariant.0,
-      reduced _ (the_field _ c.requires.field) _ _ _ c.args.g.now c.args.w.now _ _ c.requires.monic
-          c.loop-i.invariant.1 (omega arith) c.add_moved.ensures,
-      omega arith,
-    )
+loop-i-preserved c = (
+  c.add_moved.ensures.size ∙ c.loop-i.invariant.0,
+  reduced _ (the_field _ c.requires.field) _ _ _ c.args.g.now c.args.w.now _ _ c.requires.monic
+      c.loop-i.invariant.1 (omega arith) c.add_moved.ensures,
+  omega arith,
+)
 
 pub shape_of-w : goal.shape_of-w
 shape_of-w c = c.loop-i.invariant.0

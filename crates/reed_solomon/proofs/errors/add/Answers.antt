@@ -17,13 +17,12 @@ pub bounds-block-k-in-loop-k : goal.bounds-block-k-in-loop-k
 bounds-block-k-in-loop-k c = omega (arith, c.loop-k.invariant.0.size)
 
 pub loop-k-preserved : goal.loop-k-preserved
-loop-k-preserved c =    
-    (
-      repaired_next (length c.args.block.now) c.loop-k.k c.args.e.now c.args.block.now c.loop-k.block c.loop-k.invariant.0
-          (omega arith),
-      omega arith,
-      refl,
-    )
+loop-k-preserved c = (
+  repaired_next (length c.args.block.now) c.loop-k.k c.args.e.now c.args.block.now c.loop-k.block c.loop-k.invariant.0
+      (omega arith),
+  omega arith,
+  refl,
+)
 
 pub shape_of-block : goal.shape_of-block
 shape_of-block c = c.loop-k.invariant.0.size

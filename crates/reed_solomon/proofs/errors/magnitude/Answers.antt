@@ -11,6 +11,6 @@ pub overflow_mul-d : goal.overflow_mul-d
 overflow_mul-d c = omega (arith, small_product c.args.d c.args.first c.requires.l_in_bounds.2 c.requires.l_in_bounds.3)
 
 pub returns : goal.returns
-returns c =    
+returns c =
     magnitude_some _ (the_field _ c.requires.field) _ _ _ _ _ _ _ _ _ c.divided-q.ensures.0 c.divided-q.ensures.1 (omega arith) (omega arith)
     c.div-z.ensures c.raised.ensures

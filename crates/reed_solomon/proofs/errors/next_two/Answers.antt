@@ -4,7 +4,7 @@ use Rattle.reed_solomon.proofs.Magnitudes.{two_are}
 use Rattle.reed_solomon.proofs.errors.next_two.Goals as goal
 
 pub returns : goal.returns
-returns c =    
+returns c =
     two_are _ (the_field _ c.requires.field) _ _ _ _ _ _ _ _ _ _ _ _ _ _ _ _
     c.reduced-n.ensures.1
     c.raised.ensures

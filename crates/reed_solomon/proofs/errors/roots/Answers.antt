@@ -17,7 +17,7 @@ pub put-requires : goal.put-requires
 put-requires c = omega arith
 
 pub loop-d-preserved : goal.loop-d-preserved
-loop-d-preserved c =    
+loop-d-preserved c =
     let next = c.step-v.ensures _ _ c.loop-d.invariant.0 in (
       next.1,
       values_next _ _ _ _ _ _ _ _ _ _ _ next.0 (omega arith) c.loop-d.invariant.1 c.put.ensures,

@@ -15,17 +15,16 @@ pub bounds-terms-i-in-loop-i : goal.bounds-terms-i-in-loop-i
 bounds-terms-i-in-loop-i c = omega (arith, c.loop-i.invariant.1.size)
 
 pub loop-i-preserved : goal.loop-i-preserved
-loop-i-preserved c =    
-    (
-      sums_next _ _ _ _ _ _ _ _ _ _ _ _ c.loop-i.invariant.0 (c.loop-i.invariant.1.rest c.loop-i.i (omega arith)) c.carry-next.ensures.0 c.carry-next.ensures.1 c.carry-next.ensures.2,
-      each_next _ _ _ _ _ c.loop-i.invariant.1 (omega (arith, c.requires.l_bound.1)) c.carry-next.ensures.3,
-      omega arith,
-    )
+loop-i-preserved c = (
+  sums_next _ _ _ _ _ _ _ _ _ _ _ _ c.loop-i.invariant.0 (c.loop-i.invariant.1.rest c.loop-i.i (omega arith)) c.carry-next.ensures.0 c.carry-next.ensures.1 c.carry-next.ensures.2,
+  each_next _ _ _ _ _ c.loop-i.invariant.1 (omega (arith, c.requires.l_bound.1)) c.carry-next.ensures.3,
+  omega arith,
+)
 
 pub shape_of-terms : goal.shape_of-terms
 shape_of-terms c = c.loop-i.invariant.1.size
 
 pub returns : goal.returns
-returns c =    
+returns c =
     carried_on _ (the_field _ c.requires.field) _ _ _ _ _ _ _ (sums_end _ _ _ _ _ _ _ _ _ c.loop-i.invariant.0 (omega arith))
     (each_end _ _ _ _ _ c.loop-i.invariant.1 (omega arith) (omega arith))

@@ -17,7 +17,7 @@ pub overflow_mul-d : goal.overflow_mul-d
 overflow_mul-d c = omega (arith, small_product c.args.d c.args.first c.requires.parity_in_bounds.1 c.requires.parity_in_bounds.2)
 
 pub loop-j-init : goal.loop-j-init
-loop-j-init c =    
+loop-j-init c =
     let P = the_field _ c.requires.field in
     let poly = poly_of c.args.field.now in
     let e = c.args.d * c.args.first % 255 in (
@@ -35,10 +35,9 @@ pub bounds-s-j-in-loop-j : goal.bounds-s-j-in-loop-j
 bounds-s-j-in-loop-j c = omega (arith, c.loop-j.invariant.0.size)
 
 pub loop-j-preserved : goal.loop-j-preserved
-loop-j-preserved c =    
+loop-j-preserved c =
     let P = the_field _ c.requires.field in
-    let poly = poly_of c.args.field.now in
-    (
+    let poly = poly_of c.args.field.now in (
       off_next _ P _ _ _ _ _ _ _ c.loop-j.invariant.0 (omega arith) (c.power.ensures ∙ c.loop-j.invariant.1),
       weight_more _ P _ _ _ _ _ _ c.loop-j.invariant.1 (reduced_power poly P _ _ c.reduced-n-in-loop-j.ensures.1 ∙ sym (mul_power poly P c.loop-j.n c.args.d)),
       c.reduced-n-in-loop-j.ensures.0,

@@ -15,13 +15,12 @@ pub bounds-f-i-in-loop-i : goal.bounds-f-i-in-loop-i
 bounds-f-i-in-loop-i c = omega (arith, c.loop-i.invariant.0.size)
 
 pub loop-i-preserved : goal.loop-i-preserved
-loop-i-preserved c =    
-    (
-      adding_next (poly_of c.args.field.now) c.args.q c.args.m c.args.g.now c.loop-i.i c.mul.result
-          c.args.f.now c.loop-i.f c.loop-i.invariant.0 (omega arith) c.loop-i.invariant.1 c.mul.ensures,
-      omega arith,
-      omega arith,
-    )
+loop-i-preserved c = (
+  adding_next (poly_of c.args.field.now) c.args.q c.args.m c.args.g.now c.loop-i.i c.mul.result
+      c.args.f.now c.loop-i.f c.loop-i.invariant.0 (omega arith) c.loop-i.invariant.1 c.mul.ensures,
+  omega arith,
+  omega arith,
+)
 
 pub shape_of-f : goal.shape_of-f
 shape_of-f c = c.loop-i.invariant.0.size

@@ -8,7 +8,7 @@ pub returns-then-d-eq0 : goal.returns-then-d-eq0
 returns-then-d-eq0 c = register_kept _ (the_field _ c.requires.field) _ _ _ _ _ _ _ c.requires.register (sym c.discrepancy-d.ensures ∙ c.if-d-eq0.true)
 
 pub returns-then-r-l : goal.returns-then-r-l
-returns-then-r-l c =    
+returns-then-r-l c =
     register_stayed _ (the_field _ c.requires.field) _ _ _ _ _ _ _ c.requires.register _ _ _ _ c.discrepancy-d.ensures
     (omega arith) (omega arith) c.div-q.ensures c.add_moved.ensures (omega arith)
     (omega arith) c.if-r-l.true
@@ -17,7 +17,7 @@ pub grow-requires : goal.grow-requires
 grow-requires c = record { field = c.requires.field; f_len = (c.requires.register.size_f, c.requires.register.size_g, omega arith, omega arith) }
 
 pub returns : goal.returns
-returns c =    
+returns c =
     register_grown _ (the_field _ c.requires.field) _ _ _ _ _ _ _ c.requires.register _ _ _ _ c.discrepancy-d.ensures
     (omega arith) (omega arith) c.div-q.ensures c.grow.ensures.0
     (omega arith)

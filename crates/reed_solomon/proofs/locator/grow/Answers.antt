@@ -9,10 +9,10 @@ loop-i-init c = (record { more = above_start _ _ _; old = above_start _ _ _ }, o
 
 pub loop-i-preserved : goal.loop-i-preserved
 loop-i-preserved c = (
-      growing_next _ _ _ _ _ _ _ _ _ _ c.loop-i.invariant.0 (omega arith) (omega arith) (omega arith) (omega arith) c.mul.ensures,
-      omega arith,
-      omega arith,
-    )
+  growing_next _ _ _ _ _ _ _ _ _ _ c.loop-i.invariant.0 (omega arith) (omega arith) (omega arith) (omega arith) c.mul.ensures,
+  omega arith,
+  omega arith,
+)
 
 pub copy-requires : goal.copy-requires
 copy-requires c = (omega (arith, c.loop-i.invariant.0.old.size), omega (arith, c.loop-i.invariant.0.more.size))

@@ -1,4 +1,4 @@
-use Rattle.general.proofs.Names.{◌∷◌, ◌≤◌, ◌-◌}
+use Rattle.general.proofs.Names.{[], ◌∷◌, ◌≤◌, ◌-◌}
 use Rattle.field.specs.Table.{poly_of}
 use Rattle.reed_solomon.specs.Inner.{advanced}
 use Rattle.general.specs.Each.{Each}

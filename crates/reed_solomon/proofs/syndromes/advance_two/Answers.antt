@@ -17,12 +17,11 @@ bounds-s-j-in-loop-j c = omega arith
 
 pub loop-j-preserved : goal.loop-j-preserved
 unfolding eval_from
-loop-j-preserved c =    
-    (
-      each_next _ _ _ _ _ c.loop-j.invariant.0 (omega arith)
-          (two_at_once _ (the_field _ c.requires.field) _ _ _ _ _ _ _ c.reduced.ensures.1 c.raised.ensures c.raised-in-loop-j.ensures),
-      omega arith,
-    )
+loop-j-preserved c = (
+  each_next _ _ _ _ _ c.loop-j.invariant.0 (omega arith)
+      (two_at_once _ (the_field _ c.requires.field) _ _ _ _ _ _ _ c.reduced.ensures.1 c.raised.ensures c.raised-in-loop-j.ensures),
+  omega arith,
+)
 
 pub shape_of-s : goal.shape_of-s
 shape_of-s c = c.loop-j.invariant.0.size

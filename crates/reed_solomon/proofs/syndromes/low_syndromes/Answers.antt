@@ -11,10 +11,10 @@ advance_four-requires c = record { field = c.requires.field; parity_bound = (ome
 
 pub loop-i-preserved : goal.loop-i-preserved
 loop-i-preserved c = (
-      running_next _ _ _ _ _ _ _ _ _ _ _ c.loop-i.invariant.0 c.advance_four.ensures
-          (cut_four _ (4 * c.loop-i.i) (4 * (c.loop-i.i + 1)) (omega arith) (omega arith)),
-      omega arith,
-    )
+  running_next _ _ _ _ _ _ _ _ _ _ _ c.loop-i.invariant.0 c.advance_four.ensures
+      (cut_four _ (4 * c.loop-i.i) (4 * (c.loop-i.i + 1)) (omega arith) (omega arith)),
+  omega arith,
+)
 
 pub advance_rest-requires : goal.advance_rest-requires
 advance_rest-requires c = record { field = c.requires.field; parity_bound = (omega arith, omega (arith, c.loop-i.invariant.0.size), omega arith) }

@@ -11,7 +11,7 @@ pub shape_of-s-then-first-parity-le64 : goal.shape_of-s-then-first-parity-le64
 shape_of-s-then-first-parity-le64 c = c.low_syndromes.ensures.size
 
 pub returns-then-first-parity-le64 : goal.returns-then-first-parity-le64
-returns-then-first-parity-le64 c =    
+returns-then-first-parity-le64 c =
     all_advanced _ (the_field _ c.requires.field) _ _ _ _ _ c.requires.s_len.0 c.requires.s_len.1 (λ i. omega (arith, c.type_inv.block i))
     c.low_syndromes.ensures
 
@@ -23,10 +23,10 @@ advance_two-requires c = record { field = c.requires.field; parity_bound = (c.re
 
 pub loop-i-preserved : goal.loop-i-preserved
 loop-i-preserved c = (
-      running_next _ _ _ _ _ _ _ _ _ _ _ c.loop-i.invariant.0 c.advance_two.ensures
-          (cut_two _ (c.loop-i.i + c.loop-i.i) (c.loop-i.i + 1 + (c.loop-i.i + 1)) (omega arith) (omega arith)),
-      omega arith,
-    )
+  running_next _ _ _ _ _ _ _ _ _ _ _ c.loop-i.invariant.0 c.advance_two.ensures
+      (cut_two _ (c.loop-i.i + c.loop-i.i) (c.loop-i.i + 1 + (c.loop-i.i + 1)) (omega arith) (omega arith)),
+  omega arith,
+)
 
 pub advance_rest-requires : goal.advance_rest-requires
 advance_rest-requires c = record { field = c.requires.field; parity_bound = (c.requires.parity_bound, omega (arith, c.loop-i.invariant.0.size), omega arith) }
@@ -35,6 +35,6 @@ pub shape_of-s : goal.shape_of-s
 shape_of-s c = c.advance_rest.ensures.size ∙ c.loop-i.invariant.0.size
 
 pub returns : goal.returns
-returns c =    
+returns c =
     all_advanced _ (the_field _ c.requires.field) _ _ _ _ _ c.requires.s_len.0 c.requires.s_len.1 (λ i. omega (arith, c.type_inv.block i))
     (running_rest _ _ _ _ _ _ _ _ _ c.loop-i.invariant.0 c.advance_rest.ensures)

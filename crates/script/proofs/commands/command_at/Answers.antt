@@ -7,7 +7,7 @@ pub returns-then-m-eq-FOUR_BYTE : goal.returns-then-m-eq-FOUR_BYTE
 returns-then-m-eq-FOUR_BYTE c = command_four c.args.script.now _ _ c.as_usize-m.ensures.0 c.if-m-eq-FOUR_BYTE.true
 
 pub returns-then-m-eq-ECI : goal.returns-then-m-eq-ECI
-returns-then-m-eq-ECI c =    
+returns-then-m-eq-ECI c =
     c.eci_at.ensures ∙ sym
     (command_eci c.args.script.now _ _ c.as_usize-m.ensures.0 c.if-m-eq-FOUR_BYTE.false c.if-m-eq-ECI.true)
 
@@ -15,14 +15,12 @@ pub returns-then-m-lt-NUMERIC : goal.returns-then-m-lt-NUMERIC
 returns-then-m-lt-NUMERIC c = command_zero c.args.script.now _ _ c.as_usize-m.ensures.0 c.if-m-eq-FOUR_BYTE.false c.if-m-eq-ECI.false c.if-m-lt-NUMERIC.true
 
 pub returns-then-m-gt-TWO_BYTE : goal.returns-then-m-gt-TWO_BYTE
-returns-then-m-gt-TWO_BYTE c =    
+returns-then-m-gt-TWO_BYTE c =
     command_large c.args.script.now _ _ c.as_usize-m.ensures.0 c.if-m-eq-FOUR_BYTE.false c.if-m-eq-ECI.false
     c.if-m-lt-NUMERIC.false c.if-m-gt-TWO_BYTE.true
 
 pub returns : goal.returns
-returns c =    
-    let w = c in
-    let a = w.before.before.before.args in
+returns c =
     c.run_at.ensures ∙ sym
-    (command_run a.script.now _ _ w.as-usize.ensures.0 c.if-m-eq-FOUR_BYTE.false c.if-m-eq-ECI.false
+    (command_run c.args.script.now _ _ c.as_usize-m.ensures.0 c.if-m-eq-FOUR_BYTE.false c.if-m-eq-ECI.false
     c.if-m-lt-NUMERIC.false c.if-m-gt-TWO_BYTE.false)

@@ -16,12 +16,11 @@ pub loop-j-smaller : goal.loop-j-smaller
 loop-j-smaller c = omega arith
 
 pub loop-j-preserved : goal.loop-j-preserved
-loop-j-preserved c =    
-    (
-      omega arith,
-      c.loop-j.invariant.1 ∙ digits_next _ c.loop-j.j c.loop-j.top c.digit_value.result c.greater-top.result (omega arith)
-          c.digit_value.ensures c.greater-top.ensures,
-    )
+loop-j-preserved c = (
+  omega arith,
+  c.loop-j.invariant.1 ∙ digits_next _ c.loop-j.j c.loop-j.top c.digit_value.result c.greater-top.result (omega arith)
+      c.digit_value.ensures c.greater-top.ensures,
+)
 
 pub returns : goal.returns
 returns c = digits_end _ c.loop-j.j c.loop-j.top (omega arith) ∙ sym c.loop-j.invariant.1

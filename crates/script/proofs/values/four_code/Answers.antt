@@ -4,7 +4,7 @@ use Rattle.script.proofs.values.four_code.Goals as goal
 
 pub returns : goal.returns
 unfolding four_code
-returns c =    
+returns c =
     rw (
       c.saturating_sub-4.ensures,
       c.as_usize-4.ensures.0,

@@ -5,7 +5,7 @@ use Rattle.script.proofs.values.in_region.Goals as goal
 
 pub returns-then-pair-a : goal.returns-then-pair-a
 unfolding in_region
-returns-then-pair-a c =    
+returns-then-pair-a c =
     let k = c.pair_of-pair.ensures in
     rw (
       ← c.pair_code-c.ensures,
@@ -18,7 +18,7 @@ returns-then-pair-a c =
 
 pub returns-else-pair-a : goal.returns-else-pair-a
 unfolding in_region
-returns-else-pair-a c =    
+returns-else-pair-a c =
     rw (
       ← c.pair_code-c.ensures,
       ← c.region_size.ensures,
@@ -28,4 +28,5 @@ returns-else-pair-a c =
     )
 
 pub returns-else-c-region_size : goal.returns-else-c-region_size
+unfolding in_region
 returns-else-c-region_size c = rw (← c.pair_code-c.ensures, ← c.region_size.ensures, le-ltb _ _ c.if-c-region_size.false)

@@ -13,7 +13,7 @@ returns-then-a-eq168 c = simp (c.if-one.true, le-ltb _ _ c.if-a-lt164.false, eq-
 
 pub returns-then-one : goal.returns-then-one
 unfolding pair_code
-returns-then-one c =    
+returns-then-one c =
     simp (
       c.if-one.true,
       le-ltb _ _ c.if-a-lt164.false,
@@ -23,4 +23,5 @@ returns-then-one c =
     )
 
 pub returns : goal.returns
+unfolding pair_code
 returns c = simp (c.if-one.false, c.saturating_sub-3.ensures, c.saturating_sub-2.ensures)

@@ -13,25 +13,23 @@ pub returns-then-all-from-2 : goal.returns-then-all-from-2
 returns-then-all-from-2 c = rw (eci_one_cut c.args.s.now c.args.from (λ e. c.if-bit-eq0.false (c.bit.ensures ∙ e)) (omega arith)) refl
 
 pub returns-then-bit-eq0-2 : goal.returns-then-bit-eq0-2
-returns-then-bit-eq0-2 c =    
-    let b = c in
-    let a = b.before.before.before.args in
-    rw (eci_two a.s.now a.from (λ e. c.if-bit-eq0.false (b.bit.ensures ∙ e))
+returns-then-bit-eq0-2 c =
+    rw (eci_two c.args.s.now c.args.from (λ e. c.if-bit-eq0.false (c.bit.ensures ∙ e))
     (sym c.bit-2.ensures ∙ c.if-bit-eq0-2.true))
     c.eci_field-then-bit-eq0-2.ensures
 
 pub returns-then-all-from-3 : goal.returns-then-all-from-3
-returns-then-all-from-3 c =    
+returns-then-all-from-3 c =
     rw (eci_two_cut c.args.s.now c.args.from (λ e. c.if-bit-eq0.false (c.bit.ensures ∙ e))
     (λ e. c.if-bit-eq0-2.false (c.bit-2.ensures ∙ e)) (omega arith)) refl
 
 pub returns-then-bit-eq0-3 : goal.returns-then-bit-eq0-3
-returns-then-bit-eq0-3 c =    
+returns-then-bit-eq0-3 c =
     rw (eci_three c.args.s.now c.args.from (λ e. c.if-bit-eq0.false (c.bit.ensures ∙ e))
     (λ e. c.if-bit-eq0-2.false (c.bit-2.ensures ∙ e)) (sym c.bit-3.ensures ∙ c.if-bit-eq0-3.true))
     c.eci_field-then-bit-eq0-3.ensures
 
 pub returns : goal.returns
-returns c =    
+returns c =
     rw (eci_lacks c.args.s.now c.args.from (λ e. c.if-bit-eq0.false (c.bit.ensures ∙ e))
     (λ e. c.if-bit-eq0-2.false (c.bit-2.ensures ∙ e)) (λ e. c.if-bit-eq0-3.false (c.bit-3.ensures ∙ e))) refl

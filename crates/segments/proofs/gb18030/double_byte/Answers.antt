@@ -1,5 +1,5 @@
 -- `double_byte` meets its contract. Assumes nothing.
-use Rattle.general.proofs.Names.{◌≡◌, ◌∙◌, refl, ap₂, ◌∷◌, arith, ℕ, sets}
+use Rattle.general.proofs.Names.{◌≡◌, ◌∙◌, refl, ap₂, [], ◌∷◌, arith, ℕ, sets}
 use Rattle.bits.proofs.Words.{WordAt}
 use Rattle.segments.specs.Segments.{first_byte, second_byte, double_byte_of}
 use Rattle.segments.proofs.Turns.{remains_start, remains_cut, remains_word, remains_lacks, remains_stop, remains_on, double_end}
@@ -7,9 +7,8 @@ use Rattle.segments.proofs.Turns.{double_lacks, double_pair}
 use Rattle.segments.proofs.gb18030.double_byte.Goals as goal
 
 -- what was read, where a word was read
-word : (c : tie.After-known-told invariant-loop decreases-loop)
-    → let g = c.before.before.before.before in WordAt 15 g.loop.at c.before.got.given.0.0 g.before.before.before.args.s.now
-word c = let b = c.before.before.before in remains_word b.before.loop.invariant.1 b.read-bits.ensures (omega arith) c.before.got.given.1
+word : (c : goal.In-Value) → WordAt 15 c.loop-w.at c.in-Value.w c.args.s.now
+word c = remains_word c.loop-w.invariant.1 c.read_bits-got.ensures (omega arith) c.in-Value.is
 
 pub loop-w-init : goal.loop-w-init
 loop-w-init c = (refl, remains_start (omega arith) (omega arith))
@@ -34,13 +33,13 @@ pub shape_of-out-then-w-eq32767 : goal.shape_of-out-then-w-eq32767
 shape_of-out-then-w-eq32767 c = c.loop-w.invariant.0
 
 pub returns-then-w-eq32767 : goal.returns-then-w-eq32767
-returns-then-w-eq32767 c = let r = word c in record { left = rw (remains_stop c.loop-w.invariant.1 r (double_end c.if-w-eq32767.true)) (refl, refl); inside = (omega arith, omega arith, omega arith, omega arith) }
+returns-then-w-eq32767 c = let r = word (goal.at.returns-then-w-eq32767 c).In-Value in record { left = rw (remains_stop c.loop-w.invariant.1 r (double_end c.if-w-eq32767.true)) (refl, refl); inside = (omega arith, omega arith, omega arith, omega arith) }
 
 pub shape_of-out-then-w-ge23940 : goal.shape_of-out-then-w-ge23940
 shape_of-out-then-w-ge23940 c = c.loop-w.invariant.0
 
 pub returns-then-w-ge23940 : goal.returns-then-w-ge23940
-returns-then-w-ge23940 c = record { left = rw (remains_lacks c.loop-w.invariant.1 (word c) (double_lacks c.if-w-eq32767.false c.if-w-ge23940.true)) refl; inside = tt }
+returns-then-w-ge23940 c = record { left = rw (remains_lacks c.loop-w.invariant.1 (word (goal.at.returns-then-w-ge23940 c).In-Value) (double_lacks c.if-w-eq32767.false c.if-w-ge23940.true)) refl; inside = tt }
 
 pub put_pair-requires : goal.put_pair-requires
 put_pair-requires c = (omega arith, c.first_byte.ensures.0, c.second_byte.ensures.0)
@@ -49,16 +48,16 @@ pub overflow_add-n : goal.overflow_add-n
 overflow_add-n c = omega arith
 
 pub loop-w-smaller : goal.loop-w-smaller
-loop-w-smaller c = let m = (word c).room in omega arith
+loop-w-smaller c = let m = (word (goal.at.loop-w-smaller c).In-Value).room in omega arith
 
 pub loop-w-preserved : goal.loop-w-preserved
-loop-w-preserved c =    
+loop-w-preserved c =
     let w = c.in-Value.w in
     let e : c.put_pair.new.out ≡ sets c.loop-w.out c.loop-w.n (first_byte w ∷ second_byte w ∷ []) =
     c.put_pair.ensures
     ∙ ap₂ (λ (x y : ℕ). sets c.loop-w.out c.loop-w.n (x ∷ y ∷ [])) c.first_byte.ensures.1
     c.second_byte.ensures.1 in (
       c.put_pair.auto.0 ∙ c.loop-w.invariant.0,
-      remains_on c.loop-w.invariant.1 (word c) (first_byte w ∷ second_byte w ∷ []) double_byte_of
+      remains_on c.loop-w.invariant.1 (word (goal.at.loop-w-preserved c).In-Value) (first_byte w ∷ second_byte w ∷ []) double_byte_of
           (double_pair c.if-w-eq32767.false c.if-w-ge23940.false) (omega arith) e,
     )

@@ -35,15 +35,14 @@ pub loop-i-smaller : goal.loop-i-smaller
 loop-i-smaller c = omega arith
 
 pub loop-i-preserved : goal.loop-i-preserved
-loop-i-preserved c =    
-    let l = c.loop-i in
+loop-i-preserved c =
     let t = c.power_of_ten.ensures.0 in
-    let e : c.put.new.out ≡ set l.out (c.args.n + l.i) (48 + c.args.v / 10 ^ (c.args.k - 1 - l.i) % 10) = c.put.ensures
-    ∙ ap (λ (z : ℕ). set l.out (c.args.n + l.i) (48 + c.args.v / z % 10)) t in (
-      c.put.auto.0 ∙ l.invariant.0,
+    let e : c.put.new.out ≡ set c.loop-i.out (c.args.n + c.loop-i.i) (48 + c.args.v / 10 ^ (c.args.k - 1 - c.loop-i.i) % 10) = c.put.ensures
+    ∙ ap (λ (z : ℕ). set c.loop-i.out (c.args.n + c.loop-i.i) (48 + c.args.v / z % 10)) t in (
+      c.put.auto.0 ∙ c.loop-i.invariant.0,
       omega arith,
-      l.invariant.2 ∙ digits_more l.out _ _ _ _ (omega arith)
-          ∙ ap (λ (z : List ℕ). sets z (c.args.n + (l.i + 1)) (digits (c.args.k - (l.i + 1)) c.args.v)) (sym e),
+      c.loop-i.invariant.2 ∙ digits_more c.loop-i.out _ _ _ _ (omega arith)
+          ∙ ap (λ (z : List ℕ). sets z (c.args.n + (c.loop-i.i + 1)) (digits (c.args.k - (c.loop-i.i + 1)) c.args.v)) (sym e),
     )
 
 pub shape_of-out : goal.shape_of-out

@@ -11,19 +11,19 @@ pub overflow_cast-p : goal.overflow_cast-p
 overflow_cast-p c = small _ (omega arith)
 
 pub assistant_if_odd-requires : goal.assistant_if_odd-requires
-assistant_if_odd-requires c = (c.requires.0, inside_call c.column_of-x.type-inv c.column_of-x.ensures.1, inside_number (c.args.p.side - 1) (omega arith) (omega arith))
+assistant_if_odd-requires c = (c.requires.0, inside_call c.column_of-x.type_inv c.column_of-x.ensures.1, inside_number (c.args.p.side - 1) (omega arith) (omega arith))
 
 pub assistant_if_odd-requires-2 : goal.assistant_if_odd-requires-2
-assistant_if_odd-requires-2 c =    
+assistant_if_odd-requires-2 c =
     let room = c.assistant_if_odd.auto.0 in
-    (fits_square c.requires.0 room, inside_call c.column_of-x.type-inv c.column_of-x.ensures.1, inside_number 0 (omega arith) (omega arith))
+    (fits_square c.requires.0 room, inside_call c.column_of-x.type_inv c.column_of-x.ensures.1, inside_number 0 (omega arith) (omega arith))
 
 pub returns : goal.returns
 unfolding column_ends
-returns c =    
+returns c =
     let q = c.requires.0.spaced in
-    next (assisted (ap (λ (k : ℕ). c.args.n + k) q.m_is) (ok c.column_of-x.result c.column_of-x.type-inv)
+    next (assisted (ap (λ (k : ℕ). c.args.n + k) q.m_is) (ok c.column_of-x.result c.column_of-x.type_inv)
     (small (pos (c.args.p.side - 1)) (omega arith)) c.column_of-x.ensures.0 (ap (λ (k : ℕ). pos (k - 1)) q.side_is)
     c.assistant_if_odd.ensures)
-    (assisted {k = c.args.n} refl (ok c.column_of-x.result c.column_of-x.type-inv) (small (pos 0) (omega arith)) c.column_of-x.ensures.0
+    (assisted {k = c.args.n} refl (ok c.column_of-x.result c.column_of-x.type_inv) (small (pos 0) (omega arith)) c.column_of-x.ensures.0
     refl c.assistant_if_odd-2.ensures)

@@ -8,6 +8,6 @@ pub overflow_cast-result : goal.overflow_cast-result
 overflow_cast-result c = small _ (omega arith)
 
 pub returns : goal.returns
-returns c =    
+returns c =
     let e = unsigned (c.args.p.side - 1 - c.line_of.result) (omega arith) in
     (e ∙ column_is c.requires.0 _ _ c.line_of.ensures.0 c.line_of.ensures.1, inside_of e (omega arith))

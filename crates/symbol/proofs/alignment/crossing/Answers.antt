@@ -13,20 +13,20 @@ returns-then-n-j-eq0 c = exactly (crossing_first _ _ _ c.if-n-j-eq0.true) none
 
 pub line_left-requires : goal.line_left-requires
 line_left-requires c = let q = c.requires.0 in
-    (omega arith, q.room, inside_call c.column_of-x.type-inv c.column_of-x.ensures.1, inside_call c.row_of-y.type-inv c.row_of-y.ensures.1, omega arith)
+    (omega arith, q.room, inside_call c.column_of-x.type_inv c.column_of-x.ensures.1, inside_call c.row_of-y.type_inv c.row_of-y.ensures.1, omega arith)
 
 pub line_down-requires : goal.line_down-requires
-line_down-requires c =    
+line_down-requires c =
     let step = c.step-2.ensures.1 in
-    (omega arith, omega arith, inside_call c.column_of-x.type-inv c.column_of-x.ensures.1, inside_call c.row_of-y.type-inv c.row_of-y.ensures.1, step.0, omega arith)
+    (omega arith, omega arith, inside_call c.column_of-x.type_inv c.column_of-x.ensures.1, inside_call c.row_of-y.type_inv c.row_of-y.ensures.1, step.0, omega arith)
 
 pub returns : goal.returns
-returns c =    
+returns c =
     let v = c.args.p.version in
     exactly (crossing_on v _ _ c.if-n-j-eq1.false c.if-n-j-eq0.false)
     (next (exactly (ap (line_left _ (row_line v c.args.n)) c.step.ensures.0)
-    (heard (λ a b. line_left a b c.step.result) (ok c.column_of-x.result c.column_of-x.type-inv) (ok c.row_of-y.result c.row_of-y.type-inv) c.column_of-x.ensures.0 c.row_of-y.ensures.0
+    (heard (λ a b. line_left a b c.step.result) (ok c.column_of-x.result c.column_of-x.type_inv) (ok c.row_of-y.result c.row_of-y.type_inv) c.column_of-x.ensures.0 c.row_of-y.ensures.0
     c.line_left.ensures))
     (exactly (ap (line_down (column_line v c.args.j) (row_line v c.args.n)) c.step-2.ensures.0)
-    (heard (λ a b. line_down a b c.step-2.result) (ok c.column_of-x.result c.column_of-x.type-inv) (ok c.row_of-y.result c.row_of-y.type-inv) c.column_of-x.ensures.0 c.row_of-y.ensures.0
+    (heard (λ a b. line_down a b c.step-2.result) (ok c.column_of-x.result c.column_of-x.type_inv) (ok c.row_of-y.result c.row_of-y.type_inv) c.column_of-x.ensures.0 c.row_of-y.ensures.0
     c.line_down.ensures)))

@@ -7,7 +7,7 @@ pub overflow_mul-result : goal.overflow_mul-result
 overflow_mul-result c = omega (arith, near_side c.requires.0 _ c.if-n-p.true)
 
 pub returns-then-n-p : goal.returns-then-n-p
-returns-then-n-p c =    
+returns-then-n-p c =
     let n = c.args.n in
     let h = c.if-n-p.true in
     (sym (line_near c.requires.0 n h), omega (arith, near_side c.requires.0 n h))

@@ -13,7 +13,7 @@ pub shape_of-out : goal.shape_of-out
 shape_of-out c = c.modules-2.auto.0 ∙ simp length-set c.modules.auto.0
 
 pub returns : goal.returns
-returns c =    
+returns c =
     let room = c.requires.0 in
     finder_row_lem _ c.args.row room.big room.inside c.finder_row-left.result c.finder_row-right.result c.requires.1
     c.finder_row-left.ensures c.finder_row-right.ensures room.room

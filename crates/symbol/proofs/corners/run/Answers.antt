@@ -23,6 +23,6 @@ pub shape_of-out : goal.shape_of-out
 shape_of-out c = c.loop-i.invariant.0.size
 
 pub returns : goal.returns
-returns c =    
+returns c =
     let e : c.loop-i.i ≡ c.args.to =
     omega arith in subst (λ (n : ℕ). Stored (λ i. c.args.kind) c.args.from n c.args.out.now c.loop-i.out) e c.loop-i.invariant.0

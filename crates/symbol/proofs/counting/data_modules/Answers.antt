@@ -5,6 +5,7 @@ use Rattle.general.proofs.Names.{take, length-take-le, ℕ, ◌≡◌, refl, ap,
 use Rattle.symbol.proofs.counting.data_modules.Goals as goal
 
 pub loop-i-init : goal.loop-i-init
+unfolding data_modules
 loop-i-init c = (omega arith, refl)
 
 pub overflow_add-count : goal.overflow_add-count
@@ -12,9 +13,11 @@ overflow_add-count c = let kinds = c.args.kinds.now in
     let end = c.run_end-end.result in omega (arith, modules_few (take end kinds), length-take-le end kinds (omega arith))
 
 pub loop-i-smaller : goal.loop-i-smaller
+unfolding data_modules
 loop-i-smaller c = omega arith
 
 pub loop-i-preserved : goal.loop-i-preserved
+unfolding data_modules
 loop-i-preserved c = (omega arith, omega arith)
 
 pub returns : goal.returns

@@ -20,7 +20,7 @@ pub loop-i-smaller : goal.loop-i-smaller
 loop-i-smaller c = omega arith
 
 pub loop-i-preserved : goal.loop-i-preserved
-loop-i-preserved c =    
+loop-i-preserved c =
     let more : data_modules _ + c.loop-i.count + c.data_module-count.result ≡ data_modules
     _ =
     modules_more _ _ _ _ _ c.requires.2

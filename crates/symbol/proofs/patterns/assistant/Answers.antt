@@ -13,7 +13,7 @@ overflow_add-y c = forth_fits 1 c.ranges.y c.requires.3 (omega arith)
 
 pub returns : goal.returns
 unfolding assistant
-returns c =    
+returns c =
     next (heard (λ a b. three_at a b light) c.ranges.x (back_fits 1 c.ranges.y c.requires.3 (omega arith)) refl
     (back_is 1 c.ranges.y c.requires.3 (omega arith)) c.three.ensures)
     (next (heard (λ a b. three_at a b dark) c.ranges.x c.ranges.y refl refl c.three-2.ensures)

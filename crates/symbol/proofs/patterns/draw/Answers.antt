@@ -20,7 +20,7 @@ pub loop-i-smaller : goal.loop-i-smaller
 loop-i-smaller c = omega arith
 
 pub loop-i-preserved : goal.loop-i-preserved
-loop-i-preserved c =    
+loop-i-preserved c =
     let kind = c.args.kind in (
       stored_more c.loop-i.invariant.1 (omega arith) (c.drawn.ensures ∙ ap (λ (a : ℕ). drawn a kind) (c.loop-i.invariant.0.after _ (omega arith)))
           c.loop-i.invariant.0,
@@ -32,7 +32,7 @@ pub shape_of-grid : goal.shape_of-grid
 shape_of-grid c = c.loop-i.invariant.0.size
 
 pub returns : goal.returns
-returns c =    
+returns c =
     let e : c.loop-i.i ≡ c.args.to = omega arith in
     subst (λ (n : ℕ). Stored (λ j. drawn (get_or c.args.grid.now j 0) c.args.kind) c.args.from n c.args.grid.now c.loop-i.grid) e
     c.loop-i.invariant.0

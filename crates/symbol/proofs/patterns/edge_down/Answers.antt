@@ -26,7 +26,7 @@ pub overflow_add-y : goal.overflow_add-y
 overflow_add-y c = forth_fits (c.loop-i.i + 1) c.ranges.y (omega arith) (omega arith)
 
 pub line_module-requires : goal.line_module-requires
-line_module-requires c =    
+line_module-requires c =
     let n = c.loop-i.i + 1 in
     let f = forth_fits n c.ranges.y (omega arith) (omega arith) in
     let e = forth_is n c.ranges.y (omega arith) (omega arith) in
@@ -40,7 +40,7 @@ pub loop-i-smaller : goal.loop-i-smaller
 loop-i-smaller c = omega arith
 
 pub loop-i-preserved : goal.loop-i-preserved
-loop-i-preserved c =    
+loop-i-preserved c =
     again (omega arith) c.loop-i.invariant (heard line_module c.ranges.x (forth_fits (c.loop-i.i + 1) c.ranges.y (omega arith) (omega arith))
     (sym (to_z-of_z c.ranges.x)) (ap (λ (z : ℤ). to_z w64 (of_z w64 c.args.y) +ℤ z) (unsigned (c.loop-i.i + 1) (omega arith)))
     c.line_module.ensures) c.line_module.auto.0

@@ -15,7 +15,7 @@ pub shape_of-square-then-number-eq0 : goal.shape_of-square-then-number-eq0
 shape_of-square-then-number-eq0 c = c.write_front-number.auto.1.1.1.1.1.0 ∙ ap length c.loop-version.invariant.1
 
 pub returns-then-number-eq0 : goal.returns-then-number-eq0
-returns-then-number-eq0 c =    
+returns-then-number-eq0 c =
     front_zero _ _ _ _ c.requires.0 c.requires.2 _ c.loop-version.invariant.0 (omega (arith, c.loop-version-test.true)) _ c.requires.1 c.loop-version.square _ _
     c.write_front-number.ensures c.if-number-eq0.true
     ∙ ap (smallest_of c.args.level c.args.mask c.args.script.now c.args.payload.now) c.loop-version.invariant.1
@@ -24,7 +24,7 @@ pub shape_of-square-then-number-ne1 : goal.shape_of-square-then-number-ne1
 shape_of-square-then-number-ne1 c = c.write_front-number.auto.1.1.1.1.1.0 ∙ ap length c.loop-version.invariant.1
 
 pub returns-then-number-ne1 : goal.returns-then-number-ne1
-returns-then-number-ne1 c =    
+returns-then-number-ne1 c =
     rw c.refused.ensures
     (front_other _ _ _ _ c.requires.0 c.requires.2 _ c.loop-version.invariant.0 (omega (arith, c.loop-version-test.true)) _ c.requires.1 c.loop-version.square _ _
     c.write_front-number.ensures c.if-number-eq0.false c.if-number-ne1.true
@@ -34,12 +34,12 @@ pub lowest_version-version-requires-in-loop-version : goal.lowest_version-versio
 lowest_version-version-requires-in-loop-version c = (c.requires.0, omega arith, omega (arith, c.loop-version-test.true))
 
 pub loop-version-smaller : goal.loop-version-smaller
-loop-version-smaller c =    
+loop-version-smaller c =
     let h : c.loop-version.version < 85 = omega (arith, c.loop-version-test.true) in
     omega (arith, h, candidate_later _ _ _ _ c.requires.0 c.requires.2 _ c.loop-version.invariant.0 h _ c.lowest_version-version-in-loop-version.ensures)
 
 pub loop-version-preserved : goal.loop-version-preserved
-loop-version-preserved c =    
+loop-version-preserved c =
     let h : c.loop-version.version < 85 = omega (arith, c.loop-version-test.true) in
     let e = front_one _ _ _ _ c.requires.0 c.requires.2 _ c.loop-version.invariant.0 h _ c.requires.1 c.loop-version.square _ _ c.write_front-number.ensures
     c.if-number-ne1.false in
@@ -49,7 +49,7 @@ pub shape_of-square : goal.shape_of-square
 shape_of-square c = ap length c.loop-version.invariant.1
 
 pub returns : goal.returns
-returns c =    
+returns c =
     rw c.refused-2.ensures
     (search_over _ _ _ _ c.requires.0 c.requires.2 _ _ c.loop-version.invariant.0 c.loop-version-test.false c.requires.1 c.loop-version.square
     ∙ ap (smallest_of c.args.level c.args.mask c.args.script.now c.args.payload.now) c.loop-version.invariant.1)

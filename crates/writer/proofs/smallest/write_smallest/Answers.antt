@@ -8,9 +8,6 @@ use Rattle.writer.proofs.Refusals.{answered}
 use Rattle.writer.proofs.Fronts.{ranges_refused, check_refused}
 use Rattle.writer.proofs.smallest.write_smallest.Goals as goal
 
-ranged : (c : tie.Else1) → let o = c.before.before.before.before.before.args in (o.level ≤ 3) × (o.mask ≤ 3)
-ranged c = let R = c.before.is-info.ensures.1 (not-false _ c.if1.false) in (R.1, R.2)
-
 -- the check answers k and refuses script and payload
 refuses : (c : tie.Else1) (x k : Check)
     → let o = c.before.before.before.before.before.args in
@@ -18,15 +15,18 @@ refuses : (c : tie.Else1) (x k : Check)
     → smallest (answered k) 0 o.square.now ≡ smallest_of o.level o.mask o.script.now o.payload.now o.square.now
 refuses c x k = check_refused _ _ _ _ _ (ranged c).0 (ranged c).1 x k
 
+ranged : (c : goal.Else-not-is_info) → (c.args.level ≤ 3) × (c.args.mask ≤ 3)
+ranged c = let R = c.is_info.ensures.1 (not-false _ c.if-not-is_info.false-raw) in (R.1, R.2)
+
 pub returns-then-not-is_info : goal.returns-then-not-is_info
-returns-then-not-is_info c =    
+returns-then-not-is_info c =
     rw c.refused.ensures
     (ranges_refused _ _ c.args.script.now c.args.payload.now c.args.square.now _ c.is_info.ensures.0
     (not-true _ c.if-not-is_info.true-raw))
 
 pub write_lowest-requires : goal.write_lowest-requires
-write_lowest-requires c =    
-    let R = ranged c in
+write_lowest-requires c =
+    let R = ranged (goal.at.write_lowest-requires c).Else-not-is_info in
     (R.0, R.1, sym c.in-Bits.is ∙ c.check_script.ensures)
 
 pub returns-in-Malformed : goal.returns-in-Malformed
