@@ -7,9 +7,10 @@ use Rattle.bits.proofs.Words.{length_low}
 use Rattle.bits.proofs.Window.{one_shifted}
 use Rattle.bits.proofs.Appending.{Joins, joined_is, appended, behind_set}
 use Rattle.bits.proofs.write_bits.Goals as goal
+use Rattle.bits.proofs.write_bits.Goals.{After-store_four-arg-1}
 
 -- what is stored
-joins : (c : goal.After-store_four-arg-1) → Joins c.as_usize-old.result (c.args.at % 8)
+joins : (c : After-store_four-arg-1) → Joins c.as_usize-old.result (c.args.at % 8)
     c.args.n c.args.v
 joins c = joined_is _ _ _ _ c.as_usize-old.ensures.1 (omega arith) (omega arith)
 

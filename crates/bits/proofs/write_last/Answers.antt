@@ -30,7 +30,7 @@ loop-i-smaller c = omega arith
 
 pub loop-i-preserved : goal.loop-i-preserved
 loop-i-preserved c = (
-  c.write_bit.auto.0 ∙ c.loop-i.invariant.0,
+  c.write_bit.auto.buf ∙ c.loop-i.invariant.0,
   omega arith,
   c.loop-i.invariant.2 ∙ write_more (bits_of c.loop-i.buf) c.args.at c.args.n c.loop-i.i c.args.v (omega arith)
       ∙ ap (λ (B : List ℕ). sets B (c.args.at + (c.loop-i.i + 1)) (low_bits (c.args.n - (c.loop-i.i + 1)) c.args.v)) (sym c.write_bit.ensures),

@@ -6,14 +6,14 @@ use Rattle.blocks.specs.Inner.{behind, writing}
 use Rattle.blocks.proofs.Rule.{row_batch, behind_all}
 use Rattle.blocks.proofs.Transfers.{TransferLeft, transfer_start, row_writes, batch_room, batch_transferred, transfer_end, written_row}
 use Rattle.block_writer.proofs.write_blocks.Goals as goal
+use Rattle.block_writer.proofs.write_blocks.Goals.{After-struct_known-1}
 
 -- the blocks of a turn's batch are written
-next : (c : goal.After-struct_known-1) → let b = c.batch_of-b.result in
+next : (c : After-struct_known-1) → let b = c.batch_of-b.result in
     TransferLeft writing (shapes c.args.row.now) 0 0 c.args.«data».now c.args.stream.now (behind (c.loop-k.k + 1) c.args.row.now)
     (c.loop-k.n + b.count * (b.info + b.parity)) (c.loop-k.from + b.count * b.info) c.write_batch.new.stream
-next c =
-    batch_transferred _ _ c.loop-k.invariant c.loop-k-test.true
-    c.batch_of-b.result c.batch_of-b.ensures.is c.write_batch.ensures c.write_batch.auto.0
+next c = batch_transferred _ _ c.loop-k.invariant c.loop-k-test.true
+    c.batch_of-b.result c.batch_of-b.ensures.is c.write_batch.ensures c.write_batch.auto.stream
 
 pub loop-k-init : goal.loop-k-init
 unfolding behind

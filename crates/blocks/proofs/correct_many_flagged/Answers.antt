@@ -4,14 +4,15 @@ use Rattle.reed_solomon.proofs.Massey.{zeros}
 use Rattle.block_table.specs.Blocks.{batch}
 use Rattle.blocks.specs.Inner.{blocks_in}
 use Rattle.blocks.proofs.Rule.{batch_none}
-use Rattle.blocks.proofs.Corrects.{BlocksLeft, blocks_left_start, block_room, block_stop, blocks_left_end}
+use Rattle.blocks.proofs.Corrects.{BlocksLeft, blocks_left_start, block_room, block_next, block_stop, blocks_left_end}
 use Rattle.blocks.proofs.correct_many_flagged.Goals as goal
+use Rattle.blocks.proofs.correct_many_flagged.Goals.{In-Corrected}
 
 -- the block of a turn is corrected
-next : (c : goal.In-Corrected) → let b = c.args.b in
+next : (c : In-Corrected) → let b = c.args.b in
     BlocksLeft c.args.flags.now (blocks_in b) c.args.from c.args.stream.now (batch (c.loop-left.left - 1) b.info b.parity)
     (c.loop-left.at + (b.info + b.parity)) (c.loop-left.n + c.in-Corrected.m) c.correct_flagged-r.new.stream
-next c =block_next _ _ _ c.loop-left.invariant c.loop-left-test.true _ c.correct_flagged-r.ensures c.in-Corrected.is c.correct_flagged-r.auto.1.1.0
+next c = block_next _ _ _ c.loop-left.invariant c.loop-left-test.true _ c.correct_flagged-r.ensures c.in-Corrected.is c.correct_flagged-r.auto.1.1.0
 
 pub returns-then-b-eq0 : goal.returns-then-b-eq0
 returns-then-b-eq0 c = blocks_left_end (blocks_left_start _ _ _ _ c.requires.0) (batch_none _ _ _ (omega arith))
@@ -26,7 +27,7 @@ pub slice_bounds-correct_flagged-end : goal.slice_bounds-correct_flagged-end
 slice_bounds-correct_flagged-end c = sym c.prepare.ensures.size
 
 pub correct_flagged-r-requires : goal.correct_flagged-r-requires
-correct_flagged-r-requires c =    
+correct_flagged-r-requires c =
     let field = c.han_xin-field.ensures in
     let room = block_room _ _ _ c.loop-left.invariant c.loop-left-test.true in
     (field.0, field.1, c.prepare.ensures, room.0, omega (arith, room.1, c.requires.1))

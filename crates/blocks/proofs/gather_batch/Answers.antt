@@ -5,15 +5,15 @@ use Rattle.blocks.specs.Inner.{blocks_in, gathering, transferred}
 use Rattle.blocks.proofs.Rule.{batch_none}
 use Rattle.blocks.proofs.Transfers.{TransferLeft, transfer_start, one_room, one_next, transfer_end}
 use Rattle.blocks.proofs.gather_batch.Goals as goal
+use Rattle.blocks.proofs.gather_batch.Goals.{After-struct_known-1}
 
 -- the data part of a turn's block is copied
-next : (c : goal.After-struct_known-1) → let b = c.args.b in
+next : (c : After-struct_known-1) → let b = c.args.b in
     TransferLeft gathering (blocks_in b) c.args.to c.args.from c.args.stream.now c.args.out.now
     (batch (c.loop-left.left - 1) b.info b.parity) (c.loop-left.into + b.info) (c.loop-left.at + (b.info + b.parity)) c.copy.new.dst
 unfolding transferred batch
-next c =
-    one_next _ _ _ c.loop-left.invariant c.loop-left-test.true
-    c.copy.ensures c.copy.auto.0
+next c = one_next _ _ _ c.loop-left.invariant c.loop-left-test.true
+    c.copy.ensures c.copy.auto.dst
 
 pub loop-left-init : goal.loop-left-init
 loop-left-init c = transfer_start c.requires

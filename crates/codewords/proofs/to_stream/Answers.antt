@@ -22,7 +22,7 @@ pub loop-start-smaller : goal.loop-start-smaller
 loop-start-smaller c = omega arith
 
 pub loop-start-preserved : goal.loop-start-preserved
-loop-start-preserved c = (c.store_start-i.ensures.0, c.store_start-i.ensures.1 ∙ c.loop-start.invariant.1, omega arith, c.store_start-i.auto.0 ∙ c.loop-start.invariant.3)
+loop-start-preserved c = (c.store_start-i.ensures.0, c.store_start-i.ensures.1 ∙ c.loop-start.invariant.1, omega arith, c.store_start-i.auto.out ∙ c.loop-start.invariant.3)
 
 pub shape_of-out : goal.shape_of-out
 shape_of-out c = c.loop-start.invariant.3

@@ -9,9 +9,10 @@ use Rattle.symbol.specs.Layout.{data_modules}
 use Rattle.codewords.specs.Codewords.{mask_bit, placed}
 use Rattle.general.proofs.Names.{length, drop, ◌≡◌, refl, sym, ap, subst, ◌∙◌, ℕ, ◌+◌, ◌*◌, ◌≤◌, zero-mul, mul-le-mul_left, arith}
 use Rattle.drawing.proofs.place_rows.Goals as goal
+use Rattle.drawing.proofs.place_rows.Goals.{In-loop-i}
 
 -- the row of a turn lies in the square, and that is small
-inside : (c : goal.In-loop-i) → let side = c.args.side in
+inside : (c : In-loop-i) → let side = c.args.side in
     (c.loop-i.i * side + side ≤ side * side) × (side * side ≤ side * 189)
 inside c = (row_inside _ _ c.loop-i-test.true, mul-le-mul_left _ c.requires.3)
 

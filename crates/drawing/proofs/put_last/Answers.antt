@@ -13,7 +13,7 @@ pub loop-p-smaller : goal.loop-p-smaller
 loop-p-smaller c = omega arith
 
 pub loop-p-preserved : goal.loop-p-preserved
-loop-p-preserved c = (row_buffers_kept c.put_one-p.auto.0 c.loop-p.invariant.0, c.put_one-p.ensures.1, puts_on c.loop-p.invariant.2 c.put_one-p.ensures.2)
+loop-p-preserved c = (row_buffers_kept c.put_one-p.auto.square c.loop-p.invariant.0, c.put_one-p.ensures.1, puts_on c.loop-p.invariant.2 c.put_one-p.ensures.2)
 
 pub shape_of-square : goal.shape_of-square
 shape_of-square c = c.loop-p.invariant.0.size ∙ sym c.requires.0.size

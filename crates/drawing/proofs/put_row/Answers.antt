@@ -13,13 +13,13 @@ pub loop-p-smaller : goal.loop-p-smaller
 loop-p-smaller c = omega arith
 
 pub loop-p-preserved : goal.loop-p-preserved
-loop-p-preserved c = (row_buffers_kept c.put_step-p.auto.0 c.loop-p.invariant.0, c.put_step-p.ensures.1, puts_on c.loop-p.invariant.2 c.put_step-p.ensures.2)
+loop-p-preserved c = (row_buffers_kept c.put_step-p.auto.square c.loop-p.invariant.0, c.put_step-p.ensures.1, puts_on c.loop-p.invariant.2 c.put_step-p.ensures.2)
 
 pub put_last-requires : goal.put_last-requires
 put_last-requires c = (c.loop-p.invariant.0, c.loop-p.invariant.1)
 
 pub shape_of-square : goal.shape_of-square
-shape_of-square c = c.put_last.auto.0 ∙ c.loop-p.invariant.0.size
+shape_of-square c = c.put_last.auto.square ∙ c.loop-p.invariant.0.size
     ∙ sym c.requires.0.size
 
 pub returns : goal.returns

@@ -4,20 +4,19 @@ use Rattle.segments.specs.Script.{run, eci}
 use Rattle.script.specs.Inner.{command_size}
 use Rattle.encoding.proofs.Segments.{Next, begun, never_wrong, run_next, eci_next, ended}
 use Rattle.encoding.proofs.encode.Goals as goal
+use Rattle.encoding.proofs.encode.Goals.{In-Eci, In-Run}
 
 -- the segment in front, where the command is one of modes 1 to 7
-next_run : (c : goal.In-Run) → let v = c.next-1.given.0 in
+next_run : (c : In-Run) → let v = c.next-1.given.0 in
     (1 ≤ v.0) × (v.0 ≤ 7)
     × Next c.args.script.now c.args.payload.now (length c.args.codewords.now) c.loop-i.codewords c.loop-i.i c.loop-i.j c.loop-i.at
     (run v.0 (take v.1.0 (drop c.loop-i.j c.args.payload.now))) (command_size v.0) v.1.0
-next_run c =
-    run_next (omega arith) c.command_at-next.ensures c.loop-i.invariant.4 (λ q. omega (arith, c.type_inv.script q))
+next_run c = run_next (omega arith) c.command_at-next.ensures c.loop-i.invariant.4 (λ q. omega (arith, c.type_inv.script q))
     c.in-Run.is
 
 -- and where it is an ECI
-next_eci : (c : goal.In-Eci) → Next c.args.script.now c.args.payload.now (length c.args.codewords.now) c.loop-i.codewords c.loop-i.i c.loop-i.j c.loop-i.at (eci c.in-Eci.v) 4 0
-next_eci c =
-    eci_next (omega arith) c.command_at-next.ensures c.loop-i.invariant.4 (λ q. omega (arith, c.type_inv.script q))
+next_eci : (c : In-Eci) → Next c.args.script.now c.args.payload.now (length c.args.codewords.now) c.loop-i.codewords c.loop-i.i c.loop-i.j c.loop-i.at (eci c.in-Eci.v) 4 0
+next_eci c = eci_next (omega arith) c.command_at-next.ensures c.loop-i.invariant.4 (λ q. omega (arith, c.type_inv.script q))
     c.in-Eci.is
 
 pub loop-i-init : goal.loop-i-init
@@ -68,7 +67,7 @@ loop-i-preserved-in-Run c =
     let t = next_run (goal.at.loop-i-preserved-in-Run c).In-Run in
     let z : c.loop-i.j + n - c.loop-i.j ≡ n = omega arith in
     let e = c.command_size-i.ensures.0 in
-    (c.write_run-at.auto.0 ∙ c.loop-i.invariant.0, omega arith, omega arith, c.loop-i.invariant.3, rw e (t.2.done (rw z at c.write_run-at.ensures)))
+    (c.write_run-at.auto.buf ∙ c.loop-i.invariant.0, omega arith, omega arith, c.loop-i.invariant.3, rw e (t.2.done (rw z at c.write_run-at.ensures)))
 
 pub enum_known-next-in-Eci-1 : goal.enum_known-next-in-Eci-1
 enum_known-next-in-Eci-1 c = c.in-Eci.keys2
@@ -85,7 +84,7 @@ loop-i-smaller c = let t = next_eci (goal.at.loop-i-smaller c).In-Eci in omega a
 pub loop-i-preserved : goal.loop-i-preserved
 loop-i-preserved c =
     let t = next_eci (goal.at.loop-i-preserved c).In-Eci in
-    (c.write_eci-at.auto.0 ∙ c.loop-i.invariant.0, omega arith, omega arith, c.loop-i.invariant.3, rw add-zero at (t.done c.write_eci-at.ensures))
+    (c.write_eci-at.auto.buf ∙ c.loop-i.invariant.0, omega arith, omega arith, c.loop-i.invariant.3, rw add-zero at (t.done c.write_eci-at.ensures))
 
 pub enum_told-1 : goal.enum_told-1
 enum_told-1 c = c.in-Wrong.keys3
@@ -100,7 +99,7 @@ pub pad-requires : goal.pad-requires
 pad-requires c = (omega arith, omega arith)
 
 pub shape_of-codewords : goal.shape_of-codewords
-shape_of-codewords c = c.pad.auto.0 ∙ c.loop-i.invariant.0
+shape_of-codewords c = c.pad.auto.buf ∙ c.loop-i.invariant.0
 
 pub returns : goal.returns
 returns c = ended (omega arith) c.loop-i.invariant.4 c.pad.new.buf (λ k. omega (arith, c.type_inv.codewords k)) (rw c.loop-i.invariant.0 at c.pad.ensures)

@@ -14,5 +14,5 @@ clear-requires c = omega arith
 
 pub returns : goal.returns
 returns c =
-    padded _ _ _ c.args.at c.write_bits.auto.0 (omega arith) c.write_bits.ensures
+    padded _ _ _ c.args.at c.write_bits.auto.buf (omega arith) c.write_bits.ensures
     c.clear.ensures

@@ -4,26 +4,25 @@ use Rattle.script.specs.Characters.{words_of, switch_of, begins_in}
 use Rattle.encoding.specs.Written.{WordsLeft}
 use Rattle.encoding.proofs.WordsLeft.{Behind, begun, word_room, word_done, all_done, words_left_as, same_words, other_words, never_lacking, end_words}
 use Rattle.encoding.proofs.write_chars.Goals as goal
+use Rattle.encoding.proofs.write_chars.Goals.{After-put-next, In-Other, In-Same}
 
 -- behind a character of the present subset or region, and behind one of the other
-same : (c : goal.In-Same) → Behind c.args.run.now c.args.mode (c.loop-j.j + c.step-by.result) c.width-w.result c.args.buf.now c.args.from
+same : (c : In-Same) → Behind c.args.run.now c.args.mode (c.loop-j.j + c.step-by.result) c.width-w.result c.args.buf.now c.args.from
     (words_of c.args.mode (begins_in c.args.mode) c.args.run.now) c.loop-j.buf c.loop-j.at
     (c.in-Same.c ∷ []) c.loop-j.first
 unfolding begins_in
-same c =
-    same_words c.args.run.now c.args.mode c.loop-j.first c.loop-j.j c.character_at-g.ensures c.step-by.ensures.0 (omega arith)
+same c = same_words c.args.run.now c.args.mode c.loop-j.first c.loop-j.j c.character_at-g.ensures c.step-by.ensures.0 (omega arith)
     c.loop-j.invariant.2 c.loop-j.invariant.4 c.in-Same.is
 
-other : (c : goal.In-Other) → Behind c.args.run.now c.args.mode (c.loop-j.j + c.step-by.result) c.width-w.result c.args.buf.now c.args.from
+other : (c : In-Other) → Behind c.args.run.now c.args.mode (c.loop-j.j + c.step-by.result) c.width-w.result c.args.buf.now c.args.from
     (words_of c.args.mode (begins_in c.args.mode) c.args.run.now) c.loop-j.buf c.loop-j.at
     (switch_of c.args.mode ∷ c.in-Other.c ∷ []) (not c.loop-j.first)
 unfolding begins_in
-other c =
-    other_words c.args.run.now c.args.mode c.loop-j.first c.loop-j.j c.character_at-g.ensures c.step-by.ensures.0 (omega arith)
+other c = other_words c.args.run.now c.args.mode c.loop-j.first c.loop-j.j c.character_at-g.ensures c.step-by.ensures.0 (omega arith)
     c.loop-j.invariant.2 c.loop-j.invariant.4 c.in-Other.is
 
 -- the switch is written
-switched : (c : goal.After-put-next) → WordsLeft c.width-w.result c.args.buf.now c.args.from (words_of c.args.mode (begins_in c.args.mode) c.args.run.now) c.put-next.new.buf c.put-next.result
+switched : (c : After-put-next) → WordsLeft c.width-w.result c.args.buf.now c.args.from (words_of c.args.mode (begins_in c.args.mode) c.args.run.now) c.put-next.new.buf c.put-next.result
     (c.in-Other.c ∷ words_of c.args.mode (not c.loop-j.first) (drop (c.loop-j.j + c.step-by.result) c.args.run.now))
 switched c = word_done (other c.before.before.before).words_left (rw c.switch_word.ensures at c.put-next.ensures)
 
@@ -60,7 +59,7 @@ pub loop-j-preserved-in-Same : goal.loop-j-preserved-in-Same
 unfolding begins_in
 loop-j-preserved-in-Same c =
     let t = same (goal.at.loop-j-preserved-in-Same c).In-Same in
-    (c.put-at.auto.0 ∙ c.loop-j.invariant.0, t.room, t.have, c.loop-j.invariant.3, word_done t.words_left c.put-at.ensures)
+    (c.put-at.auto.buf ∙ c.loop-j.invariant.0, t.room, t.have, c.loop-j.invariant.3, word_done t.words_left c.put-at.ensures)
 
 pub enum_known-g-in-Other-1 : goal.enum_known-g-in-Other-1
 enum_known-g-in-Other-1 c = c.in-Other.keys2
@@ -74,7 +73,7 @@ put-next-requires c =
 pub put-at-requires-in-Other : goal.put-at-requires-in-Other
 unfolding begins_in
 put-at-requires-in-Other c =
-    let e = c.put-next.auto.0 ∙ c.loop-j.invariant.0 in
+    let e = c.put-next.auto.buf ∙ c.loop-j.invariant.0 in
     let r = word_room (8 * length c.put-next.new.buf) (switched (goal.at.put-at-requires-in-Other c).After-put-next) (rw e c.loop-j.invariant.3) in
     (omega arith, r, omega arith)
 
@@ -88,7 +87,7 @@ pub loop-j-preserved : goal.loop-j-preserved
 unfolding begins_in
 loop-j-preserved c =
     let t = other (goal.at.loop-j-preserved c).In-Other in
-    (c.put-at-in-Other.auto.0 ∙ c.put-next.auto.0 ∙ c.loop-j.invariant.0, t.room, t.have, c.loop-j.invariant.3, word_done (switched (goal.at.loop-j-preserved c).After-put-next) c.put-at-in-Other.ensures)
+    (c.put-at-in-Other.auto.buf ∙ c.put-next.auto.buf ∙ c.loop-j.invariant.0, t.room, t.have, c.loop-j.invariant.3, word_done (switched (goal.at.loop-j-preserved c).After-put-next) c.put-at-in-Other.ensures)
 
 pub enum_told-1 : goal.enum_told-1
 enum_told-1 c = c.in-Lacking.keys3
@@ -105,7 +104,7 @@ put-requires c =
     (omega arith, omega arith, omega arith)
 
 pub shape_of-buf : goal.shape_of-buf
-shape_of-buf c = c.put.auto.0 ∙ c.loop-j.invariant.0
+shape_of-buf c = c.put.auto.buf ∙ c.loop-j.invariant.0
 
 pub returns : goal.returns
 unfolding begins_in

@@ -6,8 +6,9 @@ use Rattle.script.specs.Writer.{eci_bits}
 use Rattle.encoding.proofs.WordsLeft.{written_both}
 use Rattle.encoding.proofs.Runs.{first_room, rest_room, eci_7, eci_14, eci_21}
 use Rattle.encoding.proofs.write_eci.Goals as goal
+use Rattle.encoding.proofs.write_eci.Goals.{After-put-at}
 
-room : (c : goal.After-put-at) → c.put-at.result + length (eci_bits c.args.v) ≤ 8 * length c.args.buf.now
+room : (c : After-put-at) → c.put-at.result + length (eci_bits c.args.v) ≤ 8 * length c.args.buf.now
 room c = rest_room _ _ c.put-at.ensures c.requires.1
 
 pub put-at-requires : goal.put-at-requires

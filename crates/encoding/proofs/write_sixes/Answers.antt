@@ -39,7 +39,7 @@ loop-j-smaller c = omega arith
 pub loop-j-preserved : goal.loop-j-preserved
 loop-j-preserved c =
     let d = words_left_as (six_digits c.args.run.now c.loop-j.j (omega arith)) c.loop-j.invariant.3 in
-    (c.put-at.auto.0 ∙ c.loop-j.invariant.0, omega arith, omega arith, two_done d (rw (c.group-first.ensures.0, c.group-second.ensures.0) at (rw (two_words 10 10 _ _) at c.put-at.ensures)))
+    (c.put-at.auto.buf ∙ c.loop-j.invariant.0, omega arith, omega arith, two_done d (rw (c.group-first.ensures.0, c.group-second.ensures.0) at (rw (two_words 10 10 _ _) at c.put-at.ensures)))
 
 pub shape_of-buf : goal.shape_of-buf
 shape_of-buf c = c.loop-j.invariant.0

@@ -5,9 +5,10 @@ use Rattle.reed_solomon.specs.Inner.{zeros_of}
 use Rattle.reed_solomon.proofs.Erased.{erasures_zeros}
 use Rattle.erasure_corrector.proofs.Repairs.{erased_next}
 use Rattle.erasure_corrector.proofs.erased.Goals as goal
+use Rattle.erasure_corrector.proofs.erased.Goals.{After-differ-count}
 
 -- the place of a turn is counted
-next : (c : goal.After-differ-count) → let flags = c.args.flags.now in
+next : (c : After-differ-count) → let flags = c.args.flags.now in
     c.loop-k.count + c.differ-count.result + zeros_of (c.loop-k.k + 1) (seq flags) ≡ c.loop-k.k + 1
 next c = erased_next _ _ _ _ c.loop-k.invariant.0 c.differ-count.ensures
 

@@ -2,8 +2,9 @@
 use Rattle.general.proofs.Names.{ap, sym, ◌∙◌, ◌≤◌, arith, not-true, not-false}
 use Rattle.information.specs.Information.{word_of, info_bits, info_of}
 use Rattle.information.proofs.info_bits.Goals as goal
+use Rattle.information.proofs.info_bits.Goals.{Else-not-is_info}
 
-within : (c : goal.Else-not-is_info) → (c.args.version ≤ 84) × (c.args.level ≤ 3) × (c.args.mask ≤ 3)
+within : (c : Else-not-is_info) → (c.args.version ≤ 84) × (c.args.level ≤ 3) × (c.args.mask ≤ 3)
 within c = c.is_info.ensures.1 (not-false _ c.if-not-is_info.false-raw)
 
 pub returns-then-not-is_info : goal.returns-then-not-is_info

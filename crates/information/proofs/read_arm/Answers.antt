@@ -3,11 +3,11 @@ use Rattle.general.proofs.Names.{get_or, ℕ, ◌<◌, ◌≡◌, ap, ◌∙◌,
 use Rattle.information.proofs.Copies.{lowest_at, lowest_lt, number_small, number_more}
 use Rattle.information.specs.Inner.{lowest, module_of, number_from}
 use Rattle.information.proofs.read_arm.Goals as goal
+use Rattle.information.proofs.read_arm.Goals.{In-loop-n}
 
 -- the bits so far are a small number
-small : (c : goal.In-loop-n) → c.loop-n.w < 17179869184
-small c =
-    let g = c.args.square.now in
+small : (c : In-loop-n) → c.loop-n.w < 17179869184
+small c = let g = c.args.square.now in
     omega (arith, number_small (module_of c.args.side c.args.second (lowest g)) (λ k. lowest_lt g _) c.loop-n.n (omega arith))
 
 pub loop-n-init : goal.loop-n-init

@@ -37,7 +37,7 @@ pub returns-else-other-m : goal.returns-else-other-m
 returns-else-other-m c =
     is_copied a.«data».now _ _ c.if-data-gt-MAX_DATA.false _ _ _
     c.parse-first.new.out c.parse-first.new.script c.parse-first.ensures c.in-Done.n c.in-Done.m c.in-Done.is c.if-n-eq0.false c.if-payload-n.false c.if-script-m.false
-    (rw c.parse-first.auto.1.0 at c.if-spare-n.false)
+    (rw c.parse-first.auto.script at c.if-spare-n.false)
     (rw c.parse-first.auto.1.1.0 at c.if-other-m.false) c.copy.new.to c.copy-in-Done.new.to
     c.copy.ensures c.copy-in-Done.ensures
 

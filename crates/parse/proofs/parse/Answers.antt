@@ -6,6 +6,7 @@ use Rattle.segments.specs.Segments.{Fault, cut, lacking, segments_of}
 use Rattle.segments.specs.Positions.{counted, stepped, Parses}
 use Rattle.segments.proofs.Steps.{parsing_start, parse_few, parse_end, parse_stop, parse_room, parse_on}
 use Rattle.parse.proofs.parse.Goals as goal
+use Rattle.parse.proofs.parse.Goals.{After-segment-next, In-On, In-Value}
 
 -- where a segment is cut or lacking
 stop : (c : tie.After-segment invariant-loop decreases-loop) (bad : Fault) → c.segment.result ≡ stepped bad
@@ -18,23 +19,21 @@ stop c bad e =
     q.new.1.1.1.1.0 q.ensures bad e
 
 -- what was read, where a word was read
-word : (c : goal.In-Value) → WordAt 4 c.loop-mode.at c.in-Value.mode c.args.s.now
-word c =
-    let s = c.args.s.now in
+word : (c : In-Value) → WordAt 4 c.loop-mode.at c.in-Value.mode c.args.s.now
+word c = let s = c.args.s.now in
     let e = c.mode-got.ensures ∙ read_inside s c.loop-mode.at 4 (omega arith) (omega arith) (omega arith) in
     word_read 4 c.loop-mode.at s c.mode-got.result e c.in-Value.mode (omega arith) (omega arith) c.in-Value.is
 
 -- both buffers keep their lengths
-kept : (c : goal.After-segment-next) → (length c.segment-next.new.out ≡ length c.args.out.now) × (length c.segment-next.new.script ≡ length c.args.script.now)
+kept : (c : After-segment-next) → (length c.segment-next.new.out ≡ length c.args.out.now) × (length c.segment-next.new.script ≡ length c.args.script.now)
 kept c = (c.segment-next.auto.1.1.1.0 ∙ c.loop-mode.invariant.0, c.segment-next.auto.1.1.1.1.0 ∙ c.loop-mode.invariant.1)
 
 -- where the segment ended
-room : (c : goal.In-On) → let v = c.next-1.given.0 in
+room : (c : In-On) → let v = c.next-1.given.0 in
     (c.loop-mode.at + 4 ≤ v.0)
     × (v.0 ≤ 8 * length c.args.s.now)
     × (v.1.0 ≤ v.0) × (v.1.1.0 ≤ v.0)
-room c =
-    parse_room c.loop-mode.invariant.5 (word c.before.before.before.before.before.before.before.before.before.before.before) c.if-mode-eq0.false c.segment-next.result c.segment-next.new.out
+room c = parse_room c.loop-mode.invariant.5 (word c.before.before.before.before.before.before.before.before.before.before.before) c.if-mode-eq0.false c.segment-next.result c.segment-next.new.out
     c.segment-next.new.script c.segment-next.ensures
     c.in-On.is
 

@@ -48,7 +48,7 @@ pub loop-r-preserved : goal.loop-r-preserved
 loop-r-preserved c =
     let m = last_moves c.requires.0 (λ i. omega (arith, c.type_inv.kinds i)) c.requires.3 c.loop-r-test.true (omega (arith, c.loop-r.invariant.1, c.requires.4))
     c.eight-k.ensures c.modules-x.ensures c.advance-r.ensures.1 in
-    (c.advance-r.ensures.0, omega arith, m.1, reads_on c.loop-r.invariant.3 m.2, c.advance-r.auto.0 ∙ c.loop-r.invariant.4)
+    (c.advance-r.ensures.0, omega arith, m.1, reads_on c.loop-r.invariant.3 m.2, c.advance-r.auto.out ∙ c.loop-r.invariant.4)
 
 pub shape_of-out : goal.shape_of-out
 shape_of-out c = c.loop-r.invariant.4

@@ -7,9 +7,10 @@ use Rattle.codewords.specs.Codewords.{mask_bit, data_bits}
 use Rattle.general.proofs.Names.{length, ◌≡◌, refl, sym, ap, subst, ◌∙◌, ℕ, ◌+◌, ◌*◌, ◌≤◌, zero-mul, arith}
 use Rattle.information.specs.Inner.{lowest}
 use Rattle.placement.proofs.read_rows.Goals as goal
+use Rattle.placement.proofs.read_rows.Goals.{In-loop-i}
 
 -- the row of a turn lies in the square
-inside : (c : goal.In-loop-i) → let side = c.args.side in c.loop-i.i * side + side ≤ side * side
+inside : (c : In-loop-i) → let side = c.args.side in c.loop-i.i * side + side ≤ side * side
 inside c = row_inside _ _ c.loop-i-test.true
 
 pub overflow_add-columns : goal.overflow_add-columns

@@ -4,9 +4,10 @@ use Rattle.queue.specs.Queue.{entry_refusal}
 use Rattle.queue.specs.Inner.{front}
 use Rattle.queue.proofs.Loops.{here, count_start, count_stop, count_next, count_end}
 use Rattle.queue.proofs.count.Goals as goal
+use Rattle.queue.proofs.count.Goals.{After-refusal}
 
 -- what was answered for the entry
-answered : (c : goal.After-refusal) → c.refusal.result ≡ entry_refusal (front c.loop-n.n c.args.state.now) (here _ _ c.loop-n.invariant c.requires)
+answered : (c : After-refusal) → c.refusal.result ≡ entry_refusal (front c.loop-n.n c.args.state.now) (here _ _ c.loop-n.invariant c.requires)
 answered c = rw (c.wide.ensures, c.wide-in-loop-n.ensures) at c.refusal.ensures
 
 pub loop-n-init : goal.loop-n-init

@@ -4,11 +4,12 @@ use Rattle.symbol.specs.Version.{side_refusal, side_number}
 use Rattle.queue.specs.Queue.{waiting, entry_refusal}
 use Rattle.queue.specs.Inner.{front}
 use Rattle.queue.proofs.refusal.Goals as goal
+use Rattle.queue.proofs.refusal.Goals.{Else-is_waiting}
 
 -- only the side is left
-of_side : (c : goal.Else-is_waiting) → entry_refusal (front c.args.n c.args.state.now) (waiting c.args.head c.args.side) ≡ side_refusal c.args.side
+of_side : (c : Else-is_waiting) → entry_refusal (front c.args.n c.args.state.now) (waiting c.args.head c.args.side) ≡ side_refusal c.args.side
 unfolding entry_refusal
-of_side c =rw (le-ltb 5 c.args.head (omega (arith, c.if-head-ge-HEADS.false)), ← c.is_waiting.ensures, c.if-is_waiting.false)
+of_side c = rw (le-ltb 5 c.args.head (omega (arith, c.if-head-ge-HEADS.false)), ← c.is_waiting.ensures, c.if-is_waiting.false)
 
 pub returns-then-head-ge-HEADS : goal.returns-then-head-ge-HEADS
 unfolding entry_refusal

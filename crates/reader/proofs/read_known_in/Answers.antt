@@ -4,9 +4,10 @@ use Rattle.information.specs.Information.{is_info}
 use Rattle.decoding.specs.Inner.{PassesFirstRefusals, body_or1}
 use Rattle.reader.proofs.FirstRefusals.{known_receipt, known_range, known_early, known_fits, known_left, early_small}
 use Rattle.reader.proofs.read_known_in.Goals as goal
+use Rattle.reader.proofs.read_known_in.Goals.{Else-not-is_info}
 
 -- version, level and mask are in their ranges
-ranged : (c : goal.Else-not-is_info) → let m = c.args.m in
+ranged : (c : Else-not-is_info) → let m = c.args.m in
     (is_info m.version m.level m.mask ≡ true) × (m.version ≤ 84)
 ranged c = let e = not-false _ c.if-not-is_info.false-raw in (sym c.is_info.ensures.0 ∙ e, (c.is_info.ensures.1 e).0)
 

@@ -5,7 +5,7 @@ use Rattle.general.specs.Each.{Each}
 use Rattle.remainder.proofs.lower.Given as goal
 
 abbrev pub invariant-loop-j : goal.invariant-loop-j
-invariant-loop-j l = Each (λ l.j x. mul (poly_of l.field) x (power (poly_of l.field) (l.n * (l.first + l.j)))) l.j l.initial.s l.s × (l.j ≤ l.parity)
+invariant-loop-j l = Each (λ j x. mul (poly_of l.field) x (power (poly_of l.field) (l.n * (l.first + j)))) l.j l.initial.s l.s × (l.j ≤ l.parity)
 
 abbrev pub decreases-loop-j : goal.decreases-loop-j
 decreases-loop-j l = l.parity - l.j

@@ -3,9 +3,10 @@ use Rattle.general.proofs.Names.{refl, ◌+◌, ◌≤◌, ◌*◌, arith}
 use Rattle.script.specs.Characters.{begins_in}
 use Rattle.script.proofs.Runs.{counted_end, counted_lacks, counted_same, counted_other, small}
 use Rattle.script.proofs.char_bits.Goals as goal
+use Rattle.script.proofs.char_bits.Goals.{After-width}
 
 -- no run has many bits
-few : (c : goal.After-width) → c.width.result * (c.loop-j.words + 1) ≤ 15000000
+few : (c : After-width) → c.width.result * (c.loop-j.words + 1) ≤ 15000000
 few c = small _ (c.loop-j.words + 1) (omega arith) (omega arith)
 
 pub loop-j-init : goal.loop-j-init

@@ -5,25 +5,23 @@ use Rattle.script.specs.Characters.{cost_of}
 use Rattle.script.proofs.Checks.{run_bounds, eci_bounds, check_from_start, check_from_wrong, check_from_eci, check_from_short, check_from_takes}
 use Rattle.script.proofs.Checks.{check_from_lacks, end_left, end_lacks, end_empty, end_bits, limited}
 use Rattle.script.proofs.check_script.Goals as goal
+use Rattle.script.proofs.check_script.Goals.{After-run_bits-cost, In-Eci, In-Run}
 
 -- what the command has
-bounds : (c : goal.In-Run) → let v = c.next-1.given.0 in
+bounds : (c : In-Run) → let v = c.next-1.given.0 in
     (1 ≤ v.0) × (v.0 ≤ 7) × (v.1.0 < 65536) × (c.loop-i.i + command_size v.0 ≤ length c.args.script.now)
-bounds c =
-    run_bounds c.args.script.now c.loop-i.i (λ i. omega (arith, c.type_inv.script i)) (omega arith) c.command_at-next.result c.command_at-next.ensures
+bounds c = run_bounds c.args.script.now c.loop-i.i (λ i. omega (arith, c.type_inv.script i)) (omega arith) c.command_at-next.result c.command_at-next.ensures
     c.in-Run.mode c.in-Run.n c.in-Run.is
 
 -- the bits of the run are those of its bytes
-cost : (c : goal.After-run_bits-cost) → let v = c.next-1.given.0 in
+cost : (c : After-run_bits-cost) → let v = c.next-1.given.0 in
     c.run_bits-cost.result ≡ cost_of v.0 (take v.1.0 (drop c.loop-i.j c.args.payload.now))
-cost c =
-    let n = c.in-Run.n in
+cost c = let n = c.in-Run.n in
     let z : c.loop-i.j + n - c.loop-i.j ≡ n = omega arith in
     rw z at c.run_bits-cost.ensures.0
 
-eci_room : (c : goal.In-Eci) → c.loop-i.i + 4 ≤ length c.args.script.now
-eci_room c =
-    eci_bounds c.args.script.now c.loop-i.i (λ i. omega (arith, c.type_inv.script i)) (omega arith) c.command_at-next.result
+eci_room : (c : In-Eci) → c.loop-i.i + 4 ≤ length c.args.script.now
+eci_room c = eci_bounds c.args.script.now c.loop-i.i (λ i. omega (arith, c.type_inv.script i)) (omega arith) c.command_at-next.result
     c.command_at-next.ensures c.in-Eci.v c.in-Eci.is
 
 pub loop-i-init : goal.loop-i-init

@@ -4,9 +4,10 @@ use Rattle.bits.proofs.Words.{WordAt}
 use Rattle.segments.specs.Positions.{bytes_run}
 use Rattle.segments.proofs.Turns.{remains_start, remains_cut, remains_word, remains_on, bytes_run_cut, bytes_run_done, bytes_run_more}
 use Rattle.segments.proofs.bytes_run.Goals as goal
+use Rattle.segments.proofs.bytes_run.Goals.{In-Value}
 
 -- what was read, where a word was read
-word : (c : goal.In-Value) → WordAt 8 c.loop-i.at c.in-Value.w c.args.s.now
+word : (c : In-Value) → WordAt 8 c.loop-i.at c.in-Value.w c.args.s.now
 word c = remains_word c.loop-i.invariant.2 c.read_bits-got.ensures (omega arith) c.in-Value.is
 
 pub loop-i-init : goal.loop-i-init
@@ -44,7 +45,7 @@ pub loop-i-preserved : goal.loop-i-preserved
 loop-i-preserved c =
     let k = c.args.k in
     let w = c.in-Value.w in (
-      c.put.auto.0 ∙ c.loop-i.invariant.0,
+      c.put.auto.out ∙ c.loop-i.invariant.0,
       omega arith,
       remains_on c.loop-i.invariant.2 (word (goal.at.loop-i-preserved c).In-Value) (w ∷ []) (bytes_run (k - (c.loop-i.i + 1)))
           (bytes_run_more w k c.loop-i.i (omega arith)) (omega arith) c.put.ensures,

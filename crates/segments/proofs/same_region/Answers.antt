@@ -5,9 +5,10 @@ use Rattle.segments.specs.Segments.{high_of, low_of, region_of}
 use Rattle.segments.proofs.Turns.{remains_start, remains_cut, remains_word, remains_lacks, remains_stop, remains_on, remains_none}
 use Rattle.segments.proofs.Turns.{region_end, region_switch, region_lacks, region_pair}
 use Rattle.segments.proofs.same_region.Goals as goal
+use Rattle.segments.proofs.same_region.Goals.{In-Value}
 
 -- what was read, where a word was read
-word : (c : goal.In-Value) → WordAt 12 c.loop-w.at c.in-Value.w c.args.s.now
+word : (c : In-Value) → WordAt 12 c.loop-w.at c.in-Value.w c.args.s.now
 word c = remains_word c.loop-w.invariant.1 c.read_bits-got.ensures (omega arith) c.in-Value.is
 
 pub loop-w-init : goal.loop-w-init
@@ -79,4 +80,4 @@ loop-w-preserved c =
     let bytes = c.pair_of-pair.ensures in
     let e : c.put_pair.new.out ≡ sets c.loop-w.out c.loop-w.n (high_of one w ∷ low_of one w ∷ []) = rw (← bytes.2, ← bytes.3) c.put_pair.ensures in
     let on = region_pair one c.if-w-eq4095.false c.if-w-eq4094.false (omega arith) in
-    (c.put_pair.auto.0 ∙ c.loop-w.invariant.0, remains_on c.loop-w.invariant.1 (word (goal.at.loop-w-preserved c).In-Value) (high_of one w ∷ low_of one w ∷ []) (region_of one) on (omega arith) e)
+    (c.put_pair.auto.out ∙ c.loop-w.invariant.0, remains_on c.loop-w.invariant.1 (word (goal.at.loop-w-preserved c).In-Value) (high_of one w ∷ low_of one w ∷ []) (region_of one) on (omega arith) e)

@@ -29,7 +29,7 @@ loop-r-preserved c =
       omega (arith, on, taken),
       spans_on lo (omega (arith, on)) c.loop-r.invariant.3
           (spans_push c.requires.0 8 _ (omega (arith, taken)) c.unmasked.ensures.0 on c.push-r.ensures.2),
-      c.push-r.auto.0
+      c.push-r.auto.out
           ∙ c.loop-r.invariant.4,
     )
 
@@ -51,7 +51,7 @@ push-requires c =
     (c.loop-r.invariant.0, omega arith, subst (λ (x : ℕ). x < 2 ^ w) (sym c.lowest.ensures) (mod-lt _ (pow_pos w)), omega arith)
 
 pub shape_of-out : goal.shape_of-out
-shape_of-out c = c.push.auto.0 ∙ c.loop-r.invariant.4
+shape_of-out c = c.push.auto.out ∙ c.loop-r.invariant.4
 
 pub returns : goal.returns
 returns c =

@@ -10,4 +10,4 @@ write_blocks-requires c = let o = c.requires.row_len in
 pub returns : goal.returns
 returns c =
     stream_encoded c.args.script.now c.args.payload.now _ _ c.args.stream.now _ _ c.requires.row_len.3
-    c.encode.ensures c.requires.row_len.2 c.write_blocks.auto.0 c.write_blocks.ensures
+    c.encode.ensures c.requires.row_len.2 c.write_blocks.auto.stream c.write_blocks.ensures

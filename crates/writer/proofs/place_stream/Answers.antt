@@ -11,5 +11,5 @@ pub returns : goal.returns
 returns c =
     let t = c.total_codewords-total.ensures in
     stream_placed _ _ c.requires.0 c.args.stream.now _ _ c.args.square.now _ _ _ t.0
-    c.side-side.ensures (omega (arith, t.0, c.requires.3)) c.from_stream.auto.0
+    c.side-side.ensures (omega (arith, t.0, c.requires.3)) c.from_stream.auto.out
     c.from_stream.ensures c.requires.1 c.place_codewords.ensures

@@ -39,7 +39,7 @@ place_stream-requires c = (
   lent_back
       c.data_length-room.result _
       c.encode_stream.new.data c.args.spare.now
-      c.encode_stream.auto.1.0
+      c.encode_stream.auto.data
       (omega (
         arith,
         (room_is c.requires.mark_with_layout.0.valid _ c.requires.row.0.is _

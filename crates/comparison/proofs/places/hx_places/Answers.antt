@@ -3,9 +3,10 @@ use Rattle.general.proofs.Names.{◌≡◌, refl, sym, ap, ◌∙◌, List, ℕ,
 use Rattle.comparison.specs.Places.{searched, search_of}
 use Rattle.comparison.proofs.Horner.{all_copied, values_copied}
 use Rattle.comparison.proofs.places.hx_places.Goals as goal
+use Rattle.comparison.proofs.places.hx_places.Goals.{After-copy}
 
 -- the copy is the locator
-copy_is : (c : goal.After-copy) → c.copy.new.dst ≡ c.args.f.now
+copy_is : (c : After-copy) → c.copy.new.dst ≡ c.args.f.now
 copy_is c = all_copied _ _ _ 256 c.if-f-ne256.false refl c.copy.ensures
 
 pub returns-then-f-ne256 : goal.returns-then-f-ne256

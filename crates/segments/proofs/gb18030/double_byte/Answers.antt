@@ -5,9 +5,10 @@ use Rattle.segments.specs.Segments.{first_byte, second_byte, double_byte_of}
 use Rattle.segments.proofs.Turns.{remains_start, remains_cut, remains_word, remains_lacks, remains_stop, remains_on, double_end}
 use Rattle.segments.proofs.Turns.{double_lacks, double_pair}
 use Rattle.segments.proofs.gb18030.double_byte.Goals as goal
+use Rattle.segments.proofs.gb18030.double_byte.Goals.{In-Value}
 
 -- what was read, where a word was read
-word : (c : goal.In-Value) → WordAt 15 c.loop-w.at c.in-Value.w c.args.s.now
+word : (c : In-Value) → WordAt 15 c.loop-w.at c.in-Value.w c.args.s.now
 word c = remains_word c.loop-w.invariant.1 c.read_bits-got.ensures (omega arith) c.in-Value.is
 
 pub loop-w-init : goal.loop-w-init
@@ -57,7 +58,7 @@ loop-w-preserved c =
     c.put_pair.ensures
     ∙ ap₂ (λ (x y : ℕ). sets c.loop-w.out c.loop-w.n (x ∷ y ∷ [])) c.first_byte.ensures.1
     c.second_byte.ensures.1 in (
-      c.put_pair.auto.0 ∙ c.loop-w.invariant.0,
+      c.put_pair.auto.out ∙ c.loop-w.invariant.0,
       remains_on c.loop-w.invariant.1 (word (goal.at.loop-w-preserved c).In-Value) (first_byte w ∷ second_byte w ∷ []) double_byte_of
           (double_pair c.if-w-eq32767.false c.if-w-ge23940.false) (omega arith) e,
     )

@@ -6,15 +6,16 @@ use Rattle.segments.specs.Positions.{numeric_at}
 use Rattle.segments.proofs.Turns.{Remains, remains_start, remains_cut, remains_word, remains_lacks, remains_end, remains_on, remains_none}
 use Rattle.segments.proofs.Turns.{length_digits, numeric_lacks, numeric_first, groups_more, groups_lack, groups_large, groups_end}
 use Rattle.segments.proofs.numeric.numeric.Goals as goal
+use Rattle.segments.proofs.numeric.numeric.Goals.{In-Value, In-Value-got, Start}
 
 -- all of the mode is to come
-begins : (c : goal.Start) → Remains 10 (numeric_at c.args.s.now c.args.from c.args.to c.args.out.now) c.args.s.now c.args.from c.args.to c.args.from c.args.to c.args.out.now numeric_of
+begins : (c : Start) → Remains 10 (numeric_at c.args.s.now c.args.from c.args.to c.args.out.now) c.args.s.now c.args.from c.args.to c.args.from c.args.to c.args.out.now numeric_of
 begins c = remains_start c.requires.1 c.requires.2
 
-word1 : (c : goal.In-Value) → WordAt 10 c.args.from c.in-Value.first c.args.s.now
+word1 : (c : In-Value) → WordAt 10 c.args.from c.in-Value.first c.args.s.now
 word1 c = remains_word (begins c.before.before.before.before.before.before) c.read_bits-start.ensures (omega arith) c.in-Value.is
 
-word2 : (c : goal.In-Value-got) → WordAt 10 c.loop-w.at c.in-Value-got.w
+word2 : (c : In-Value-got) → WordAt 10 c.loop-w.at c.in-Value-got.w
     c.args.s.now
 word2 c = remains_word c.loop-w.invariant.2 c.read_bits-got.ensures (omega arith) c.in-Value-got.is
 
@@ -80,7 +81,7 @@ pub overflow_add-result : goal.overflow_add-result
 overflow_add-result c = let r = (word2 (goal.at.overflow_add-result c).In-Value-got).small in omega arith
 
 pub shape_of-out-then-w-ge1000 : goal.shape_of-out-then-w-ge1000
-shape_of-out-then-w-ge1000 c = c.push_digits.auto.0 ∙ c.loop-w.invariant.0
+shape_of-out-then-w-ge1000 c = c.push_digits.auto.out ∙ c.loop-w.invariant.0
 
 pub returns-then-w-ge1000 : goal.returns-then-w-ge1000
 returns-then-w-ge1000 c = let w = c.in-Value-got.w in
@@ -101,4 +102,4 @@ pub loop-w-preserved : goal.loop-w-preserved
 unfolding digits
 loop-w-preserved c =
     let w = c.in-Value-got.w in
-    (c.push_digits-in-loop-w.auto.0 ∙ c.loop-w.invariant.0, c.if-w-ge1000.false, remains_on c.loop-w.invariant.2 (word2 (goal.at.loop-w-preserved c).In-Value-got) (digits 3 c.loop-w.p) (groups_of w) (groups_more c.loop-w.p c.if-w-ge1000.false) (omega arith) c.push_digits-in-loop-w.ensures)
+    (c.push_digits-in-loop-w.auto.out ∙ c.loop-w.invariant.0, c.if-w-ge1000.false, remains_on c.loop-w.invariant.2 (word2 (goal.at.loop-w-preserved c).In-Value-got) (digits 3 c.loop-w.p) (groups_of w) (groups_more c.loop-w.p c.if-w-ge1000.false) (omega arith) c.push_digits-in-loop-w.ensures)

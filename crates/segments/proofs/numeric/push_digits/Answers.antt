@@ -39,7 +39,7 @@ loop-i-preserved c =
     let t = c.power_of_ten.ensures.0 in
     let e : c.put.new.out ≡ set c.loop-i.out (c.args.n + c.loop-i.i) (48 + c.args.v / 10 ^ (c.args.k - 1 - c.loop-i.i) % 10) = c.put.ensures
     ∙ ap (λ (z : ℕ). set c.loop-i.out (c.args.n + c.loop-i.i) (48 + c.args.v / z % 10)) t in (
-      c.put.auto.0 ∙ c.loop-i.invariant.0,
+      c.put.auto.out ∙ c.loop-i.invariant.0,
       omega arith,
       c.loop-i.invariant.2 ∙ digits_more c.loop-i.out _ _ _ _ (omega arith)
           ∙ ap (λ (z : List ℕ). sets z (c.args.n + (c.loop-i.i + 1)) (digits (c.args.k - (c.loop-i.i + 1)) c.args.v)) (sym e),

@@ -5,9 +5,10 @@ use Rattle.segments.specs.Segments.{char_of, text_of}
 use Rattle.segments.proofs.Turns.{remains_start, remains_cut, remains_word, remains_stop, remains_on, remains_none, text_end}
 use Rattle.segments.proofs.Turns.{text_switch, text_byte}
 use Rattle.segments.proofs.text.text_mode.Goals as goal
+use Rattle.segments.proofs.text.text_mode.Goals.{In-Value}
 
 -- what was read, where a word was read
-word : (c : goal.In-Value) → WordAt 6 c.loop-w.at c.in-Value.w c.args.s.now
+word : (c : In-Value) → WordAt 6 c.loop-w.at c.in-Value.w c.args.s.now
 word c = remains_word c.loop-w.invariant.1 c.read_bits-got.ensures (omega arith) c.in-Value.is
 
 pub loop-w-init : goal.loop-w-init
@@ -59,7 +60,7 @@ loop-w-preserved c =
     let w = c.in-Value.w in
     let e : c.put.new.out ≡ set c.loop-w.out c.loop-w.n (char_of c.loop-w.first w) = c.put.ensures ∙ ap (λ (x : ℕ). set c.loop-w.out c.loop-w.n x)
     c.text_char.ensures.1 in (
-      c.put.auto.0 ∙ c.loop-w.invariant.0,
+      c.put.auto.out ∙ c.loop-w.invariant.0,
       remains_on c.loop-w.invariant.1 (word (goal.at.loop-w-preserved c).In-Value) (char_of c.loop-w.first w ∷ []) (text_of _)
           (text_byte c.loop-w.first c.if-w-eq63.false c.if-w-eq62.false) (omega arith) e,
     )

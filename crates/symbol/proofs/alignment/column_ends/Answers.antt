@@ -15,7 +15,7 @@ assistant_if_odd-requires c = (c.requires.0, inside_call c.column_of-x.type_inv 
 
 pub assistant_if_odd-requires-2 : goal.assistant_if_odd-requires-2
 assistant_if_odd-requires-2 c =
-    let room = c.assistant_if_odd.auto.0 in
+    let room = c.assistant_if_odd.auto.grid in
     (fits_square c.requires.0 room, inside_call c.column_of-x.type_inv c.column_of-x.ensures.1, inside_number 0 (omega arith) (omega arith))
 
 pub returns : goal.returns

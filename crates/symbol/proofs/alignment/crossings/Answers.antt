@@ -22,7 +22,7 @@ unfolding crossings
 loop-n-smaller c = omega arith
 
 pub loop-n-preserved : goal.loop-n-preserved
-loop-n-preserved c = again (omega arith) c.loop-n.invariant c.row_crossings.ensures c.row_crossings.auto.0
+loop-n-preserved c = again (omega arith) c.loop-n.invariant c.row_crossings.ensures c.row_crossings.auto.grid
 
 pub shape_of-grid : goal.shape_of-grid
 unfolding crossings

@@ -17,7 +17,7 @@ pub loop-n-smaller : goal.loop-n-smaller
 loop-n-smaller c = omega arith
 
 pub loop-n-preserved : goal.loop-n-preserved
-loop-n-preserved c = again (omega arith) c.loop-n.invariant c.line_ends.ensures c.line_ends.auto.0
+loop-n-preserved c = again (omega arith) c.loop-n.invariant c.line_ends.ensures c.line_ends.auto.grid
 
 pub shape_of-grid : goal.shape_of-grid
 shape_of-grid c = c.loop-n.invariant.kept

@@ -18,7 +18,7 @@ pub loop-j-smaller : goal.loop-j-smaller
 loop-j-smaller c = omega arith
 
 pub loop-j-preserved : goal.loop-j-preserved
-loop-j-preserved c = again (omega arith) c.loop-j.invariant c.crossing.ensures c.crossing.auto.0
+loop-j-preserved c = again (omega arith) c.loop-j.invariant c.crossing.ensures c.crossing.auto.grid
 
 pub shape_of-grid : goal.shape_of-grid
 shape_of-grid c = c.loop-j.invariant.kept

@@ -15,7 +15,7 @@ overflow_cast-p c = small _ (omega arith)
 
 pub assistant_if_odd-requires-2 : goal.assistant_if_odd-requires-2
 assistant_if_odd-requires-2 c =
-    let room = c.assistant_if_odd.auto.0 in
+    let room = c.assistant_if_odd.auto.grid in
     (fits_square c.requires.0 room, inside_number (c.args.p.side - 1) (omega arith) (omega arith), inside_call c.row_of-y.type_inv c.row_of-y.ensures.1)
 
 pub returns : goal.returns

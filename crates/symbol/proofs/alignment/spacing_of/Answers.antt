@@ -3,8 +3,9 @@ use Rattle.general.proofs.Names.{refl, arith}
 use Rattle.symbol.specs.Layout.{m_of, ks, ms}
 use Rattle.symbol.proofs.Lines.{Table, tabled, spaced}
 use Rattle.symbol.proofs.alignment.spacing_of.Goals as goal
+use Rattle.symbol.proofs.alignment.spacing_of.Goals.{After-side-side}
 
-table : (c : goal.After-side-side) → Table c.args.version
+table : (c : After-side-side) → Table c.args.version
 table c = tabled _ c.requires.0 c.requires.1
 
 pub overflow_cast-k : goal.overflow_cast-k

@@ -10,7 +10,7 @@ pub modules-requires-2 : goal.modules-requires-2
 modules-requires-2 c = simp length-set (omega arith)
 
 pub shape_of-out : goal.shape_of-out
-shape_of-out c = c.modules-2.auto.0 ∙ simp length-set c.modules.auto.0
+shape_of-out c = c.modules-2.auto.out ∙ simp length-set c.modules.auto.out
 
 pub returns : goal.returns
 returns c =

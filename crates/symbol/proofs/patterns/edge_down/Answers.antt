@@ -43,7 +43,7 @@ pub loop-i-preserved : goal.loop-i-preserved
 loop-i-preserved c =
     again (omega arith) c.loop-i.invariant (heard line_module c.ranges.x (forth_fits (c.loop-i.i + 1) c.ranges.y (omega arith) (omega arith))
     (sym (to_z-of_z c.ranges.x)) (ap (λ (z : ℤ). to_z w64 (of_z w64 c.args.y) +ℤ z) (unsigned (c.loop-i.i + 1) (omega arith)))
-    c.line_module.ensures) c.line_module.auto.0
+    c.line_module.ensures) c.line_module.auto.grid
 
 pub shape_of-grid : goal.shape_of-grid
 shape_of-grid c = c.loop-i.invariant.kept

@@ -9,11 +9,11 @@ use Rattle.symbol.specs.Layout.{line_down}
 use Rattle.symbol.proofs.Plots.{numbered, heard}
 use Rattle.symbol.proofs.Coordinates.{read, cast_inside, near_inside}
 use Rattle.symbol.proofs.patterns.line_down.Goals as goal
+use Rattle.symbol.proofs.patterns.line_down.Goals.{Start}
 
-edge : (s : goal.Start) → (s.args.side ≤ 189) × (s.args.side * s.args.side ≤ length s.args.grid.now)
+edge : (s : Start) → (s.args.side ≤ 189) × (s.args.side * s.args.side ≤ length s.args.grid.now)
     × (mag (to_z w64 (of_z w64 s.args.x)) < 200) × (mag (to_z w64 (of_z w64 s.args.y)) < 200) × (1 ≤ s.args.height) × (s.args.height < 200)
-edge s =
-    let x-near = near_inside s.ranges.x s.requires.2 s.requires.0 in
+edge s = let x-near = near_inside s.ranges.x s.requires.2 s.requires.0 in
     let y-near = near_inside s.ranges.y s.requires.3 s.requires.0 in
     (s.requires.0, s.requires.1, x-near, y-near, s.requires.4, s.requires.5)
 

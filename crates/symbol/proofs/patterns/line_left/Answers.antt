@@ -9,14 +9,15 @@ use Rattle.symbol.proofs.LineRuns.{Here, here, room_below, two_runs}
 use Rattle.symbol.proofs.Plots.{numbered}
 use Rattle.symbol.proofs.Stored.{stored_none}
 use Rattle.symbol.proofs.patterns.line_left.Goals as goal
+use Rattle.symbol.proofs.patterns.line_left.Goals.{Start}
 
-column : (s : goal.Start) → nat_abs (to_z w64 (of_z w64 s.args.x)) < s.args.side
+column : (s : Start) → nat_abs (to_z w64 (of_z w64 s.args.x)) < s.args.side
 column s = (inside s.ranges.x s.requires.2).within
 
-row : (s : goal.Start) → nat_abs (to_z w64 (of_z w64 s.args.y)) < s.args.side
+row : (s : Start) → nat_abs (to_z w64 (of_z w64 s.args.y)) < s.args.side
 row s = (inside s.fits.y s.requires.3).within
 
-at : (s : goal.Start) → Here s.args.side (nat_abs (to_z w64 (of_z w64 s.args.x))) (nat_abs (to_z w64 (of_z w64 s.args.y))) (column s) (row s) (length s.args.grid.now)
+at : (s : Start) → Here s.args.side (nat_abs (to_z w64 (of_z w64 s.args.x))) (nat_abs (to_z w64 (of_z w64 s.args.y))) (column s) (row s) (length s.args.grid.now)
 at s = here _ _ _ (column s) (row s) _ s.requires.0 s.requires.1
 
 pub overflow_cast-column : goal.overflow_cast-column

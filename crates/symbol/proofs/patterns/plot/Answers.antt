@@ -5,8 +5,9 @@ use Rattle.symbol.specs.Layout.{plot, plot_all, place_at}
 use Rattle.symbol.proofs.Coordinates.{place_left, place_above, below_zero, cast, right_of, under, whole_is}
 use Rattle.symbol.proofs.Plots.{plot_out, numbered}
 use Rattle.symbol.proofs.patterns.plot.Goals as goal
+use Rattle.symbol.proofs.patterns.plot.Goals.{Start}
 
-outside : (s : goal.Start) → s.args.side * s.args.side ≡ place_at s.args.side s.args.x s.args.y
+outside : (s : Start) → s.args.side * s.args.side ≡ place_at s.args.side s.args.x s.args.y
     → Plotted s.args.side (plot s.args.x s.args.y s.args.kind ∷ []) s.args.grid.now s.args.grid.now
 unfolding plot_all
 outside s e = record { is = plot_out _ _ _ _ _ _ e (omega arith) }

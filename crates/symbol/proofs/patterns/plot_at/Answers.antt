@@ -6,14 +6,15 @@ use Rattle.symbol.specs.Layout.{plot_all, place_at}
 use Rattle.symbol.proofs.Plots.{plot_kept, plot_set}
 use Rattle.symbol.proofs.Coordinates.{square_le, whole_in}
 use Rattle.symbol.proofs.patterns.plot_at.Goals as goal
+use Rattle.symbol.proofs.patterns.plot_at.Goals.{Start}
 
-inside : (s : goal.Start) → s.args.row * s.args.side + s.args.column < s.args.side * s.args.side
+inside : (s : Start) → s.args.row * s.args.side + s.args.column < s.args.side * s.args.side
 inside s = digits_lt s.requires.3 s.requires.2
 
-small : (s : goal.Start) → s.args.row * s.args.side + s.args.column < 35721
+small : (s : Start) → s.args.row * s.args.side + s.args.column < 35721
 small s = omega (arith, (inside s), square_le _ s.requires.0)
 
-place : (s : goal.Start) → s.args.row * s.args.side + s.args.column ≡ place_at s.args.side (pos s.args.column) (pos s.args.row)
+place : (s : Start) → s.args.row * s.args.side + s.args.column ≡ place_at s.args.side (pos s.args.column) (pos s.args.row)
 place s = sym (whole_in s.args.side _ _ s.requires.2 s.requires.3)
 
 pub overflow_mul-i : goal.overflow_mul-i

@@ -58,7 +58,7 @@ pub loop-i-preserved : goal.loop-i-preserved
 unfolding line_module
 loop-i-preserved c =
     let e = ap (λ (x : ℤ). plot x (pos (c.args.row + (c.loop-i.i + 1) + 1)) 2 ∷ []) (sym (difference _ 1 c.requires.2)) in
-    again (omega arith) c.loop-i.invariant (next c.plot_at.ensures (exactly e c.plot_at-in-loop-i.ensures)) (c.plot_at-in-loop-i.auto.0 ∙ c.plot_at.auto.0)
+    again (omega arith) c.loop-i.invariant (next c.plot_at.ensures (exactly e c.plot_at-in-loop-i.ensures)) (c.plot_at-in-loop-i.auto.grid ∙ c.plot_at.auto.grid)
 
 pub shape_of-grid : goal.shape_of-grid
 unfolding line_down

@@ -7,6 +7,7 @@ use Rattle.marks.specs.Smallest.{smallest, smallest_of}
 use Rattle.writer.proofs.Refusals.{answered}
 use Rattle.writer.proofs.Fronts.{ranges_refused, check_refused}
 use Rattle.writer.proofs.smallest.write_smallest.Goals as goal
+use Rattle.writer.proofs.smallest.write_smallest.Goals.{Else-not-is_info}
 
 -- the check answers k and refuses script and payload
 refuses : (c : tie.Else1) (x k : Check)
@@ -15,7 +16,7 @@ refuses : (c : tie.Else1) (x k : Check)
     → smallest (answered k) 0 o.square.now ≡ smallest_of o.level o.mask o.script.now o.payload.now o.square.now
 refuses c x k = check_refused _ _ _ _ _ (ranged c).0 (ranged c).1 x k
 
-ranged : (c : goal.Else-not-is_info) → (c.args.level ≤ 3) × (c.args.mask ≤ 3)
+ranged : (c : Else-not-is_info) → (c.args.level ≤ 3) × (c.args.mask ≤ 3)
 ranged c = let R = c.is_info.ensures.1 (not-false _ c.if-not-is_info.false-raw) in (R.1, R.2)
 
 pub returns-then-not-is_info : goal.returns-then-not-is_info
