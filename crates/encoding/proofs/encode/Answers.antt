@@ -32,9 +32,6 @@ loop-i-init c = (
 pub command_at-next-requires : goal.command_at-next-requires
 command_at-next-requires c = omega arith
 
-pub enum_known-next : goal.enum_known-next
-enum_known-next c = c.in-Run.keys1
-
 pub overflow_add-end : goal.overflow_add-end
 overflow_add-end c = let t = next_run (goal.at.overflow_add-end c).In-Run in omega arith
 
@@ -69,9 +66,6 @@ loop-i-preserved-in-Run c =
     let e = c.command_size-i.ensures.0 in
     (c.write_run-at.auto.buf ∙ c.loop-i.invariant.0, omega arith, omega arith, c.loop-i.invariant.3, rw e (t.2.done (rw z at c.write_run-at.ensures)))
 
-pub enum_known-next-in-Eci-1 : goal.enum_known-next-in-Eci-1
-enum_known-next-in-Eci-1 c = c.in-Eci.keys2
-
 pub write_eci-at-requires : goal.write_eci-at-requires
 write_eci-at-requires c = rw c.loop-i.invariant.0 (omega arith, (next_eci (goal.at.write_eci-at-requires c).In-Eci).room)
 
@@ -85,9 +79,6 @@ pub loop-i-preserved : goal.loop-i-preserved
 loop-i-preserved c =
     let t = next_eci (goal.at.loop-i-preserved c).In-Eci in
     (c.write_eci-at.auto.buf ∙ c.loop-i.invariant.0, omega arith, omega arith, c.loop-i.invariant.3, rw add-zero at (t.done c.write_eci-at.ensures))
-
-pub enum_told-1 : goal.enum_told-1
-enum_told-1 c = c.in-Wrong.keys3
 
 pub shape_of-codewords-in-Wrong : goal.shape_of-codewords-in-Wrong
 shape_of-codewords-in-Wrong c = c.loop-i.invariant.0

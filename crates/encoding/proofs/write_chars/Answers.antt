@@ -40,9 +40,6 @@ loop-j-init c = (
 pub character_at-g-requires : goal.character_at-g-requires
 character_at-g-requires c = omega arith
 
-pub enum_known-g : goal.enum_known-g
-enum_known-g c = c.in-Same.keys1
-
 pub put-at-requires : goal.put-at-requires
 unfolding begins_in
 put-at-requires c =
@@ -60,9 +57,6 @@ unfolding begins_in
 loop-j-preserved-in-Same c =
     let t = same (goal.at.loop-j-preserved-in-Same c).In-Same in
     (c.put-at.auto.buf ∙ c.loop-j.invariant.0, t.room, t.have, c.loop-j.invariant.3, word_done t.words_left c.put-at.ensures)
-
-pub enum_known-g-in-Other-1 : goal.enum_known-g-in-Other-1
-enum_known-g-in-Other-1 c = c.in-Other.keys2
 
 pub put-next-requires : goal.put-next-requires
 unfolding begins_in
@@ -88,9 +82,6 @@ unfolding begins_in
 loop-j-preserved c =
     let t = other (goal.at.loop-j-preserved c).In-Other in
     (c.put-at-in-Other.auto.buf ∙ c.put-next.auto.buf ∙ c.loop-j.invariant.0, t.room, t.have, c.loop-j.invariant.3, word_done (switched (goal.at.loop-j-preserved c).After-put-next) c.put-at-in-Other.ensures)
-
-pub enum_told-1 : goal.enum_told-1
-enum_told-1 c = c.in-Lacking.keys3
 
 pub shape_of-buf-in-Lacking : goal.shape_of-buf-in-Lacking
 shape_of-buf-in-Lacking c = c.loop-j.invariant.0

@@ -40,12 +40,6 @@ room c = parse_room c.loop-mode.invariant.5 (word c.before.before.before.before.
 pub loop-mode-init : goal.loop-mode-init
 loop-mode-init c = (refl, refl, omega arith, omega arith, omega arith, parsing_start c.args.s.now c.args.out.now c.args.script.now)
 
-pub enum_known-got : goal.enum_known-got
-enum_known-got c = c.in-Value.keys1
-
-pub enum_told-1 : goal.enum_told-1
-enum_told-1 c = c.in_default.keys2
-
 pub shape_of-out-in_default : goal.shape_of-out-in_default
 shape_of-out-in_default c = c.loop-mode.invariant.0
 
@@ -74,9 +68,6 @@ pub segment-next-requires : goal.segment-next-requires
 segment-next-requires c = let w = word (goal.at.segment-next-requires c).In-Value in
     (omega arith, omega arith, omega arith, omega arith, omega arith)
 
-pub enum_known-next : goal.enum_known-next
-enum_known-next c = c.in-On.keys1
-
 pub loop-mode-smaller : goal.loop-mode-smaller
 loop-mode-smaller c = let r = room (goal.at.loop-mode-smaller c).In-On in
     let m = (word (goal.at.loop-mode-smaller c).In-Value).room in
@@ -88,9 +79,6 @@ loop-mode-preserved c = let r = room (goal.at.loop-mode-preserved c).In-On in
     c.segment-next.new.script c.segment-next.ensures in
     ((kept (goal.at.loop-mode-preserved c).After-segment-next).0, (kept (goal.at.loop-mode-preserved c).After-segment-next).1, omega arith, omega arith, omega arith, d c.in-On.is)
 
-pub enum_told-in-Cut : goal.enum_told-in-Cut
-enum_told-in-Cut c = c.in-Cut.keys2
-
 pub shape_of-out-in-Cut : goal.shape_of-out-in-Cut
 shape_of-out-in-Cut c = (kept (goal.at.shape_of-out-in-Cut c).After-segment-next).0
 
@@ -99,9 +87,6 @@ shape_of-script-in-Cut c = (kept (goal.at.shape_of-script-in-Cut c).After-segmen
 
 pub returns-in-Cut : goal.returns-in-Cut
 returns-in-Cut c = stop c cut c.in-Cut.is
-
-pub enum_told-in-Lacking : goal.enum_told-in-Lacking
-enum_told-in-Lacking c = c.in-Lacking.keys3
 
 pub shape_of-out-in-Lacking : goal.shape_of-out-in-Lacking
 shape_of-out-in-Lacking c = (kept (goal.at.shape_of-out-in-Lacking c).After-segment-next).0

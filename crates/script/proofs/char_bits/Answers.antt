@@ -16,10 +16,6 @@ pub character_at-g-requires : goal.character_at-g-requires
 unfolding begins_in
 character_at-g-requires c = omega arith
 
-pub enum_told-1 : goal.enum_told-1
-unfolding begins_in
-enum_told-1 c = c.in-Same.keys1
-
 pub overflow_add-words : goal.overflow_add-words
 unfolding begins_in
 overflow_add-words c = omega arith
@@ -36,10 +32,6 @@ loop-j-preserved-in-Same c =
     let s = c.step-by.ensures in
     counted_same c.loop-j.invariant _ c.character_at-g.ensures s.0 s.1 c.in-Same.is
 
-pub enum_told-in-Other : goal.enum_told-in-Other
-unfolding begins_in
-enum_told-in-Other c = c.in-Other.keys2
-
 pub overflow_add-words-in-Other : goal.overflow_add-words-in-Other
 unfolding begins_in
 overflow_add-words-in-Other c = omega arith
@@ -55,10 +47,6 @@ pub loop-j-preserved : goal.loop-j-preserved
 loop-j-preserved c =
     let s = c.step-by.ensures in
     counted_other c.loop-j.invariant _ c.character_at-g.ensures s.0 s.1 c.in-Other.is
-
-pub enum_told-in-Lacking : goal.enum_told-in-Lacking
-unfolding begins_in
-enum_told-in-Lacking c = c.in-Lacking.keys3
 
 pub returns-in-Lacking : goal.returns-in-Lacking
 returns-in-Lacking c = (counted_lacks c.loop-j.invariant c.character_at-g.result c.character_at-g.ensures c.in-Lacking.is, tt)

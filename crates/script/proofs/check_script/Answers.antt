@@ -30,9 +30,6 @@ loop-i-init c = (omega arith, omega arith, omega arith, check_from_start c.args.
 pub command_at-next-requires : goal.command_at-next-requires
 command_at-next-requires c = omega arith
 
-pub enum_known-next : goal.enum_known-next
-enum_known-next c = c.in-Run.keys1
-
 pub overflow_sub-payload : goal.overflow_sub-payload
 overflow_sub-payload c = omega arith
 
@@ -58,9 +55,6 @@ run_bits-cost-requires c = let b = bounds (goal.at.run_bits-cost-requires c).In-
     let k : n ≤ length (drop c.loop-i.j c.args.payload.now) = rw length-drop (omega arith) in
     rw (z, length-take-le n (drop c.loop-i.j c.args.payload.now) k) (b.0, b.1, b.2)
 
-pub enum_known-cost : goal.enum_known-cost
-enum_known-cost c = c.in-Takes.keys1
-
 pub capped_sum-total-requires : goal.capped_sum-total-requires
 capped_sum-total-requires c =
     let t = limited c.run_bits-cost.result c.in-Takes.b c.run_bits-cost.ensures.1 c.in-Takes.is in
@@ -80,9 +74,6 @@ loop-i-preserved-in-Takes c =
     (cost (goal.at.loop-i-preserved-in-Takes c).After-run_bits-cost) w.0 w.1 in
     (omega arith, omega arith, c.capped_sum-total.ensures.1, d c.in-Takes.is c.capped_sum-total.ensures.0)
 
-pub enum_told-1 : goal.enum_told-1
-enum_told-1 c = c.in-NotInMode.keys2
-
 pub overflow_add-i-in-NotInMode : goal.overflow_add-i-in-NotInMode
 overflow_add-i-in-NotInMode c = omega arith
 
@@ -96,9 +87,6 @@ loop-i-preserved-in-NotInMode c =
     let d = check_from_lacks c.loop-i.invariant.3 (omega arith) c.command_at-next.ensures c.in-Run.is c.if-payload-j.false (cost (goal.at.loop-i-preserved-in-NotInMode c).After-run_bits-cost) w.0
     w.1 in
     (omega arith, omega arith, c.loop-i.invariant.2, d c.in-NotInMode.is)
-
-pub enum_known-next-in-Eci-1 : goal.enum_known-next-in-Eci-1
-enum_known-next-in-Eci-1 c = c.in-Eci.keys2
 
 pub capped_sum-total-requires-in-Eci : goal.capped_sum-total-requires-in-Eci
 capped_sum-total-requires-in-Eci c = omega arith
@@ -114,9 +102,6 @@ loop-i-preserved c =
     let r = eci_room (goal.at.loop-i-preserved c).In-Eci in
     let d = check_from_eci c.loop-i.invariant.3 (omega arith) c.command_at-next.ensures c.in-Eci.is in
     (omega arith, omega arith, c.capped_sum-total-in-Eci.ensures.1, d c.eci_bits.ensures.0 c.capped_sum-total-in-Eci.ensures.0)
-
-pub enum_told-in-Wrong : goal.enum_told-in-Wrong
-enum_told-in-Wrong c = c.in-Wrong.keys3
 
 pub returns-in-Wrong : goal.returns-in-Wrong
 returns-in-Wrong c = check_from_wrong c.loop-i.invariant.3 (omega arith) c.command_at-next.ensures c.in-Wrong.is

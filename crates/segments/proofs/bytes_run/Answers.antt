@@ -13,12 +13,6 @@ word c = remains_word c.loop-i.invariant.2 c.read_bits-got.ensures (omega arith)
 pub loop-i-init : goal.loop-i-init
 loop-i-init c = (refl, omega arith, simp sub-zero (remains_start (omega arith) (omega arith)))
 
-pub enum_known-got : goal.enum_known-got
-enum_known-got c = c.in-Value.keys1
-
-pub enum_told-1 : goal.enum_told-1
-enum_told-1 c = c.in_default.keys2
-
 pub shape_of-out-in_default : goal.shape_of-out-in_default
 shape_of-out-in_default c = c.loop-i.invariant.0
 

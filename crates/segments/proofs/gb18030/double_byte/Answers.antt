@@ -14,12 +14,6 @@ word c = remains_word c.loop-w.invariant.1 c.read_bits-got.ensures (omega arith)
 pub loop-w-init : goal.loop-w-init
 loop-w-init c = (refl, remains_start (omega arith) (omega arith))
 
-pub enum_known-got : goal.enum_known-got
-enum_known-got c = c.in-Value.keys1
-
-pub enum_told-1 : goal.enum_told-1
-enum_told-1 c = c.in_default.keys2
-
 pub shape_of-out-in_default : goal.shape_of-out-in_default
 shape_of-out-in_default c = c.loop-w.invariant.0
 

@@ -13,17 +13,11 @@ begins : (c : Start) → Remains 10 (numeric_at c.args.s.now c.args.from c.args.
 begins c = remains_start c.requires.1 c.requires.2
 
 word1 : (c : In-Value) → WordAt 10 c.args.from c.in-Value.first c.args.s.now
-word1 c = remains_word (begins c.before.before.before.before.before.before) c.read_bits-start.ensures (omega arith) c.in-Value.is
+word1 c = remains_word (begins c.before.before.before.before.before) c.read_bits-start.ensures (omega arith) c.in-Value.is
 
 word2 : (c : In-Value-got) → WordAt 10 c.loop-w.at c.in-Value-got.w
     c.args.s.now
 word2 c = remains_word c.loop-w.invariant.2 c.read_bits-got.ensures (omega arith) c.in-Value-got.is
-
-pub enum_known-start : goal.enum_known-start
-enum_known-start c = c.in-Value.keys1
-
-pub enum_told-1 : goal.enum_told-1
-enum_told-1 c = c.in_default.keys2
 
 pub returns-in_default : goal.returns-in_default
 unfolding numeric_of
@@ -39,12 +33,6 @@ pub loop-w-init : goal.loop-w-init
 loop-w-init c =
     let w = c.in-Value.first in
     (refl, c.if-first-ge1000.false, remains_none (begins (goal.at.loop-w-init c).Start) (word1 (goal.at.loop-w-init c).In-Value) (groups_of w) (numeric_first c.if-first-ge1000.false))
-
-pub enum_known-got : goal.enum_known-got
-enum_known-got c = c.in-Value-got.keys1
-
-pub enum_told-in_default-got : goal.enum_told-in_default-got
-enum_told-in_default-got c = c.in_default-got.keys2
 
 pub shape_of-out-in_default-got : goal.shape_of-out-in_default-got
 shape_of-out-in_default-got c = omega arith

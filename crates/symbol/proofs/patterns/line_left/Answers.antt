@@ -15,7 +15,7 @@ column : (s : Start) → nat_abs (to_z w64 (of_z w64 s.args.x)) < s.args.side
 column s = (inside s.ranges.x s.requires.2).within
 
 row : (s : Start) → nat_abs (to_z w64 (of_z w64 s.args.y)) < s.args.side
-row s = (inside s.fits.y s.requires.3).within
+row s = (inside s.ranges.y s.requires.3).within
 
 at : (s : Start) → Here s.args.side (nat_abs (to_z w64 (of_z w64 s.args.x))) (nat_abs (to_z w64 (of_z w64 s.args.y))) (column s) (row s) (length s.args.grid.now)
 at s = here _ _ _ (column s) (row s) _ s.requires.0 s.requires.1
@@ -27,16 +27,16 @@ pub overflow_cast-row : goal.overflow_cast-row
 overflow_cast-row c = cast_inside c.ranges.y c.requires.3 c.requires.0
 
 pub overflow_mul-at : goal.overflow_mul-at
-overflow_mul-at c = omega (arith, (at (goal.at.overflow_mul-at c).Start).ranges)
+overflow_mul-at c = omega (arith, (at (goal.at.overflow_mul-at c).Start).fits)
 
 pub overflow_add-at : goal.overflow_add-at
-overflow_add-at c = omega (arith, (at (goal.at.overflow_add-at c).Start).ranges)
+overflow_add-at c = omega (arith, (at (goal.at.overflow_add-at c).Start).fits)
 
 pub overflow_sub-at : goal.overflow_sub-at
 overflow_sub-at c = omega arith
 
 pub overflow_add-at-2 : goal.overflow_add-at-2
-overflow_add-at-2 c = omega (arith, (at (goal.at.overflow_add-at-2 c).Start).ranges)
+overflow_add-at-2 c = omega (arith, (at (goal.at.overflow_add-at-2 c).Start).fits)
 
 pub draw-requires : goal.draw-requires
 draw-requires c = let h = at (goal.at.draw-requires c).Start in (omega arith, omega arith)
