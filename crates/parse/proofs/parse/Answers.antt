@@ -29,10 +29,9 @@ kept : (c : After-segment-next) → (length c.segment-next.new.out ≡ length c.
 kept c = (c.segment-next.auto.1.1.1.0 ∙ c.loop-mode.invariant.0, c.segment-next.auto.1.1.1.1.0 ∙ c.loop-mode.invariant.1)
 
 -- where the segment ended
-room : (c : In-On) → let v = c.next-1.given.0 in
-    (c.loop-mode.at + 4 ≤ v.0)
-    × (v.0 ≤ 8 * length c.args.s.now)
-    × (v.1.0 ≤ v.0) × (v.1.1.0 ≤ v.0)
+room : (c : In-On) → (c.loop-mode.at + 4 ≤ c.in-On.place)
+    × (c.in-On.place ≤ 8 * length c.args.s.now)
+    × (c.in-On.k ≤ c.in-On.place) × (c.in-On.j ≤ c.in-On.place)
 room c = parse_room c.loop-mode.invariant.5 (word c.before.before.before.before.before.before.before.before.before.before.before) c.if-mode-eq0.false c.segment-next.result c.segment-next.new.out
     c.segment-next.new.script c.segment-next.ensures
     c.in-On.is
