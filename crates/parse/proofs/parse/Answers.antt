@@ -8,16 +8,6 @@ use Rattle.segments.proofs.Steps.{parsing_start, parse_few, parse_end, parse_sto
 use Rattle.parse.proofs.parse.Goals as goal
 use Rattle.parse.proofs.parse.Goals.{After-segment-next, In-On, In-Value}
 
--- where a segment is cut or lacking
-stop : (c : tie.After-segment invariant-loop decreases-loop) (bad : Fault) → c.segment.result ≡ stepped bad
-    → let a = c.before.before.before.before.before.before.before.before.before.before.before.before.args in
-    Parses 0 0 a.out.now a.script.now (segments_of a.s.now) (counted bad) c.segment.new.1.1.1.0 c.segment.new.1.1.1.1.0
-stop c bad e =
-    let q = c.segment in
-    let i = c.before.before.before in
-    parse_stop i.before.before.before.before.before.loop.invariant.5 (word i.before) i.if1.false q.result q.new.1.1.1.0
-    q.new.1.1.1.1.0 q.ensures bad e
-
 -- what was read, where a word was read
 word : (c : In-Value) → WordAt 4 c.loop-mode.at c.in-Value.mode c.args.s.now
 word c = let s = c.args.s.now in
@@ -25,16 +15,25 @@ word c = let s = c.args.s.now in
     word_read 4 c.loop-mode.at s c.mode-got.result e c.in-Value.mode (omega arith) (omega arith) c.in-Value.is
 
 -- both buffers keep their lengths
-kept : (c : After-segment-next) → (length c.segment-next.new.out ≡ length c.args.out.now) × (length c.segment-next.new.script ≡ length c.args.script.now)
-kept c = (c.segment-next.auto.1.1.1.0 ∙ c.loop-mode.invariant.0, c.segment-next.auto.1.1.1.1.0 ∙ c.loop-mode.invariant.1)
+kept : (c : After-segment-next) →
+    (length c.segment-next.new.out ≡ length c.args.out.now) × (length c.segment-next.new.script ≡ length c.args.script.now)
+kept c = (c.segment-next.auto.out ∙ c.loop-mode.invariant.0, c.segment-next.auto.script ∙ c.loop-mode.invariant.1)
 
 -- where the segment ended
-room : (c : In-On) → (c.loop-mode.at + 4 ≤ c.in-On.place)
+room : (c : In-On) →
+    (c.loop-mode.at + 4 ≤ c.in-On.place)
     × (c.in-On.place ≤ 8 * length c.args.s.now)
     × (c.in-On.k ≤ c.in-On.place) × (c.in-On.j ≤ c.in-On.place)
 room c = parse_room c.loop-mode.invariant.5 (word c.before.before.before.before.before.before.before.before.before.before.before) c.if-mode-eq0.false c.segment-next.result c.segment-next.new.out
     c.segment-next.new.script c.segment-next.ensures
     c.in-On.is
+
+-- where a segment is cut or lacking
+stop : (c : After-segment-next) (bad : Fault) → c.segment-next.result ≡ stepped bad
+    →
+    Parses 0 0 c.args.out.now c.args.script.now (segments_of c.args.s.now) (counted bad) c.segment-next.new.out c.segment-next.new.script
+stop c bad e = parse_stop c.loop-mode.invariant.5 (word c.before.before.before.before) c.if-mode-eq0.false c.segment-next.result c.segment-next.new.out
+    c.segment-next.new.script c.segment-next.ensures bad e
 
 pub loop-mode-init : goal.loop-mode-init
 loop-mode-init c = (refl, refl, omega arith, omega arith, omega arith, parsing_start c.args.s.now c.args.out.now c.args.script.now)
@@ -85,7 +84,7 @@ pub shape_of-script-in-Cut : goal.shape_of-script-in-Cut
 shape_of-script-in-Cut c = (kept (goal.at.shape_of-script-in-Cut c).After-segment-next).1
 
 pub returns-in-Cut : goal.returns-in-Cut
-returns-in-Cut c = stop c cut c.in-Cut.is
+returns-in-Cut c = stop (goal.at.returns-in-Cut c).After-segment-next cut c.in-Cut.is
 
 pub shape_of-out-in-Lacking : goal.shape_of-out-in-Lacking
 shape_of-out-in-Lacking c = (kept (goal.at.shape_of-out-in-Lacking c).After-segment-next).0
@@ -94,4 +93,4 @@ pub shape_of-script-in-Lacking : goal.shape_of-script-in-Lacking
 shape_of-script-in-Lacking c = (kept (goal.at.shape_of-script-in-Lacking c).After-segment-next).1
 
 pub returns-in-Lacking : goal.returns-in-Lacking
-returns-in-Lacking c = stop c lacking c.in-Lacking.is
+returns-in-Lacking c = stop (goal.at.returns-in-Lacking c).After-segment-next lacking c.in-Lacking.is
