@@ -27,7 +27,10 @@ other c = other_words c.args.run.now c.args.mode c.loop-j.first c.loop-j.j c.cha
 switched : (c : After-put-next) →
     WordsLeft c.width-w.result c.args.buf.now c.args.from (words_of c.args.mode (begins_in c.args.mode) c.args.run.now) c.put-next.new.buf c.put-next.result
     (c.in-Other.c ∷ words_of c.args.mode (not c.loop-j.first) (drop (c.loop-j.j + c.step-by.result) c.args.run.now))
-switched c = word_done (other c.before.before.before).words_left (rw c.switch_word.ensures at c.put-next.ensures)
+unfolding begins_in
+switched c =
+    word_done (other_words c.args.run.now c.args.mode c.loop-j.first c.loop-j.j c.character_at-g.ensures c.step-by.ensures.0 (omega arith)
+    c.loop-j.invariant.2 c.loop-j.invariant.4 c.in-Other.is).words_left (rw c.switch_word.ensures at c.put-next.ensures)
 
 pub loop-j-init : goal.loop-j-init
 unfolding begins_in
