@@ -1,5 +1,5 @@
 -- Blocks cut out of a stream and joined again.
-use Rattle.general.proofs.Names.{◌≡◌, refl, ap, ap₂, ◌∙◌, List, [], ◌∷◌, ◌++◌, flat_map, zip_with, ℕ, ◌+◌, ◌-◌, ◌≤◌, arith, length, take, drop, length-append}
+use Rattle.general.proofs.Names.{◌≡◌, refl, ap, ap₂, ◌∙◌, List, [], ◌∷◌, ◌++◌, flat_map, zip_with, ℕ, ◌+◌, ◌≤◌, arith, length, take, drop, length-append}
 use Rattle.general.proofs.Names.{length-drop, take-append-drop, take_at, drop_at, length-take-le}
 use Rattle.block_table.specs.Blocks.{Shape, size, total_size, total_data, cut, joined, data_parts, cut_data}
 

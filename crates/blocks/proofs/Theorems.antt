@@ -1,6 +1,6 @@
 -- What a customer may quote of blocks that are corrected and made one after the other. Each holds for any blocks that hold the rule of a
 -- row: data, parity, and at most 255 codewords. Assumes nothing.
-use Rattle.general.proofs.Names.{◌≡◌, sym, ap, subst, ◌∙◌, ◌⊎◌, ◌≢◌, cond, List, [], ◌∷◌, ◌++◌, append-nil, ℕ, ◌≤◌, ◌<◌, arith, T, ltb, length, get_or}
+use Rattle.general.proofs.Names.{◌≡◌, sym, ap, subst, ◌∙◌, ◌⊎◌, ◌≢◌, cond, List, [], ◌∷◌, ◌++◌, append-nil, ℕ, ◌<◌, arith, T, ltb, length, get_or}
 use Rattle.general.proofs.Names.{take, drop, take-append-drop, ne_eqb}
 use Rattle.reed_solomon.specs.Erased.{erasures, Meets}
 use Rattle.reed_solomon.proofs.Search.{Bytes}

@@ -1,5 +1,5 @@
 -- Interleave: no stream place is reached twice, so that the codeword at each place is known by its number in the square.
-use Rattle.general.proofs.Names.{◌≡◌, refl, sym, ap, ◌∙◌, subst, ◌⊎◌, inl, inr, List, [], ◌∷◌, ◌++◌, ℕ, zero, suc, ◌+◌, ◌*◌, ◌/◌, ◌%◌, ◌-◌, ◌<◌, ◌≤◌, arith}
+use Rattle.general.proofs.Names.{◌≡◌, refl, sym, ◌∙◌, subst, ◌⊎◌, inl, inr, List, [], ◌∷◌, ◌++◌, ℕ, zero, suc, ◌+◌, ◌*◌, ◌/◌, ◌%◌, ◌-◌, ◌<◌, ◌≤◌, arith}
 use Rattle.general.proofs.Names.{length, get_or, set, replicate, length-set, length-replicate, get_or-set_same, get_or-set_other}
 use Rattle.bits.specs.Bits.{store_at}
 use Rattle.codewords.specs.Codewords.{order, to_stream}

@@ -1,6 +1,6 @@
 -- The answer for the corrected blocks of a square is what its reading gives. Assumes nothing.
 use Rattle.general.proofs.Names.{◌≡◌, sym, ap, ap₂, ◌∙◌, ◌≢◌, cond, List, ◌++◌, ℕ, ◌*◌, ◌≤◌, ◌<◌, arith, ℕ_discrete, eq-eqb, ne_eqb, eqb, length, take}
-use Rattle.general.proofs.Names.{take_at, take_all, refl, map, [], ◌∷◌, zero, suc, get_or, ◌%◌, ◌/◌, ext_get_or, mul-le-mul, get_or-take, length-take-le, get_or-eq_default}
+use Rattle.general.proofs.Names.{take_at, take_all, refl, map, [], ◌∷◌, zero, suc, ◌%◌, ◌/◌, get_or-eq_default}
 use Rattle.symbol.specs.Version.{side_of}
 use Rattle.symbol.specs.Layout.{layout_of, layout_written}
 use Rattle.symbol.proofs.Coordinates.{square_le}

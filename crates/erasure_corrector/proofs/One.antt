@@ -1,5 +1,5 @@
 -- One erased place alone, tried with the byte that makes the first syndrome zero: what is then a codeword is the one in reach. Assumes nothing.
-use Rattle.general.proofs.Names.{◌≡◌, refl, sym, ap, ◌∙◌, subst, ◌≢◌, inr, Bool, true, false, cond, true≢false, false≢true, List, ℕ, ◌+◌, ◌*◌, ◌≤◌, ◌<◌, arith}
+use Rattle.general.proofs.Names.{◌≡◌, refl, sym, ap, ◌∙◌, ◌≢◌, inr, Bool, true, false, cond, true≢false, false≢true, List, ℕ, ◌≤◌, ◌<◌, arith}
 use Rattle.general.proofs.Names.{ℕ_discrete, eq-eqb, ne_eqb, eqb, length, set, length-set, get_or-set_same, get_or-set_other, ext_get_or}
 use Rattle.field.proofs.Field.{primitive}
 use Rattle.field.proofs.Instances.{primitive_163}

@@ -1,6 +1,6 @@
 -- A block with erased places is repaired exactly where it has a codeword that its rule admits. Assumes nothing.
 use Rattle.general.proofs.Names.{◌≡◌, refl, sym, ap, ◌∙◌, subst, ◌≢◌, inl, inr, Bool, true, false, cond, true≢false, List, ℕ, ◌+◌, ◌*◌, ◌≤◌, ◌<◌, arith, eq-eqb, ne_eqb}
-use Rattle.general.proofs.Names.{T, eqb, ltb, lt-ltb, le-ltb, zero-le, ℕ_discrete, length}
+use Rattle.general.proofs.Names.{T, eqb, lt-ltb, le-ltb, zero-le, ℕ_discrete, length}
 use Rattle.field.proofs.Field.{Primitive, primitive}
 use Rattle.field.proofs.Instances.{primitive_163}
 use Rattle.reed_solomon.specs.Block.{is_codeword, distance, unfit}

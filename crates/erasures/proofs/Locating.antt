@@ -1,11 +1,11 @@
 -- The locator of a block with its erased places taken out, with these places as further roots, locates the errors of the block itself. Assumes
 -- nothing.
-use Rattle.general.proofs.Names.{◌≡◌, refl, sym, ap, ◌∙◌, subst, ◌≢◌, List, ℕ, suc, ◌+◌, ◌-◌, ◌*◌, ◌%◌, ◌≤◌, ◌<◌, arith, ℕ_discrete, T, eqb, eq-eqb, ne_eqb, length}
+use Rattle.general.proofs.Names.{◌≡◌, sym, ap, ◌∙◌, subst, ◌≢◌, List, ℕ, suc, ◌+◌, ◌-◌, ◌*◌, ◌%◌, ◌≤◌, ◌<◌, arith, ℕ_discrete, T, eq-eqb, ne_eqb, length}
 use Rattle.general.proofs.Names.{xor_self}
 use Rattle.field.proofs.Field.{Primitive, sum_lt}
 use Rattle.reed_solomon.specs.Sum.{◌⊕◌, seq, degree, locator, syndrome}
 use Rattle.reed_solomon.specs.Block.{is_codeword, distance}
-use Rattle.reed_solomon.specs.Erased.{erasures, unerased, unerased_distance}
+use Rattle.reed_solomon.specs.Erased.{unerased, unerased_distance}
 use Rattle.reed_solomon.specs.Places.{locator_at}
 use Rattle.reed_solomon.specs.Inner.{Syndromes, zeros_of, Locates}
 use Rattle.reed_solomon.proofs.Sum.{add_zero_eq}

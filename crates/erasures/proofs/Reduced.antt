@@ -1,14 +1,14 @@
 -- A block with each place multiplied by the value there of g, whose roots are the erased places. Where the block is a codeword, this is one
 -- of the parity less the erased places; the modified syndromes are its syndromes; and it is no further from another than the unerased places
 -- are. Assumes nothing.
-use Rattle.general.proofs.Names.{◌≡◌, sym, ap, ◌∙◌, ◌≢◌, cond, List, ℕ, suc, ◌+◌, ◌-◌, ◌≤◌, ◌<◌, arith, ℕ_discrete, dec_lt, T, eq-eqb, ne_eqb, length}
+use Rattle.general.proofs.Names.{◌≡◌, sym, ap, ◌∙◌, ◌≢◌, List, ℕ, suc, ◌+◌, ◌-◌, ◌≤◌, ◌<◌, arith, ℕ_discrete, dec_lt, T, eq-eqb, length}
 use Rattle.general.proofs.Names.{get_or-eq_default}
 use Rattle.general.specs.Each.{table}
 use Rattle.general.proofs.Lists.{length_table, get_or_table}
 use Rattle.field.specs.Field.{power, mul}
 use Rattle.field.proofs.Field.{Primitive, mul_lt}
 use Rattle.field.proofs.Entries.{mul_right_zero}
-use Rattle.reed_solomon.specs.Sum.{seq, degree, locator, syndrome}
+use Rattle.reed_solomon.specs.Sum.{seq, locator, syndrome}
 use Rattle.reed_solomon.specs.Register.{discrepancy}
 use Rattle.reed_solomon.specs.Block.{eval, is_codeword, distance}
 use Rattle.reed_solomon.specs.Erased.{unerased, unerased_distance}

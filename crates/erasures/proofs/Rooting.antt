@@ -1,5 +1,5 @@
 -- A locator with the erased places as further roots, and the modified syndromes, one step after the other. Assumes nothing.
-use Rattle.general.proofs.Names.{◌≡◌, refl, sym, ap, ap₂, ◌∙◌, subst, subst₂, fun_ext, ◌≢◌, List, ℕ, zero, suc, ◌+◌, ◌-◌, ◌%◌, ◌≤◌, ◌<◌, arith, add-one}
+use Rattle.general.proofs.Names.{◌≡◌, sym, ap, ap₂, ◌∙◌, subst, subst₂, fun_ext, ◌≢◌, List, ℕ, zero, suc, ◌+◌, ◌-◌, ◌%◌, ◌≤◌, ◌<◌, arith, add-one}
 use Rattle.general.proofs.Names.{ℕ_discrete, dec_lt, length, set, replicate, length-set, length-replicate, get_or-set_same, get_or-set_other, xor_self, xor_zero_r}
 use Rattle.field.specs.Field.{power, mul}
 use Rattle.field.proofs.Field.{Primitive, mul_lt, mul_comm, sum_lt}
@@ -8,7 +8,6 @@ use Rattle.general.proofs.Each.{Above, above_next}
 use Rattle.reed_solomon.specs.Sum.{◌⊕◌, seq, horner, degree, locator}
 use Rattle.reed_solomon.specs.Register.{discrepancy, Tail}
 use Rattle.reed_solomon.specs.Inner.{zeros_of, Shortest}
-use Rattle.reed_solomon.proofs.Sum.{Null}
 use Rattle.reed_solomon.proofs.Peel.{null_div, places_apart}
 use Rattle.reed_solomon.proofs.Horner.{rooted, rooted_law}
 use Rattle.reed_solomon.proofs.Search.{Bytes}

@@ -1,5 +1,5 @@
 -- What a reading answers for any square that passes the first refusals. Assumes nothing.
-use Rattle.general.proofs.Names.{◌≡◌, refl, sym, ap, ap₂, ◌∙◌, subst, ◌⊎◌, inl, inr, ◌≢◌, Bool, true, false, cond, Option, none, some, List, [], ◌∷◌, ℕ, suc, ◌≤◌}
+use Rattle.general.proofs.Names.{◌≡◌, refl, sym, ap, ap₂, ◌∙◌, subst, ◌⊎◌, inl, inr, ◌≢◌, Bool, true, false, cond, Option, none, some, List, ℕ, ◌≤◌}
 use Rattle.general.proofs.Names.{◌<◌, arith, ℕ_discrete, dec_lt, eq-eqb, ne_eqb, lt-ltb, le-ltb, eqb, ltb, length, T}
 use Rattle.symbol.specs.Version.{is_side, side_version}
 use Rattle.information.specs.Information.{is_info}

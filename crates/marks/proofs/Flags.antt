@@ -1,12 +1,12 @@
 -- The flags of a square: which codewords are erased. Assumes nothing.
-use Rattle.general.proofs.Names.{◌≡◌, refl, sym, ap, ◌∙◌, ◌≢◌, List, map, ℕ, ◌+◌, ◌*◌, ◌/◌, ◌%◌, ◌<◌, arith, ℕ_discrete, dec_lt, eq-eqb, ne_eqb, xor_zero_r}
+use Rattle.general.proofs.Names.{◌≡◌, refl, ap, ◌∙◌, ◌≢◌, List, map, ℕ, ◌+◌, ◌*◌, ◌/◌, ◌%◌, ◌<◌, arith, ℕ_discrete, dec_lt, ne_eqb, xor_zero_r}
 use Rattle.general.proofs.Names.{length, get_or, take, get_or-eq_default}
 use Rattle.symbol.specs.Version.{side_of}
 use Rattle.symbol.specs.Layout.{layout_of, data_kind, data_modules}
 use Rattle.block_table.specs.Blocks.{total_of}
 use Rattle.bits.specs.Bits.{first_words}
 use Rattle.bits.proofs.Words.{first_length}
-use Rattle.codewords.specs.Codewords.{mask_at, mask_bit, data_bits, order, to_stream}
+use Rattle.codewords.specs.Codewords.{mask_at, mask_bit, data_bits, order}
 use Rattle.codewords.proofs.Bits.{word_by, word_from}
 use Rattle.codewords.proofs.Placement.{data_at, data_from}
 use Rattle.codewords.proofs.Apart.{place_of, codeword_at}

@@ -1,5 +1,5 @@
 -- A square as its rows.
-use Rattle.general.proofs.Names.{◌≡◌, refl, ap, ap₂, ◌∙◌, sym, subst, List, [], ◌∷◌, ◌++◌, append-nil, ℕ, zero, suc, ◌+◌, ◌-◌, ◌*◌, ◌%◌, ◌<◌, ◌≤◌, add-mul, one-mul}
+use Rattle.general.proofs.Names.{◌≡◌, refl, ap, ap₂, ◌∙◌, sym, List, [], ◌∷◌, ◌++◌, append-nil, ℕ, zero, suc, ◌+◌, ◌-◌, ◌*◌, ◌%◌, ◌<◌, ◌≤◌, add-mul, one-mul}
 use Rattle.general.proofs.Names.{mul-le-mul_left, zero-add, add-zero, add-suc, suc-add, arith, dec_lt, lit<, length, length-take, get_or-eq_default, get_or, take, drop, length-append, length-drop}
 use Rattle.general.proofs.Names.{take-append-drop, drop_of_length-le, length-take-le, take_all, drop-drop, get_or-drop, get_or-take, bit_xor}
 use lib.Arith.{digits_div, digits_mod}

@@ -10,10 +10,9 @@ use Rattle.bits.proofs.Bytes.{value_add, value_small, low_value}
 use Rattle.information.specs.Inner.{lowest}
 use Rattle.information.proofs.Copies.{lowest_at}
 use Rattle.codewords.specs.Codewords.{data_bits}
-use Rattle.placement.specs.Walk.{bits_from, byte_of, eight_of, run, behind, Gathered, FewPending, Words, Stored, Pushed, Masked, unmasked_at, Aligned, Skipped}
+use Rattle.placement.specs.Walk.{bits_from, byte_of, eight_of, run, Gathered, FewPending, Words, Stored, Pushed, Masked, unmasked_at, Aligned, Skipped}
 use Rattle.placement.specs.Walk.{row_bits, ReadsColumns}
 use Rattle.placement.specs.declared.Run.{Run}
-use Rattle.placement.proofs.Eights.{xor_eight}
 
 -- Bits of a number.
 

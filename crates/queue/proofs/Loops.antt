@@ -1,5 +1,5 @@
 -- What a turn of a loop adds, and what a loop leaves. Assumes nothing.
-use Rattle.general.proofs.Names.{◌≡◌, refl, sym, ap, ◌∙◌, ◌≢◌, true, false, List, [], ◌∷◌, ℕ, ◌+◌, ◌-◌, ◌*◌, ◌≤◌, ◌<◌, arith}
+use Rattle.general.proofs.Names.{◌≡◌, refl, sym, ap, ◌∙◌, ◌≢◌, true, false, List, ◌∷◌, ℕ, ◌+◌, ◌-◌, ◌*◌, ◌≤◌, ◌<◌, arith}
 use Rattle.general.proofs.Names.{dec_lt, eq-eqb, ne_eqb, lt-ltb, le-ltb, length, get_or, take, drop, replicate, length-append, length-take-le, length-drop}
 use Rattle.general.proofs.Names.{length-replicate, get_or-append, get_or-append-add, get_or-take, get_or-drop, get_or-replicate, drop-cons, take-suc, add-one}
 use Rattle.general.proofs.Names.{drop_of_length-le, ext_get_or}

@@ -1,5 +1,5 @@
 -- Queues: when one is refused that comes to a queue, queues of those that were accepted, and how many there can be. Assumes nothing.
-use Rattle.general.proofs.Names.{◌≡◌, refl, sym, ◌∙◌, ◌≢◌, Bool, true, false, cond, ◌||◌, List, [], ◌∷◌, ◌++◌, append-nil, append_assoc, ℕ, zero, suc}
+use Rattle.general.proofs.Names.{◌≡◌, refl, sym, ◌∙◌, Bool, true, false, cond, ◌||◌, List, [], ◌∷◌, ◌++◌, append-nil, append_assoc, ℕ, zero, suc}
 use Rattle.general.proofs.Names.{◌+◌, ◌≤◌, ◌<◌, arith, ℕ_discrete, ltb, eqb, ltb-false, le-ltb, eq-eqb, ne_eqb, length, length-append, false≢true}
 use Rattle.general.proofs.Names.{true≢false, dec_le, leb, lt-leb, eqb-true, get_or}
 use Rattle.general.proofs.Choices.{tested}

@@ -1,5 +1,5 @@
 -- States: their entries, the state of a queue, and the queue of a state. Assumes nothing.
-use Rattle.general.proofs.Names.{◌≡◌, refl, sym, ap, ◌∙◌, List, [], ◌∷◌, ◌++◌, append_assoc, flat_map, ℕ, zero, suc, ◌+◌, ◌-◌, ◌*◌, ◌≤◌, ◌<◌, arith}
+use Rattle.general.proofs.Names.{◌≡◌, refl, ap, ◌∙◌, List, [], ◌∷◌, ◌++◌, append_assoc, flat_map, ℕ, zero, suc, ◌+◌, ◌-◌, ◌*◌, ◌≤◌, ◌<◌, arith}
 use Rattle.general.proofs.Names.{length, get_or, take, drop, set, replicate, length-append, length-replicate, set_at, append_snoc, length-take-le}
 use Rattle.general.proofs.Names.{length-drop, sub-zero}
 use Rattle.general.proofs.Choices.{tested}

@@ -1,6 +1,6 @@
 -- How a reading begins: the receipt, the first refusals, and what is read when they are passed. Assumes nothing.
 use Rattle.general.proofs.Names.{◌≡◌, refl, sym, ap, ◌∙◌, ◌≢◌, Bool, true, false, cond, List, [], ◌∷◌, ℕ, ◌*◌, ◌≤◌, ◌<◌, arith, ℕ_discrete, le-leb, eqb-true}
-use Rattle.general.proofs.Names.{lt-leb, eqb, leb, length, get_or, ap₂, map, suc}
+use Rattle.general.proofs.Names.{lt-leb, eqb, leb, length, get_or}
 use Rattle.symbol.specs.Version.{side_of, is_side, side_version, side_refusal, version_of}
 use Rattle.symbol.specs.Version.{side_number}
 use Rattle.symbol.specs.declared.Version.{Version}
@@ -12,7 +12,7 @@ use Rattle.information.specs.Information.{is_info, copy_of, NearestAnswer, neare
 use Rattle.block_table.specs.Blocks.{has_blocks}
 use Rattle.marks.specs.Receipt.{refusal_receipt}
 use Rattle.marks.specs.Read.{Reading, reading_of, refused, first_refusal, unless, read_refusal, known_refusal, body_of}
-use Rattle.marks.specs.Read.{module_bit, with_receipt, read_of, read_known_of, nearest_in}
+use Rattle.marks.specs.Read.{with_receipt, read_of, read_known_of, nearest_in}
 use Rattle.marks.proofs.Refusals.{true_unless, unless_true, unless_false, first_skips, first_takes, first_left, first_none}
 use Rattle.marks.proofs.Modules.{modules_below}
 use Rattle.information.specs.Inner.{lowest}

@@ -1,13 +1,12 @@
 -- Blocks with erased places: what is counted in them, and what the search for the codeword that is admitted finds. Assumes nothing.
-use Rattle.general.proofs.Names.{◌≡◌, refl, sym, ap, ap₂, ◌∙◌, subst, fun_ext, ◌⊎◌, inl, inr, ◌≢◌, Bool, true, false, cond, ◌&&◌, ◌||◌, none, some, List, [], ◌∷◌}
+use Rattle.general.proofs.Names.{◌≡◌, refl, sym, ap, ◌∙◌, subst, fun_ext, ◌⊎◌, inl, inr, ◌≢◌, Bool, true, false, cond, ◌&&◌, ◌||◌, none, some, List, [], ◌∷◌}
 use Rattle.general.proofs.Names.{zip_with, ℕ, zero, suc, ◌+◌, ◌-◌, ◌*◌, ◌≤◌, ◌<◌, zero-le, arith, ℕ_discrete, eq-eqb, ne_eqb, T, leb, eqb, leb→le, le→leb, eqb→eq, length}
-use Rattle.general.proofs.Names.{ext_get_or, get_or}
 use Rattle.field.proofs.Field.{Primitive, T_and}
 use Rattle.reed_solomon.specs.Sum.{seq, degree}
 use Rattle.reed_solomon.specs.Block.{is_word, is_codeword, distance, all_words, first_that, in_reach, nearest}
 use Rattle.reed_solomon.specs.Erased.{erasures, unerased, unerased_distance, in_reach_erased, admits, admitted, Meets}
 use Rattle.reed_solomon.specs.Inner.{zeros_of}
-use Rattle.reed_solomon.proofs.Search.{Bytes, Passing, found_passing, passing_none, passing_some}
+use Rattle.reed_solomon.proofs.Search.{Bytes, found_passing, passing_none, passing_some}
 use Rattle.reed_solomon.proofs.Distance.{triangle, distance_self, distance_none}
 use Rattle.reed_solomon.proofs.Codeword.{both, near_equal}
 use Rattle.reed_solomon.proofs.Nearest.{word_is, is_word_lem, reach_near, near_reach, near_one}

@@ -1,7 +1,6 @@
 -- `keep` meets its contract: one byte after the other is brought to its place. Assumes nothing.
 use Rattle.general.proofs.Names.{ap, ◌∙◌, cond, ℕ, ltb, ◌+◌, arith}
 use Rattle.general.proofs.Each.{each_start, each_next, each_end}
-use Rattle.queue.specs.Inner.{byte_before}
 use Rattle.queue.proofs.Loops.{all_kept}
 use Rattle.queue.proofs.keep.Goals as goal
 

@@ -1,5 +1,5 @@
 -- `text_mode` meets its contract. Assumes nothing.
-use Rattle.general.proofs.Names.{◌≡◌, ◌∙◌, refl, ap, true, not, [], ◌∷◌, arith, ℕ, set}
+use Rattle.general.proofs.Names.{◌≡◌, ◌∙◌, refl, ap, not, [], ◌∷◌, arith, ℕ, set}
 use Rattle.bits.proofs.Words.{WordAt}
 use Rattle.segments.specs.Segments.{char_of, text_of}
 use Rattle.segments.proofs.Turns.{remains_start, remains_cut, remains_word, remains_stop, remains_on, remains_none, text_end}

@@ -1,6 +1,5 @@
 -- `row_crossings` meets its contract.
 use Rattle.general.proofs.Names.{arith}
-use Rattle.symbol.specs.Layout.{crossing}
 use Rattle.symbol.proofs.Lines.{fits_square}
 use Rattle.symbol.proofs.Plots.{begun, again, ended}
 use Rattle.symbol.proofs.alignment.row_crossings.Goals as goal

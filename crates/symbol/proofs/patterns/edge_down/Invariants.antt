@@ -1,7 +1,5 @@
 use Rattle.general.proofs.Names.{◌+◌, ◌-◌}
 use lib.IntN.{pos, ◌+ℤ◌}
-use mir.Syntax.{w64}
-use mir.Val.{to_z}
 use Rattle.symbol.specs.Layout.{line_module}
 use Rattle.symbol.proofs.Plots.{TurnsDone}
 use Rattle.symbol.proofs.patterns.edge_down.Given as goal
