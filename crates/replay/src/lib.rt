@@ -1,5 +1,7 @@
-// What the programs that replay recorded answers share: bytes in hexadecimal, to standard output.
-use libc::STDOUT_FILENO;
+// What the programs that replay recorded answers share: bytes in hexadecimal, to a writer.
+#![tactic(auto)]
+
+use std::io::{self, Write};
 
 // A nibble as a hexadecimal digit.
 fn nibble(x: u8) -> u8 {
@@ -10,19 +12,18 @@ fn nibble(x: u8) -> u8 {
     55 + n
 }
 
-fn put(b: u8) {
+fn put<W: Write>(out: &mut W, b: u8) -> io::Result<()> {
     let pair = [nibble(b / 16), nibble(b)];
-    io::write_all(STDOUT_FILENO, &pair);
+    out.write_all(&pair)
 }
 
 // The first n bytes, or nothing where there are fewer.
-pub fn hex(bytes: &[u8], n: usize) {
+pub fn hex<W: Write>(out: &mut W, bytes: &[u8], n: usize) -> io::Result<()> {
     if bytes.len() < n {
-        return;
+        return Ok(());
     }
-    let mut i: usize = 0;
-    while i < n {
-        put(bytes[i]);
-        i += 1;
+    for b in &bytes[..n] {
+        put(out, *b)?;
     }
+    Ok(())
 }
