@@ -1,7 +1,24 @@
-// What the programs that replay recorded answers share: bytes in hexadecimal, to a writer.
+// What the programs that replay recorded answers share: a list read whole, and bytes in hexadecimal.
 #![tactic(auto)]
 
-use std::io::{self, Write};
+ghost use Rattle.std.specs.Prelude.{◌≤◌, length, IfOk};
+
+use std::io::{self, Read, Write};
+
+// Reads until the buffer is full or the input ends, and returns how many bytes it put at the start of the buffer.
+pub fn read_full<R: Read>(input: &mut R, buffer: &mut [u8]) -> io::Result<usize>
+    ensures { IfOk result (λ n. n ≤ length buffer.new) }
+{
+    let mut done = 0;
+    while done < buffer.len() {
+        let n = input.read(&mut buffer[done..])?;
+        if n == 0 {
+            break;
+        }
+        done += n;
+    }
+    Ok(done)
+}
 
 // A nibble as a hexadecimal digit.
 fn nibble(x: u8) -> u8 {

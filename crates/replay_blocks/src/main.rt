@@ -6,7 +6,7 @@
 ghost use Rattle.std.specs.Prelude.{◌≤◌, ◌<◌, length, IfOk};
 
 use corrector::Correction;
-use std::io::{self, BufWriter, Read, Write};
+use std::io::{self, Write};
 
 fn two(high: u8, low: u8) -> usize
     ensures { result < 65536 }
@@ -72,11 +72,7 @@ fn all<W: Write>(out: &mut W, list: &mut [u8]) -> io::Result<()>
 }
 
 fn main(rt: HostRuntime) -> io::Result<()> {
-    let mut list = Vec::new(rt.alloc());
-    rt.reader().take(65536).read_to_end(&mut list)?;
-    let mut out = BufWriter::new(rt.alloc(), io::writer(&rt))?;
-    if list.len() <= 65536 {
-        all(&mut out, &mut list)?;
-    }
-    out.flush()
+    let mut buffer = [0u8; 65536];
+    let n = replay::read_full(&mut rt.reader(), &mut buffer)?;
+    all(&mut io::writer(&rt), &mut buffer[..n])
 }

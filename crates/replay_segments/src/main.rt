@@ -5,7 +5,7 @@
 ghost use Rattle.std.specs.Prelude.{◌<◌};
 
 use segments::Answer;
-use std::io::{self, BufWriter, Read, Write};
+use std::io::{self, Write};
 
 fn one<W: Write>(out: &mut W, codewords: &[u8]) -> io::Result<()> {
     let mut payload = [0u8; 12288];
@@ -38,11 +38,7 @@ fn all<W: Write>(out: &mut W, records: &[u8]) -> io::Result<()> {
 }
 
 fn main(rt: HostRuntime) -> io::Result<()> {
-    let mut records = Vec::new(rt.alloc());
-    rt.reader().take(65536).read_to_end(&mut records)?;
-    let mut out = BufWriter::new(rt.alloc(), io::writer(&rt))?;
-    if records.len() <= 65536 {
-        all(&mut out, &records)?;
-    }
-    out.flush()
+    let mut buffer = [0u8; 65536];
+    let n = replay::read_full(&mut rt.reader(), &mut buffer)?;
+    all(&mut io::writer(&rt), &buffer[..n])
 }

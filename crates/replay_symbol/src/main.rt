@@ -7,7 +7,7 @@
 ghost use Rattle.std.specs.Prelude.{◌+◌, ◌≤◌, ◌<◌, length};
 
 use information::{InfoBits, NearestInfo};
-use std::io::{self, BufWriter, Read, Write};
+use std::io::{self, Write};
 use symbol::{FromSide, LayoutAnswer, Version};
 
 fn as_u64(x: u8) -> u64
@@ -154,11 +154,7 @@ fn all<W: Write>(to: &mut W, list: &[u8]) -> io::Result<()>
 }
 
 fn main(rt: HostRuntime) -> io::Result<()> {
-    let mut list = Vec::new(rt.alloc());
-    rt.reader().take(65536).read_to_end(&mut list)?;
-    let mut out = BufWriter::new(rt.alloc(), io::writer(&rt))?;
-    if list.len() <= 65536 {
-        all(&mut out, &list)?;
-    }
-    out.flush()
+    let mut buffer = [0u8; 65536];
+    let n = replay::read_full(&mut rt.reader(), &mut buffer)?;
+    all(&mut io::writer(&rt), &buffer[..n])
 }
