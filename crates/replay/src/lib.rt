@@ -5,7 +5,8 @@ ghost use Rattle.std.specs.Prelude.{◌≤◌, length, IfOk};
 
 use std::io::{self, Read, Write};
 
-// Reads until the buffer is full or the input ends, and returns how many bytes it put at the start of the buffer.
+// Reads until the buffer is full or the input ends, and returns how many bytes it put at the start of the buffer. An error is the input's own,
+// and leaves there what was read before it; a read that a signal interrupts counts as one that failed.
 pub fn read_full<R: Read>(input: &mut R, buffer: &mut [u8]) -> io::Result<usize>
     ensures { IfOk result (λ n. n ≤ length buffer.new) }
 {
@@ -34,7 +35,7 @@ fn put<W: Write>(out: &mut W, b: u8) -> io::Result<()> {
     out.write_all(&pair)
 }
 
-// The first n bytes, or nothing where there are fewer.
+// The first n bytes, or nothing where there are fewer. An error is the writer's own, after which some of them may have been written.
 pub fn hex<W: Write>(out: &mut W, bytes: &[u8], n: usize) -> io::Result<()> {
     if bytes.len() < n {
         return Ok(());

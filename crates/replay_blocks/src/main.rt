@@ -41,7 +41,8 @@ fn one<W: Write>(out: &mut W, block: &mut [u8], parity: usize) -> io::Result<()>
     out.write_all(b"\n")
 }
 
-// The record at a place, and the place behind it; the end of the list where no whole record is left.
+// The record at a place, and the place behind it; the end of the list where no whole record is left. An error is the writer's own, after which
+// the record's block is as it was corrected.
 fn next<W: Write>(out: &mut W, list: &mut [u8], at: usize) -> io::Result<usize>
     requires { (at < length list.old) × (length list.old ≤ 65536) }
     ensures { IfOk result (λ to. (at < to) × (to ≤ length list.old)) }
