@@ -1,5 +1,25 @@
-// What the programs that replay recorded answers share: bytes in hexadecimal, to standard output.
-use libc::STDOUT_FILENO;
+// What the programs that replay recorded answers share: a list read whole, and bytes in hexadecimal.
+#![tactic(auto)]
+
+ghost use Rattle.std.specs.Prelude.{◌≤◌, length, IfOk};
+
+use std::io::{self, Read, Write};
+
+// Reads until the buffer is full or the input ends, and returns how many bytes it put at the start of the buffer. An error is the input's own,
+// and leaves there what was read before it; a read that a signal interrupts counts as one that failed.
+pub fn read_full<R: Read>(input: &mut R, buffer: &mut [u8]) -> io::Result<usize>
+    ensures { IfOk result (λ n. n ≤ length buffer.new) }
+{
+    let mut done = 0;
+    while done < buffer.len() {
+        let n = input.read(&mut buffer[done..])?;
+        if n == 0 {
+            break;
+        }
+        done += n;
+    }
+    Ok(done)
+}
 
 // A nibble as a hexadecimal digit.
 fn nibble(x: u8) -> u8 {
@@ -10,19 +30,18 @@ fn nibble(x: u8) -> u8 {
     55 + n
 }
 
-fn put(b: u8) {
+fn put<W: Write>(out: &mut W, b: u8) -> io::Result<()> {
     let pair = [nibble(b / 16), nibble(b)];
-    io::write_all(STDOUT_FILENO, &pair);
+    out.write_all(&pair)
 }
 
-// The first n bytes, or nothing where there are fewer.
-pub fn hex(bytes: &[u8], n: usize) {
+// The first n bytes, or nothing where there are fewer. An error is the writer's own, after which some of them may have been written.
+pub fn hex<W: Write>(out: &mut W, bytes: &[u8], n: usize) -> io::Result<()> {
     if bytes.len() < n {
-        return;
+        return Ok(());
     }
-    let mut i: usize = 0;
-    while i < n {
-        put(bytes[i]);
-        i += 1;
+    for b in &bytes[..n] {
+        put(out, *b)?;
     }
+    Ok(())
 }

@@ -2,10 +2,12 @@
 // line for each. Kind 1: the layout in a buffer of the first number's length, its refusal number and two sums over the buffer; 2: the
 // information word of a level and a mask; 3: the nearest word to two copies; 4: the version of a side. `compare/run record symbol` made
 // stdin, and stdout from the Rust's answers.
+#![tactic(auto)]
+
 ghost use Rattle.std.specs.Prelude.{◌+◌, ◌≤◌, ◌<◌, length};
 
 use information::{InfoBits, NearestInfo};
-use libc::{STDIN_FILENO, STDOUT_FILENO};
+use std::io::{self, Write};
 use symbol::{FromSide, LayoutAnswer, Version};
 
 fn as_u64(x: u8) -> u64
@@ -34,14 +36,12 @@ fn eight(list: &[u8], at: usize) -> u64
     four(list, at) * 4294967296 + four(list, at + 4)
 }
 
-fn number(n: u64) {
-    io::print_decimal(STDOUT_FILENO, n);
-    io::write_all(STDOUT_FILENO, b" ");
+fn number<W: Write>(to: &mut W, n: u64) -> io::Result<()> {
+    write!(to, "{n} ")
 }
 
-fn last(n: u64) {
-    io::print_decimal(STDOUT_FILENO, n);
-    io::write_all(STDOUT_FILENO, b"\n");
+fn last<W: Write>(to: &mut W, n: u64) -> io::Result<()> {
+    writeln!(to, "{n}")
 }
 
 // Two sums over bytes.
@@ -57,98 +57,104 @@ fn sums(bytes: &[u8]) -> u64 {
     b * 65536 + a
 }
 
-fn layout_in(version: usize, out: &mut [u8]) {
+fn layout_in<W: Write>(to: &mut W, version: usize, out: &mut [u8]) -> io::Result<()> {
     match symbol::layout(version, out) {
-        LayoutAnswer::Filled => number(0),
-        LayoutAnswer::NoVersion => number(1),
-        LayoutAnswer::TooShort => number(2),
+        LayoutAnswer::Filled => number(to, 0)?,
+        LayoutAnswer::NoVersion => number(to, 1)?,
+        LayoutAnswer::TooShort => number(to, 2)?,
     }
-    last(sums(out));
+    last(to, sums(out))
 }
 
-fn layout_front(version: usize, out: &mut [u8], length: usize) {
+fn layout_front<W: Write>(
+    to: &mut W,
+    version: usize,
+    out: &mut [u8],
+    length: usize,
+) -> io::Result<()> {
     if length <= out.len() {
-        layout_in(version, &mut out[..length]);
+        layout_in(to, version, &mut out[..length])?;
     }
+    Ok(())
 }
 
-fn layout(version: usize, length: usize) {
+fn layout<W: Write>(to: &mut W, version: usize, length: usize) -> io::Result<()> {
     let mut out = [7u8; Version::MAX_SQUARE];
-    layout_front(version, &mut out, length);
+    layout_front(to, version, &mut out, length)
 }
 
-fn word(version: usize, level: usize, mask: usize) {
+fn word<W: Write>(to: &mut W, version: usize, level: usize, mask: usize) -> io::Result<()> {
     match information::info_bits(version, level, mask) {
         InfoBits::Word(w) => {
-            number(0);
-            last(w);
+            number(to, 0)?;
+            last(to, w)
         }
         InfoBits::OutOfRange => {
-            number(1);
-            last(0);
+            number(to, 1)?;
+            last(to, 0)
         }
     }
 }
 
-fn nearest(version: usize, first: u64, second: u64) {
+fn nearest<W: Write>(to: &mut W, version: usize, first: u64, second: u64) -> io::Result<()> {
     match information::nearest_info(version, first, second) {
         NearestInfo::Nearest {
             level,
             mask,
             distance,
         } => {
-            number(0);
-            number(level as u64);
-            number(mask as u64);
-            last(distance as u64);
+            number(to, 0)?;
+            number(to, level as u64)?;
+            number(to, mask as u64)?;
+            last(to, distance as u64)
         }
         NearestInfo::NoVersion => {
-            number(1);
-            number(0);
-            number(0);
-            last(0);
+            number(to, 1)?;
+            number(to, 0)?;
+            number(to, 0)?;
+            last(to, 0)
         }
     }
 }
 
-fn side(n: usize) {
+fn side<W: Write>(to: &mut W, n: usize) -> io::Result<()> {
     match Version::from_side(n) {
-        FromSide::Found(v) => last(v.number as u64),
-        FromSide::NoVersion => last(0),
+        FromSide::Found(v) => last(to, v.number as u64),
+        FromSide::NoVersion => last(to, 0),
     }
 }
 
-fn one(kind: u8, version: usize, first: u64, second: u64) {
+fn one<W: Write>(to: &mut W, kind: u8, version: usize, first: u64, second: u64) -> io::Result<()> {
     if kind == 1 {
-        layout(version, first as usize);
+        layout(to, version, first as usize)
     } else if kind == 2 {
-        word(version, first as usize, second as usize);
+        word(to, version, first as usize, second as usize)
     } else if kind == 3 {
-        nearest(version, first, second);
+        nearest(to, version, first, second)
     } else {
-        side(first as usize);
+        side(to, first as usize)
     }
 }
 
-fn all(list: &[u8])
+fn all<W: Write>(to: &mut W, list: &[u8]) -> io::Result<()>
     requires { length list.now ≤ 65536 }
 {
     let mut at: usize = 0;
     while at + 18 <= list.len() {
         one(
+            to,
             list[at],
             as_usize(list[at + 1]),
             eight(list, at + 2),
             eight(list, at + 10),
-        );
+        )?;
         at += 18;
     }
+    Ok(())
 }
 
-fn main() {
-    let mut buf = io::large_buffer();
-    let n = io::read_full(STDIN_FILENO, &mut buf);
-    if n <= 65536 {
-        all(&buf[..n]);
-    }
+fn main(rt: HostRuntime) -> io::Result<()> {
+    let mut buffer = [0u8; 65536];
+    let n = replay::read_full(&mut rt.reader(), &mut buffer)?;
+    all(&mut io::writer(&rt), &buffer[..n])
 }

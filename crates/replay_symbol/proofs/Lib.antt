@@ -1,1 +1,0 @@
--- The files of laws, those that others rest on first.
