@@ -1,4 +1,6 @@
 // Bits of bytes, high bit first (han_xin.rs: `Bits`): functions on a slice and a position.
+#![tactic(auto)]
+
 ghost use Rattle.std.specs.Prelude.{◌≡◌, ◌+◌, ◌*◌, ◌<◌, ◌≤◌, ◌++◌, length, get_or, take, drop, set};
 ghost use Rattle.std.proofs.lemmas.List.Edits.{sets};
 ghost use Rattle.bits.specs.Bits.{bits_of, read_bits, low_bits};

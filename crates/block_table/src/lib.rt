@@ -1,4 +1,6 @@
 // SPECIFICATION 7.1: the block table (han_xin.rs: `TOTAL_CODEWORDS`, `BLOCKS`).
+#![tactic(auto)]
+
 ghost use Rattle.std.specs.Prelude.{◌≡◌, ℕ, ◌+◌, ◌-◌, ◌*◌, ◌<◌, ◌≤◌, leb, length, get_or};
 ghost use Rattle.general.specs.Lists.{lowest};
 ghost use Rattle.block_table.specs.Blocks.{total_of, row_of, shapes_of, total_data};

@@ -1,5 +1,7 @@
 // Blocks made of data, one after the other (SPECIFICATION 7.5): each block's data followed by their parity. The row of the version and
 // level is lent: three batches of count, data, parity.
+#![tactic(auto)]
+
 ghost use Rattle.std.specs.Prelude.{◌≡◌, ◌++◌, ◌+◌, ◌≤◌, ◌<◌, T, length, drop};
 ghost use Rattle.block_table.specs.Blocks.{batch, shapes, total_size, total_data, row_holds};
 ghost use Rattle.block_table.specs.Inner.{Sound};

@@ -1,5 +1,7 @@
 // Blocks corrected, and their data gathered, one after the other (SPECIFICATION 7.2, 7.5). The row of the version and level is lent: three
 // batches of count, data, parity. The crate `block_writer` makes blocks of data.
+#![tactic(auto)]
+
 ghost use Rattle.std.specs.Prelude.{◌≡◌, true, [], ◌++◌, ◌+◌, ◌≤◌, ◌<◌, T, length, take, drop};
 ghost use Rattle.field.specs.Table.{Field, poly_of};
 ghost use Rattle.remainder.specs.Words.{Prepared};

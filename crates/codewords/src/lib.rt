@@ -1,5 +1,7 @@
 // SPECIFICATION 6: the masks, and the codewords of a square as its stream and back (han_xin.rs: `masked`, first half of `decode_data`).
 // The data modules are read by `placement` and `small_marks` and written by `drawing`. Buffers are lent whole, with the count that is used.
+#![tactic(auto)]
+
 ghost use Rattle.std.specs.Prelude.{◌≡◌, true, false, ◌++◌, ◌+◌, ◌≤◌, ◌<◌, length, take, drop};
 ghost use Rattle.codewords.specs.Codewords.{mask_at, to_stream, from_stream};
 ghost use Rattle.codewords.specs.Inner.{Moves};

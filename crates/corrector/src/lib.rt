@@ -1,4 +1,6 @@
 // SPECIFICATION 10.5: Correct a block (reed_solomon.rs: `correct`), on a block that may be lent from the middle of a longer buffer.
+#![tactic(auto)]
+
 ghost use Rattle.std.specs.Prelude.{◌≡◌, false, ◌≤◌, ◌<◌, length};
 ghost use Rattle.field.specs.Table.{Field, poly_of};
 ghost use Rattle.reed_solomon.specs.Block.{nearest};

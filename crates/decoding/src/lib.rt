@@ -1,4 +1,6 @@
 // The answer for a square that has passed the first refusals: its stream is read and corrected, and the segments of its data are decoded.
+#![tactic(auto)]
+
 ghost use Rattle.std.specs.Prelude.{◌≡◌, ℕ, ◌*◌, ◌<◌, ◌≤◌, length, get_or};
 ghost use Rattle.symbol.specs.Version.{side_of};
 ghost use Rattle.symbol.specs.Layout.{layout_of};

@@ -1,6 +1,8 @@
 // SPECIFICATION 6.2, 6.3: a square with its patterns and the masked bits of codewords in its data modules.
 // Patterns are drawn first, all modules alike; then the square is walked row by row, and where eight data modules stand together they are
 // written at once, as the bytes of one number.
+#![tactic(auto)]
+
 ghost use Rattle.std.specs.Prelude.{◌≡◌, ℕ, ◌+◌, ◌-◌, ◌*◌, ◌/◌, ◌≤◌, ◌<◌, length, get_or, take, drop};
 ghost use Rattle.std.proofs.lemmas.List.Edits.{sets};
 ghost use Rattle.bits.specs.Bits.{bits_of, low_bits, value};

@@ -1,4 +1,6 @@
 // The bits of a script and its payload, in a lent run of data bytes.
+#![tactic(auto)]
+
 ghost use Rattle.std.specs.Prelude.{◌≡◌, true, ◌++◌, ◌+◌, ◌-◌, ◌*◌, ◌/◌, ◌<◌, ◌≤◌, length, get_or, take, drop, replicate};
 ghost use Rattle.bits.specs.Bits.{bits_of, low_bits, word_bits};
 ghost use Rattle.script.specs.Writer.{numeric_words, mode_has, encoding_of};

@@ -1,5 +1,7 @@
 // SPECIFICATION 3.10: Correct a block with erased places (reed_solomon.rs: `correct_with_erasures`). A flag stands beside each byte of a block; a
 // place is erased where its flag is not 0. A block with none erased is corrected as before.
+#![tactic(auto)]
+
 ghost use Rattle.std.specs.Prelude.{◌≡◌, cond, ◌≢◌, ℕ, ◌+◌, ◌≤◌, ◌<◌, eqb, length};
 ghost use Rattle.field.specs.Table.{Field, poly_of};
 ghost use Rattle.reed_solomon.specs.Sum.{seq};

@@ -1,5 +1,7 @@
 // The steps of Reed-Solomon decoding that erased places add (reed_solomon.rs: `solve`). A flag stands beside each byte of a block; a place is
 // erased where its flag is not 0.
+#![tactic(auto)]
+
 ghost use Rattle.std.specs.Prelude.{◌≡◌, ℕ, ◌+◌, ◌≤◌, ◌<◌, length};
 ghost use Rattle.field.specs.Field.{power};
 ghost use Rattle.field.specs.Table.{Field, poly_of};

@@ -1,5 +1,7 @@
 // SPECIFICATION 3.1: GF(256) by a lent table (reed_solomon.rs: `Field::new`, `mul`, `div`, `power`). The polynomial is the table's own, and
 // no step of a product goes by the value of a byte.
+#![tactic(auto)]
+
 ghost use Rattle.std.specs.Prelude.{◌≡◌, ◌+◌, ◌<◌, ◌≤◌, get_or};
 ghost use Rattle.field.specs.Field.{power, mul};
 ghost use Rattle.field.specs.Table.{Field, poly_of};

@@ -1,5 +1,7 @@
 // SPECIFICATION 6.5: which codewords of a square have unknown modules. A flag stands beside each codeword: of its eight bits those are 1 whose
 // modules are unknown.
+#![tactic(auto)]
+
 ghost use Rattle.std.specs.Prelude.{◌≡◌, ◌++◌, ℕ, ◌+◌, ◌*◌, ◌/◌, ◌%◌, ◌^◌, ◌<◌, ◌≤◌, length, get_or, take, drop};
 ghost use Rattle.symbol.specs.Layout.{data_modules};
 ghost use Rattle.bits.specs.Bits.{first_words};

@@ -1,5 +1,7 @@
 // The operations for a station program in C, on numbers and byte slices only (include/han_xin.h). What they mean stands in marks/specs and
 // queue/specs.
+#![tactic(auto)]
+
 ghost use Rattle.std.specs.Prelude.{◌≡◌};
 ghost use Rattle.marks.specs.Read.{reading_of, read_of, read_known_of};
 ghost use Rattle.marks.specs.Write.{writing_of, write_of};

@@ -1,5 +1,7 @@
 // SPECIFICATION 5, 10.3 and 10.4: the word of a version, level and mask, the nearest word to two copies, and the copies in a square
 // (han_xin.rs: `info_positions`, `gf16_mul`, `info_bits`, `nearest_info`).
+#![tactic(auto)]
+
 ghost use Rattle.std.specs.Prelude.{◌≡◌, true, false, cond, ℕ, ◌+◌, ◌*◌, ◌/◌, ◌%◌, ◌^◌, ◌≤◌, ◌<◌, ltb, length, get_or};
 ghost use Rattle.std.specs.Int.Bits.{bit_xor};
 ghost use Rattle.std.specs.Int.Count.{ones};

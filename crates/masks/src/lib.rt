@@ -1,5 +1,7 @@
 // SPECIFICATION 6.1: the mask of a row of a square, with no division for each module (han_xin.rs: `masked`).
 // The loops over a row have no branch and keep to numbers of 16 bits, so that the compiler takes eight columns at once.
+#![tactic(auto)]
+
 ghost use Rattle.std.specs.Prelude.{◌≡◌, ℕ, ◌+◌, ◌*◌, ◌/◌, ◌≤◌, ◌<◌, length, get_or};
 ghost use Rattle.std.specs.Int.Bits.{bit_and};
 ghost use Rattle.codewords.specs.Codewords.{mask_at};

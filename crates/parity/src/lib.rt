@@ -1,5 +1,7 @@
 // The parity of a block, for the writer: data followed by what makes them a codeword. The table of the field and the first root are lent
 // to the functions for any field; those for the field of Han Xin copy its table where they need it.
+#![tactic(auto)]
+
 ghost use Rattle.std.specs.Prelude.{◌≡◌, ℕ, ◌+◌, ◌-◌, ◌≤◌, ◌<◌, length, get_or, true, false};
 ghost use Rattle.field.specs.Table.{Field, poly_of};
 ghost use Rattle.reed_solomon.specs.Sum.{seq};

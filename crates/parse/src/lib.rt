@@ -1,4 +1,6 @@
 // SPECIFICATION 10.7: Segments from data (han_xin.rs: `parse`), all segments of the data codewords, one after the other.
+#![tactic(auto)]
+
 ghost use Rattle.std.specs.Prelude.{◌≡◌, ◌++◌, ◌≤◌, length, take, drop};
 ghost use Rattle.segments.specs.Segments.{segments_of};
 ghost use Rattle.segments.specs.Positions.{Parses};

@@ -1,5 +1,7 @@
 // SPECIFICATION 6.2: codewords out of the data modules of a square (han_xin.rs: first half of `decode_data`).
 // A square is walked row by row. Where eight data modules stand together they are taken at once, as the bytes of one number.
+#![tactic(auto)]
+
 ghost use Rattle.std.specs.Prelude.{◌≡◌, ◌++◌, ℕ, ◌+◌, ◌*◌, ◌^◌, ◌≤◌, ◌<◌, length, drop};
 ghost use Rattle.codewords.specs.Codewords.{mask_bit, data_bits};
 ghost use Rattle.codewords.specs.Inner.{ModulesAndKinds};

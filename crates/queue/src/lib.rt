@@ -1,5 +1,7 @@
 // SPECIFICATION 14: six heads hand in squares, and one reader takes them in turn (an addition to the original). The queue stands in 12 lent
 // bytes: an entry of two bytes, head and side, for each head that waits, the longest waiting first, and zeros behind them.
+#![tactic(auto)]
+
 ghost use Rattle.std.specs.Prelude.{◌≡◌, ◌*◌, ◌≤◌, length};
 ghost use Rattle.queue.specs.Queue.{waiting, is_waiting, entry_refusal, hand_in, hand_in_of, turn, turn_of};
 ghost use Rattle.queue.specs.Inner.{front, byte_before, kept, Counted};

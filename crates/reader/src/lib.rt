@@ -1,4 +1,6 @@
 // SPECIFICATION 10.9 and 10.10: Read a square, and Read with known version, level, mask (han_xin.rs: `decode_matrix`, `decode_data`).
+#![tactic(auto)]
+
 ghost use Rattle.std.specs.Prelude.{◌≡◌, [], ◌∷◌, ℕ, ◌*◌, ◌<◌, ◌≤◌, eqb, length, get_or};
 ghost use Rattle.symbol.specs.Version.{side_of};
 ghost use Rattle.marks.specs.Read.{first_refusal, unless, reading_of, read_of, read_known_of};

@@ -1,4 +1,6 @@
 // The receipt of a square that is read (SPECIFICATION 2.6), and the answer for its corrected blocks: script and payload.
+#![tactic(auto)]
+
 ghost use Rattle.std.specs.Prelude.{◌≡◌, ◌%◌, ◌<◌, ◌≤◌, length};
 ghost use Rattle.block_table.specs.Blocks.{shapes, total_size, total_data, cut, data_parts};
 ghost use Rattle.segments.specs.FromData.{from_data};

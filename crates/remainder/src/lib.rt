@@ -1,6 +1,8 @@
 // What is left of a block by division by its generator, four bytes a time, or one in a short block. The register is 32 bytes in four words, the first byte the
 // highest of the first word; a table has what four bytes leave, by hexadecimal digits. Two reads of the table stand for the products of
 // a byte with all coefficients of the generator.
+#![tactic(auto)]
+
 ghost use Rattle.std.specs.Prelude.{◌≡◌, List, ℕ, ◌+◌, ◌-◌, ◌*◌, ◌/◌, ◌%◌, ◌^◌, ◌≤◌, ◌<◌, length, get_or, true};
 ghost use Rattle.remainder.specs.Words.{Zero, row_at, sum_of, none, Rows, Adds, Keeps, Left, Extended, Filling, Bytewise, ByteRows, Shifts, Prepared, byte_at, IsTabled, Remains, Leaves};
 ghost use Rattle.field.specs.Field.{power, mul};

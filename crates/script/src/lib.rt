@@ -1,4 +1,6 @@
 // SPECIFICATION 10.8: a script and its payload, what writing asks of them, and how many bits they take.
+#![tactic(auto)]
+
 ghost use Rattle.std.specs.Prelude.{◌≡◌, true, false, ◌+◌, ◌-◌, ◌*◌, ◌/◌, ◌<◌, ◌≤◌, length, drop};
 ghost use Rattle.script.specs.Lengths.{eci_length};
 ghost use Rattle.script.specs.Inner.{capped, check_of};

@@ -1,5 +1,7 @@
 // SPECIFICATION 6.2: codewords out of a square of version 1 to 3, which has no alignment patterns (han_xin.rs: `decode_data`).
 // In each row the data modules stand side by side, so that no layout is drawn, and the mask of a row is one number.
+#![tactic(auto)]
+
 ghost use Rattle.std.specs.Prelude.{◌≡◌, ◌++◌, ℕ, ◌+◌, ◌*◌, ◌%◌, ◌^◌, ◌≤◌, ◌<◌, length, get_or, drop};
 ghost use Rattle.bits.specs.Bits.{low_bits, value, first_words};
 ghost use Rattle.symbol.specs.Version.{side_of};

@@ -1,5 +1,7 @@
 // SPECIFICATION 2.1 and 4: versions; finders, separators, information and alignment patterns of a version
 // (han_xin.rs: `size`, `version`, `layout`, `alignment`).
+#![tactic(auto)]
+
 ghost use Rattle.std.specs.Prelude.{◌≡◌, ◌+◌, ◌-◌, ◌*◌, ◌/◌, ◌%◌, ◌≤◌, ◌<◌};
 ghost use Rattle.symbol.specs.Version.{side_of, side_refusal, side_version, version_of};
 ghost use Rattle.symbol.specs.Version as version;

@@ -1,4 +1,6 @@
 // SPECIFICATION 10.11: Write a square (an addition to the original, which reads only). 10.12 stands in `smallest`.
+#![tactic(auto)]
+
 ghost use Rattle.std.specs.Prelude.{◌≡◌, ◌*◌, ◌≤◌, T, leb, length, take};
 ghost use Rattle.symbol.specs.Version.{side_of};
 ghost use Rattle.symbol.specs.Layout.{layout_of};
