@@ -89,13 +89,13 @@ module _ (v : ℕ) (hi : v ≤ 84) where
       shift a b = simp add-zero at (xor_block 6 a b 0 0 (lit< tt) (lit< tt))
 
 -- a number below 2 ^ k has no ones above its k digits
-ones_in : (k n : ℕ) → n < 2 ^ k → ones n ≡ ones_in k n
+ones_in_lem : (k n : ℕ) → n < 2 ^ k → ones n ≡ ones_in k n
 unfolding ones ones_in
-ones_in zero zero h = refl
-ones_in zero (suc n) h = absurd (let z : suc n < 1 = h in omega arith)
-ones_in (suc k) n h =
+ones_in_lem zero zero h = refl
+ones_in_lem zero (suc n) h = absurd (let z : suc n < 1 = h in omega arith)
+ones_in_lem (suc k) n h =
     let e : n < 2 ^ (k + 1) = subst (λ (m : ℕ). n < 2 ^ m) (let z : suc k ≡ k + 1 = omega arith in z) h in
-    ones_step n ∙ ap (λ (x : ℕ). n % 2 + x) (ones_in k (n / 2) (shr_lt k 1 e))
+    ones_step n ∙ ap (λ (x : ℕ). n % 2 + x) (ones_in_lem k (n / 2) (shr_lt k 1 e))
 
 xor_ne : (a b : ℕ) → bit_xor a b ≡ 0 → a ≡ b
 xor_ne a b e = sym (sym (ap (λ (n : ℕ). bit_xor n b) e ∙ xor_zero_l b) ∙ xor_assoc a b b ∙ ap (bit_xor a) (xor_self b) ∙ xor_comm a 0 ∙ xor_zero_l a)
@@ -103,7 +103,7 @@ xor_ne a b e = sym (sym (ap (λ (n : ℕ). bit_xor n b) e ∙ xor_zero_l b) ∙ 
 nine_of : (x : ℕ) → x < 16 → (x ≡ 0 → ⊥) → 9 ≤ ones ((x * 65536 + generator_times x) * 64)
 nine_of x h n =
     let l : (x * 65536 + generator_times x) * 64 < 2 ^ 34 = omega (arith, generator_lt x h) in
-    rw (ones_in 34 ((x * 65536 + generator_times x) * 64) l)
+    rw (ones_in_lem 34 ((x * 65536 + generator_times x) * 64) l)
     (leb→le 9 _ (rw (ne_eqb x 0 n) at (every (λ n. eqb n 0 || leb 9 (ones_in 34 ((n * 65536 + generator_times n) * 64))) 16 nine x h)))
 
 -- two words of a version differ in at least 9 bits

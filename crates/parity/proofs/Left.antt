@@ -94,7 +94,7 @@ module _ (m parity : ℕ) (ds b : List ℕ) (r : Register) (bd : Bytes ds) (bb :
       (sym (eval_append 0x163 x e (take parity b) (drop parity b)) ∙ ap (eval_from 0x163 x e) (take-append-drop parity b) ∙ whole)
 
 -- what is written
-pub left_written : (k : ℕ) (block block' b : List ℕ) (r : Register) → Bytes block → length block ≤ 255 → k ≤ length block → tabled (length block - k)
+pub left_written : (k : ℕ) (block block' b : List ℕ) (r : Register) → Bytes block → length block ≤ 255 → k ≤ length block → IsTabled (length block - k)
     → Leaves (length block - k) k block r → length b ≡ 32 → ((i : ℕ) → i < 32 → seq b i ≡ byte_at r i) → ((i : ℕ) → length block - k ≤ i → i < 32 → seq b i ≡ 0)
     → Each (behind_of k b) (length block) block block' → block' ≡ written_of 0x163 1 (length block - k) block
 left_written k block block' b r bs small h T L size are zeros E =

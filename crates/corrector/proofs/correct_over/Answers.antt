@@ -25,7 +25,7 @@ syndromes-requires c = record { field = c.requires.field; parity_bound = omega a
 pub returns-then-clean : goal.returns-then-clean
 unfolding outcome
 returns-then-clean c =
-    clean_settled _ (the_field _ c.requires.field) _ _ _ (omega arith) (λ i. omega (arith, c.type_inv.block i)) _ c.syndromes.ensures
+    clean_settled _ (the_field _ c.requires.field) _ _ _ (omega arith) (λ i. omega (arith, c.slice_known-1.given i)) _ c.syndromes.ensures
     (sym c.if-clean.true ∙ c.clean.ensures)
     ∙ fit_settled _ _ _ _ (fit _ _ c.if-parity-eq0.false (omega arith) (omega arith))
 

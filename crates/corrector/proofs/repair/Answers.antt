@@ -22,12 +22,12 @@ apply-fix-requires c = let f = c.locator-l.ensures in
 pub returns-then-fix : goal.returns-then-fix
 unfolding outcome
 returns-then-fix c =
-    repaired_settled _ (the_field _ c.requires.field) _ _ _ c.requires.first_bound.2 (λ i. omega (arith, c.type_inv.block i))
+    repaired_settled _ (the_field _ c.requires.field) _ _ _ c.requires.first_bound.2 (λ i. omega (arith, c.slice_known-1.given i))
     _ c.requires.syndromes _ _ c.locator-l.ensures _ _ _ c.apply-fix.ensures (sym c.if-fix.true)
     (omega (arith, c.if-parity-l.false))
 
 pub returns : goal.returns
 unfolding outcome
 returns c =
-    left_settled _ (the_field _ c.requires.field) _ _ _ c.requires.first_bound.2 (λ i. omega (arith, c.type_inv.block i))
+    left_settled _ (the_field _ c.requires.field) _ _ _ c.requires.first_bound.2 (λ i. omega (arith, c.slice_known-1.given i))
     _ c.requires.syndromes _ _ c.locator-l.ensures _ _ _ c.apply-fix.ensures (sym c.if-fix.false)

@@ -13,7 +13,7 @@ returns-then-is_none c = none_settled (λ i. omega (arith, c.type_inv.block i)) 
 pub returns-then-fix : goal.returns-then-fix
 unfolding outcome
 returns-then-fix c =
-    one_settled (λ i. omega (arith, c.type_inv.block i)) c.requires.has_erased.0 (λ i. omega (arith, c.type_inv.block i)) c.try_one-fix.ensures
+    one_settled (λ i. omega (arith, c.slice_known-1.given i)) c.requires.has_erased.0 (λ i. omega (arith, c.type_inv.block i)) c.try_one-fix.ensures
     (sym c.if-fix.true)
 
 pub syndromes-requires : goal.syndromes-requires

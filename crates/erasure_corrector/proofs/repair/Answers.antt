@@ -14,7 +14,7 @@ use Rattle.erasure_corrector.proofs.repair.Goals.{After-apply-fix}
 applied : (c : After-apply-fix) → let block = c.args.block.now in
     Settles (settled block (admitted (poly_of c.args.field.now) c.args.first c.args.parity c.args.flags.now block))
     c.apply-fix.result.done c.apply-fix.result.count c.apply-fix.new.block
-applied c = applied_settled (the_field _ c.requires.field.0) _ (λ i. omega (arith, c.type_inv.block i)) c.requires.has_erased.0 c.requires.has_erased.1
+applied c = applied_settled (the_field _ c.requires.field.0) _ (λ i. omega (arith, c.slice_known-1.given i)) c.requires.has_erased.0 c.requires.has_erased.1
     (sym c.if-clean.false ∙ c.clean.ensures) c.locate-l.ensures c.add_roots-top.ensures c.apply-fix.ensures
     (omega (arith, c.if-parity-l.false))
 

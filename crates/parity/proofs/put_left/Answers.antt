@@ -14,7 +14,7 @@ returns-then-is_parity c =
     let fits = c.is_parity.ensures c.if-is_parity.true in (
       λ _. left_written _ _ _ _ _ (λ i. omega (
         arith,
-        c.type_inv.block
+        c.slice_known-1.given
             i,
       )) c.requires.k_in_bounds.1 c.requires.k_in_bounds.0 fits.0 c.requires.leaves
           c.bytes-b.ensures.0 c.bytes-b.ensures.1 fits.1 c.put_behind.ensures,

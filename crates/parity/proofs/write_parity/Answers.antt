@@ -9,6 +9,6 @@ divide-requires c = record { field = c.requires.field; d_in_bounds = (omega arit
 
 pub returns : goal.returns
 returns c =
-    written _ (the_field _ c.requires.field) _ _ _ _ _ _ (λ i. omega (arith, c.type_inv.block i))
+    written _ (the_field _ c.requires.field) _ _ _ _ _ _ (λ i. omega (arith, c.slice_known-1.given i))
     c.requires.k_in_bounds.1 c.requires.k_in_bounds.0
     c.copy.ensures c.divide.ensures.1 c.copy-2.ensures

@@ -20,7 +20,7 @@ zeros-requires-then-clean c = omega (arith, c.magnitudes.ensures.size, c.roots.e
 
 pub returns-then-clean : goal.returns-then-clean
 returns-then-clean c =
-    applied_fixed _ (the_field _ c.requires.field) _ _ _ c.requires.first_bound.2 (λ i. omega (arith, c.type_inv.block i)) _ c.requires.syndromes
+    applied_fixed _ (the_field _ c.requires.field) _ _ _ c.requires.first_bound.2 (λ i. omega (arith, c.slice_known-1.given i)) _ c.requires.syndromes
     _ _ _ c.roots.ensures _ _ c.magnitudes.ensures c.take_off_all.ensures
     (sym c.if-clean.true ∙ c.clean.ensures) _ (λ i. omega (arith, c.type_inv.block i))
     c.add.ensures _ c.zeros-then-clean.ensures.0
