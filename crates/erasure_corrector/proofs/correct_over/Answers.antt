@@ -37,7 +37,7 @@ repair-requires c = record {
       parity_le = omega arith;
       small = omega arith;
       size = c.requires.first_bound.1;
-      c = omega (arith, c.if-f-eq0.false);
+      some = omega (arith, c.if-f-eq0.false);
       fit = omega arith;
       are = c.erased-f.ensures;
     },

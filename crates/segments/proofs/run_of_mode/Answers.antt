@@ -27,5 +27,5 @@ pub returns-in-7 : goal.returns-in-7
 returns-in-7 c = rw (run_four _ _ _ _ _ c.in-7.is) c.four_byte.ensures
 
 pub returns-in_default : goal.returns-in_default
-returns-in_default c = let k = c.in_default-own.rest in
-    rw (run_none _ _ _ _ _ k.0.0.0.0.0.0.1 k.0.0.0.0.0.1 k.0.0.0.0.1 k.0.0.0.1 k.0.0.1 k.0.1 k.1) (refl, tt)
+returns-in_default c = let k = c.in_default.in_default-own.rest in
+    rw (run_none _ _ _ _ _ k.0.0.0.0.0.0.1 k.0.0.0.0.0.1 k.0.0.0.0.1 k.0.0.0.1 k.0.0.1 k.0.1 k.1) record { left = refl; inside = tt }
