@@ -9,7 +9,8 @@ use Rattle.block_writer.proofs.write_blocks.Goals as goal
 use Rattle.block_writer.proofs.write_blocks.Goals.{After-struct_known-1}
 
 -- the blocks of a turn's batch are written
-next : (c : After-struct_known-1) → let b = c.batch_of-b.result in
+next : (c : After-struct_known-1) →
+    let b = c.batch_of-b.result in
     TransferLeft writing (shapes c.args.row.now) 0 0 c.args.«data».now c.args.stream.now (behind (c.loop-k.k + 1) c.args.row.now)
     (c.loop-k.n + b.count * (b.info + b.parity)) (c.loop-k.from + b.count * b.info) c.write_batch.new.stream
 next c = batch_transferred _ _ c.loop-k.invariant c.loop-k-test.true

@@ -5,7 +5,7 @@ use Rattle.blocks.proofs.Transfers.{TransferLeft}
 use Rattle.block_writer.proofs.write_blocks.Given as goal
 
 abbrev pub invariant-loop-k : goal.invariant-loop-k
-invariant-loop-k l = TransferLeft writing (shapes l.row) 0 0 «data» l.initial.stream (behind l.k l.row) l.n l.from l.stream
+invariant-loop-k l = TransferLeft writing (shapes l.row) 0 0 l.«data» l.initial.stream (behind l.k l.row) l.n l.from l.stream
 
 abbrev pub decreases-loop-k : goal.decreases-loop-k
 decreases-loop-k l = 3 - l.k

@@ -8,7 +8,8 @@ use Rattle.block_writer.proofs.write_many.Goals as goal
 use Rattle.block_writer.proofs.write_many.Goals.{In-loop-left}
 
 -- the place of a turn's block, and that of its data
-place : (c : In-loop-left) → let b = c.args.b in
+place : (c : In-loop-left) →
+    let b = c.args.b in
     (c.loop-left.into + (b.info + b.parity) ≤ length c.loop-left.stream) × (c.loop-left.at + b.info ≤ length c.args.«data».now)
 place c = one_room _ _ _ c.loop-left.invariant c.loop-left-test.true
 
@@ -55,7 +56,7 @@ loop-left-preserved c =
     (one_written b.info b.parity c.loop-left.into end c.loop-left.at c.args.«data».now c.loop-left.stream _ _ refl (place (goal.at.loop-left-preserved c).In-loop-left).0 (place (goal.at.loop-left-preserved c).In-loop-left).1
     c.copy.ensures c.write_with.ensures)
     (part_kept c.loop-left.into end c.copy.new.dst c.write_with.new.block (omega arith) (omega (arith, (place (goal.at.loop-left-preserved c).In-loop-left).0, c.copy.auto.dst))
-    c.write_with.auto.1.0 ∙ c.copy.auto.dst)
+    c.write_with.auto.block ∙ c.copy.auto.dst)
 
 pub shape_of-stream : goal.shape_of-stream
 shape_of-stream c = c.loop-left.invariant.size

@@ -4,7 +4,7 @@ use Rattle.blocks.proofs.Transfers.{TransferLeft}
 use Rattle.block_writer.proofs.write_many.Given as goal
 
 abbrev pub invariant-loop-left : goal.invariant-loop-left
-invariant-loop-left l = TransferLeft writing (blocks_in l.b) l.to l.from «data» l.initial.stream (batch l.left l.b.info l.b.parity) l.into l.at l.stream
+invariant-loop-left l = TransferLeft writing (blocks_in l.b) l.to l.from l.«data» l.initial.stream (batch l.left l.b.info l.b.parity) l.into l.at l.stream
 
 abbrev pub decreases-loop-left : goal.decreases-loop-left
 decreases-loop-left l = l.left

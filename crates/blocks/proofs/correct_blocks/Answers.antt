@@ -10,7 +10,8 @@ use Rattle.blocks.proofs.correct_blocks.Goals as goal
 use Rattle.blocks.proofs.correct_blocks.Goals.{In-Corrected}
 
 -- the batch of a turn is corrected
-next : (c : In-Corrected) → let b = c.batch_of-b.result in
+next : (c : In-Corrected) →
+    let b = c.batch_of-b.result in
     BlocksLeft c.args.flags.now (shapes c.args.row.now) 0 c.args.stream.now (behind (c.loop-k.k + 1) c.args.row.now)
     (c.loop-k.at + b.count * (b.info + b.parity)) (c.loop-k.total + c.in-Corrected.n) c.correct_batch-r.new.stream
 next c = blocks_left_next c.loop-k.invariant _ _ (behind_next _ _ c.loop-k-test.true c.batch_of-b.result c.batch_of-b.ensures.is) _ _

@@ -9,10 +9,11 @@ use Rattle.blocks.proofs.correct_many_flagged.Goals as goal
 use Rattle.blocks.proofs.correct_many_flagged.Goals.{In-Corrected}
 
 -- the block of a turn is corrected
-next : (c : In-Corrected) → let b = c.args.b in
+next : (c : In-Corrected) →
+    let b = c.args.b in
     BlocksLeft c.args.flags.now (blocks_in b) c.args.from c.args.stream.now (batch (c.loop-left.left - 1) b.info b.parity)
     (c.loop-left.at + (b.info + b.parity)) (c.loop-left.n + c.in-Corrected.m) c.correct_flagged-r.new.stream
-next c = block_next _ _ _ c.loop-left.invariant c.loop-left-test.true _ c.correct_flagged-r.ensures c.in-Corrected.is c.correct_flagged-r.auto.1.1.0
+next c = block_next _ _ _ c.loop-left.invariant c.loop-left-test.true _ c.correct_flagged-r.ensures c.in-Corrected.is c.correct_flagged-r.auto.stream
 
 pub returns-then-b-eq0 : goal.returns-then-b-eq0
 returns-then-b-eq0 c = blocks_left_end (blocks_left_start _ _ _ _ c.requires.0) (batch_none _ _ _ (omega arith))

@@ -8,7 +8,8 @@ use Rattle.blocks.proofs.gather_batch.Goals as goal
 use Rattle.blocks.proofs.gather_batch.Goals.{After-struct_known-1}
 
 -- the data part of a turn's block is copied
-next : (c : After-struct_known-1) → let b = c.args.b in
+next : (c : After-struct_known-1) →
+    let b = c.args.b in
     TransferLeft gathering (blocks_in b) c.args.to c.args.from c.args.stream.now c.args.out.now
     (batch (c.loop-left.left - 1) b.info b.parity) (c.loop-left.into + b.info) (c.loop-left.at + (b.info + b.parity)) c.copy.new.dst
 unfolding transferred batch

@@ -8,7 +8,8 @@ use Rattle.blocks.proofs.gather_data.Goals as goal
 use Rattle.blocks.proofs.gather_data.Goals.{After-struct_known-1}
 
 -- the data of a turn's batch are gathered
-next : (c : After-struct_known-1) → let b = c.batch_of-b.result in
+next : (c : After-struct_known-1) →
+    let b = c.batch_of-b.result in
     TransferLeft gathering (shapes c.args.row.now) 0 0 c.args.stream.now c.args.out.now (behind (c.loop-k.k + 1) c.args.row.now)
     (c.loop-k.n + b.count * b.info) (c.loop-k.from + b.count * (b.info + b.parity)) c.gather_batch.new.out
 next c = batch_transferred _ _ c.loop-k.invariant c.loop-k-test.true

@@ -12,7 +12,8 @@ use Rattle.drawing.proofs.place_rows.Goals as goal
 use Rattle.drawing.proofs.place_rows.Goals.{In-loop-i}
 
 -- the row of a turn lies in the square, and that is small
-inside : (c : In-loop-i) → let side = c.args.side in
+inside : (c : In-loop-i) →
+    let side = c.args.side in
     (c.loop-i.i * side + side ≤ side * side) × (side * side ≤ side * 189)
 inside c = (row_inside _ _ c.loop-i-test.true, mul-le-mul_left _ c.requires.3)
 

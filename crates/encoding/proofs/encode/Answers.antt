@@ -7,15 +7,16 @@ use Rattle.encoding.proofs.encode.Goals as goal
 use Rattle.encoding.proofs.encode.Goals.{In-Eci, In-Run}
 
 -- the segment in front, where the command is one of modes 1 to 7
-next_run : (c : In-Run) → let v = c.next-1.given.0 in
-    (1 ≤ v.0) × (v.0 ≤ 7)
+next_run : (c : In-Run) →
+    (1 ≤ c.in-Run.mode) × (c.in-Run.mode ≤ 7)
     × Next c.args.script.now c.args.payload.now (length c.args.codewords.now) c.loop-i.codewords c.loop-i.i c.loop-i.j c.loop-i.at
-    (run v.0 (take v.1.0 (drop c.loop-i.j c.args.payload.now))) (command_size v.0) v.1.0
+    (run c.in-Run.mode (take c.in-Run.n (drop c.loop-i.j c.args.payload.now))) (command_size c.in-Run.mode) c.in-Run.n
 next_run c = run_next (omega arith) c.command_at-next.ensures c.loop-i.invariant.4 (λ q. omega (arith, c.type_inv.script q))
     c.in-Run.is
 
 -- and where it is an ECI
-next_eci : (c : In-Eci) → Next c.args.script.now c.args.payload.now (length c.args.codewords.now) c.loop-i.codewords c.loop-i.i c.loop-i.j c.loop-i.at (eci c.in-Eci.v) 4 0
+next_eci : (c : In-Eci) →
+    Next c.args.script.now c.args.payload.now (length c.args.codewords.now) c.loop-i.codewords c.loop-i.i c.loop-i.j c.loop-i.at (eci c.in-Eci.v) 4 0
 next_eci c = eci_next (omega arith) c.command_at-next.ensures c.loop-i.invariant.4 (λ q. omega (arith, c.type_inv.script q))
     c.in-Eci.is
 

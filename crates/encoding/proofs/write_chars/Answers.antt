@@ -7,14 +7,16 @@ use Rattle.encoding.proofs.write_chars.Goals as goal
 use Rattle.encoding.proofs.write_chars.Goals.{After-put-next, In-Other, In-Same}
 
 -- behind a character of the present subset or region, and behind one of the other
-same : (c : In-Same) → Behind c.args.run.now c.args.mode (c.loop-j.j + c.step-by.result) c.width-w.result c.args.buf.now c.args.from
+same : (c : In-Same) →
+    Behind c.args.run.now c.args.mode (c.loop-j.j + c.step-by.result) c.width-w.result c.args.buf.now c.args.from
     (words_of c.args.mode (begins_in c.args.mode) c.args.run.now) c.loop-j.buf c.loop-j.at
     (c.in-Same.c ∷ []) c.loop-j.first
 unfolding begins_in
 same c = same_words c.args.run.now c.args.mode c.loop-j.first c.loop-j.j c.character_at-g.ensures c.step-by.ensures.0 (omega arith)
     c.loop-j.invariant.2 c.loop-j.invariant.4 c.in-Same.is
 
-other : (c : In-Other) → Behind c.args.run.now c.args.mode (c.loop-j.j + c.step-by.result) c.width-w.result c.args.buf.now c.args.from
+other : (c : In-Other) →
+    Behind c.args.run.now c.args.mode (c.loop-j.j + c.step-by.result) c.width-w.result c.args.buf.now c.args.from
     (words_of c.args.mode (begins_in c.args.mode) c.args.run.now) c.loop-j.buf c.loop-j.at
     (switch_of c.args.mode ∷ c.in-Other.c ∷ []) (not c.loop-j.first)
 unfolding begins_in
@@ -22,9 +24,13 @@ other c = other_words c.args.run.now c.args.mode c.loop-j.first c.loop-j.j c.cha
     c.loop-j.invariant.2 c.loop-j.invariant.4 c.in-Other.is
 
 -- the switch is written
-switched : (c : After-put-next) → WordsLeft c.width-w.result c.args.buf.now c.args.from (words_of c.args.mode (begins_in c.args.mode) c.args.run.now) c.put-next.new.buf c.put-next.result
+switched : (c : After-put-next) →
+    WordsLeft c.width-w.result c.args.buf.now c.args.from (words_of c.args.mode (begins_in c.args.mode) c.args.run.now) c.put-next.new.buf c.put-next.result
     (c.in-Other.c ∷ words_of c.args.mode (not c.loop-j.first) (drop (c.loop-j.j + c.step-by.result) c.args.run.now))
-switched c = word_done (other c.before.before.before).words_left (rw c.switch_word.ensures at c.put-next.ensures)
+unfolding begins_in
+switched c =
+    word_done (other_words c.args.run.now c.args.mode c.loop-j.first c.loop-j.j c.character_at-g.ensures c.step-by.ensures.0 (omega arith)
+    c.loop-j.invariant.2 c.loop-j.invariant.4 c.in-Other.is).words_left (rw c.switch_word.ensures at c.put-next.ensures)
 
 pub loop-j-init : goal.loop-j-init
 unfolding begins_in

@@ -7,17 +7,21 @@ use Rattle.encoding.proofs.write_groups.Goals as goal
 use Rattle.encoding.proofs.write_groups.Goals.{Else-left-eq2, In-loop-j, Then-left-eq1, Then-left-eq2}
 
 -- three digits are left, or one, or two, or none
-three : (c : In-loop-j) → WordsLeft 10 c.args.buf.now c.args.from (numeric_words c.args.run.now) c.loop-j.buf c.loop-j.at (group_at c.args.run.now c.loop-j.j ∷ numeric_words (drop (c.loop-j.j + 3) c.args.run.now))
+three : (c : In-loop-j) →
+    WordsLeft 10 c.args.buf.now c.args.from (numeric_words c.args.run.now) c.loop-j.buf c.loop-j.at (group_at c.args.run.now c.loop-j.j ∷ numeric_words (drop (c.loop-j.j + 3) c.args.run.now))
 three c = words_left_as (three_digits c.args.run.now c.loop-j.j (omega arith)) c.loop-j.invariant.2
 
-one : (c : Then-left-eq1) → WordsLeft 10 c.args.buf.now c.args.from (numeric_words c.args.run.now) c.loop-j.buf c.loop-j.at ((get_or c.args.run.now c.loop-j.j 0 - 48) ∷ 1021 ∷ [])
+one : (c : Then-left-eq1) →
+    WordsLeft 10 c.args.buf.now c.args.from (numeric_words c.args.run.now) c.loop-j.buf c.loop-j.at ((get_or c.args.run.now c.loop-j.j 0 - 48) ∷ 1021 ∷ [])
 one c = words_left_as (one_digit c.args.run.now c.loop-j.j (omega arith)) c.loop-j.invariant.2
 
-two : (c : Then-left-eq2) → WordsLeft 10 c.args.buf.now c.args.from (numeric_words c.args.run.now) c.loop-j.buf c.loop-j.at
+two : (c : Then-left-eq2) →
+    WordsLeft 10 c.args.buf.now c.args.from (numeric_words c.args.run.now) c.loop-j.buf c.loop-j.at
     (((get_or c.args.run.now c.loop-j.j 0 - 48) * 10 + (get_or c.args.run.now (c.loop-j.j + 1) 0 - 48)) ∷ 1022 ∷ [])
 two c = words_left_as (two_digits c.args.run.now c.loop-j.j (omega arith)) c.loop-j.invariant.2
 
-none : (c : Else-left-eq2) → WordsLeft 10 c.args.buf.now c.args.from (numeric_words c.args.run.now) c.loop-j.buf c.loop-j.at (1023 ∷ [])
+none : (c : Else-left-eq2) →
+    WordsLeft 10 c.args.buf.now c.args.from (numeric_words c.args.run.now) c.loop-j.buf c.loop-j.at (1023 ∷ [])
 none c = words_left_as (no_digit c.args.run.now c.loop-j.j (omega arith)) c.loop-j.invariant.2
 
 pub loop-j-init : goal.loop-j-init

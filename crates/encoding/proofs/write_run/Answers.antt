@@ -10,16 +10,19 @@ use Rattle.encoding.proofs.write_run.Goals as goal
 use Rattle.encoding.proofs.write_run.Goals.{After-put-at, Else-mode-eq-FOUR_BYTE, Then-mode-eq-BYTES}
 
 -- room behind the mode
-room : (c : After-put-at) → c.put-at.result + length (mode_bits c.args.mode c.args.chars.now) ≤ 8 * length c.put-at.new.buf
+room : (c : After-put-at) →
+    c.put-at.result + length (mode_bits c.args.mode c.args.chars.now) ≤ 8 * length c.put-at.new.buf
 room c = let k = c.put-at.auto.buf in
     rw k (rest_room (mode_bits c.args.mode c.args.chars.now) (8 * length c.args.buf.now) c.put-at.ensures c.requires.4)
 
 -- the bits of bytes
-bytes : (c : Then-mode-eq-BYTES) → mode_bits c.args.mode c.args.chars.now ≡ low_bits 13 (length c.args.chars.now) ++ word_bits 8 c.args.chars.now
+bytes : (c : Then-mode-eq-BYTES) →
+    mode_bits c.args.mode c.args.chars.now ≡ low_bits 13 (length c.args.chars.now) ++ word_bits 8 c.args.chars.now
 bytes c = bytes_bits c.args.mode c.args.chars.now c.if-mode-eq-BYTES.true
 
 -- the other modes are those of characters
-chars : (c : Else-mode-eq-FOUR_BYTE) → (mode_bits c.args.mode c.args.chars.now ≡ word_bits (width_of c.args.mode) (words_of c.args.mode (begins_in c.args.mode) c.args.chars.now))
+chars : (c : Else-mode-eq-FOUR_BYTE) →
+    (mode_bits c.args.mode c.args.chars.now ≡ word_bits (width_of c.args.mode) (words_of c.args.mode (begins_in c.args.mode) c.args.chars.now))
     × (mode_has c.args.mode c.args.chars.now ≡ has_all c.args.mode c.args.chars.now)
 chars c = char_bits c.args.mode c.args.chars.now c.requires.1 c.requires.2 c.if-mode-eq-NUMERIC.false c.if-mode-eq-BYTES.false c.if-mode-eq-FOUR_BYTE.false
 

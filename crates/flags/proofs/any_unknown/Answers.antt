@@ -4,7 +4,7 @@ use lib.Bits.{and_le_l, or_add_and}
 use Rattle.flags.proofs.any_unknown.Goals as goal
 
 pub loop-i-init : goal.loop-i-init
-loop-i-init c = absurd (omega arith)
+loop-i-init c = λ k a b. absurd (omega arith)
 
 pub loop-i-preserved : goal.loop-i-preserved
 loop-i-preserved c =

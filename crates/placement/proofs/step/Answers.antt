@@ -11,7 +11,7 @@ pub push-requires : goal.push-requires
 push-requires c = (c.requires.1, omega arith, c.gather.ensures.small, omega (arith, c.requires.0.masked.side, lowest_size c.requires.0))
 
 pub returns-then-k-eq0 : goal.returns-then-k-eq0
-returns-then-k-eq0 c =    
+returns-then-k-eq0 c =
     let kinds = eight_zero _
     (sym c.eight-k.ensures ∙ c.if-k-eq0.true) in
     let bits = unmasked_is c.requires.0 _ c.modules-x.ensures
@@ -27,13 +27,13 @@ pub advance-requires : goal.advance-requires
 advance-requires c = (c.requires.1, omega arith, omega arith, omega (arith, c.requires.0.masked.side, lowest_size c.requires.0))
 
 pub returns : goal.returns
-returns c =    
+returns c =
     let sq = c.args.square.now in
     let row = c.args.row.now in
     let at = c.args.r.column in
     let m = c.advance.ensures.1.go _ sq row _ (record {
       aligned = c.requires.0;
-      c.type_inv.kinds = λ i. omega (arith, c.type_inv.kinds i);
+      bytes = λ i. omega (arith, c.type_inv.kinds i);
       kinds = c.eight-k.ensures;
       inside = c.requires.2;
       modules = c.modules-x.ensures;

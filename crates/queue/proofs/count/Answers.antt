@@ -7,7 +7,8 @@ use Rattle.queue.proofs.count.Goals as goal
 use Rattle.queue.proofs.count.Goals.{After-refusal}
 
 -- what was answered for the entry
-answered : (c : After-refusal) → c.refusal.result ≡ entry_refusal (front c.loop-n.n c.args.state.now) (here _ _ c.loop-n.invariant c.requires)
+answered : (c : After-refusal) →
+    c.refusal.result ≡ entry_refusal (front c.loop-n.n c.args.state.now) (here _ _ c.loop-n.invariant c.requires)
 answered c = rw (c.wide.ensures, c.wide-in-loop-n.ensures) at c.refusal.ensures
 
 pub loop-n-init : goal.loop-n-init

@@ -8,7 +8,8 @@ use Rattle.queue.proofs.hand_in.Goals as goal
 use Rattle.queue.proofs.hand_in.Goals.{After-refusal-number, Else-number-ne0}
 
 -- what was answered is the refusal behind the queue
-answered : (c : After-refusal-number) → c.refusal-number.result ≡ entry_refusal (queue_of c.args.state.now) (waiting c.args.head c.args.side)
+answered : (c : After-refusal-number) →
+    c.refusal-number.result ≡ entry_refusal (queue_of c.args.state.now) (waiting c.args.head c.args.side)
 answered c = rw c.count-n.ensures.is c.refusal-number.ensures
 
 -- nothing refuses the head

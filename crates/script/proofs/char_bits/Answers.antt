@@ -24,13 +24,13 @@ pub overflow_add-j : goal.overflow_add-j
 unfolding begins_in
 overflow_add-j c = omega arith
 
-pub loop-j-smaller-in-Same : goal.loop-j-smaller-in-Same
-loop-j-smaller-in-Same c = let t = (loop_again c).room in omega arith
-
 pub loop-j-preserved-in-Same : goal.loop-j-preserved-in-Same
 loop-j-preserved-in-Same c =
     let s = c.step-by.ensures in
     counted_same c.loop-j.invariant _ c.character_at-g.ensures s.0 s.1 c.in-Same.is
+
+pub loop-j-smaller-in-Same : goal.loop-j-smaller-in-Same
+loop-j-smaller-in-Same c = let t = (loop-j-preserved-in-Same c).room in omega arith
 
 pub overflow_add-words-in-Other : goal.overflow_add-words-in-Other
 unfolding begins_in
@@ -40,13 +40,13 @@ pub overflow_add-j-in-Other : goal.overflow_add-j-in-Other
 unfolding begins_in
 overflow_add-j-in-Other c = omega arith
 
-pub loop-j-smaller : goal.loop-j-smaller
-loop-j-smaller c = let t = (loop_again_2 c).room in omega arith
-
 pub loop-j-preserved : goal.loop-j-preserved
 loop-j-preserved c =
     let s = c.step-by.ensures in
     counted_other c.loop-j.invariant _ c.character_at-g.ensures s.0 s.1 c.in-Other.is
+
+pub loop-j-smaller : goal.loop-j-smaller
+loop-j-smaller c = let t = (loop-j-preserved c).room in omega arith
 
 pub returns-in-Lacking : goal.returns-in-Lacking
 returns-in-Lacking c = (counted_lacks c.loop-j.invariant c.character_at-g.result c.character_at-g.ensures c.in-Lacking.is, tt)

@@ -8,14 +8,12 @@ use Rattle.script.proofs.check_script.Goals as goal
 use Rattle.script.proofs.check_script.Goals.{After-run_bits-cost, In-Eci, In-Run}
 
 -- what the command has
-bounds : (c : In-Run) → let v = c.next-1.given.0 in
-    (1 ≤ v.0) × (v.0 ≤ 7) × (v.1.0 < 65536) × (c.loop-i.i + command_size v.0 ≤ length c.args.script.now)
+bounds : (c : In-Run) → (1 ≤ c.in-Run.mode) × (c.in-Run.mode ≤ 7) × (c.in-Run.n < 65536) × (c.loop-i.i + command_size c.in-Run.mode ≤ length c.args.script.now)
 bounds c = run_bounds c.args.script.now c.loop-i.i (λ i. omega (arith, c.type_inv.script i)) (omega arith) c.command_at-next.result c.command_at-next.ensures
     c.in-Run.mode c.in-Run.n c.in-Run.is
 
 -- the bits of the run are those of its bytes
-cost : (c : After-run_bits-cost) → let v = c.next-1.given.0 in
-    c.run_bits-cost.result ≡ cost_of v.0 (take v.1.0 (drop c.loop-i.j c.args.payload.now))
+cost : (c : After-run_bits-cost) → c.run_bits-cost.result ≡ cost_of c.in-Run.mode (take c.in-Run.n (drop c.loop-i.j c.args.payload.now))
 cost c = let n = c.in-Run.n in
     let z : c.loop-i.j + n - c.loop-i.j ≡ n = omega arith in
     rw z at c.run_bits-cost.ensures.0

@@ -8,7 +8,8 @@ use Rattle.writer.proofs.write_square.Goals as goal
 use Rattle.writer.proofs.write_square.Goals.{In-Word}
 
 -- version, level and mask are in their ranges, and the word is theirs
-made : (c : In-Word) → ValidMark (record { version = c.args.version; level = c.args.level; mask = c.args.mask; word = c.in-Word.word })
+made : (c : In-Word) →
+    ValidMark (record { version = c.args.version; level = c.args.level; mask = c.args.mask; word = c.in-Word.word })
 made c = valid _ _ _ _ c.info_bits.ensures _ c.in-Word.is
 
 pub returns-in_default : goal.returns-in_default

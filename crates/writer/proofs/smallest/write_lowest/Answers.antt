@@ -12,7 +12,7 @@ pub write_front-number-requires : goal.write_front-number-requires
 write_front-number-requires c = candidate_fits _ _ _ _ c.requires.0 c.requires.2 _ c.loop-version.invariant.0 (omega (arith, c.loop-version-test.true))
 
 pub shape_of-square-then-number-eq0 : goal.shape_of-square-then-number-eq0
-shape_of-square-then-number-eq0 c = c.write_front-number.auto.1.1.1.1.1.0 ∙ ap length c.loop-version.invariant.1
+shape_of-square-then-number-eq0 c = c.write_front-number.auto.square ∙ ap length c.loop-version.invariant.1
 
 pub returns-then-number-eq0 : goal.returns-then-number-eq0
 returns-then-number-eq0 c =
@@ -21,7 +21,7 @@ returns-then-number-eq0 c =
     ∙ ap (smallest_of c.args.level c.args.mask c.args.script.now c.args.payload.now) c.loop-version.invariant.1
 
 pub shape_of-square-then-number-ne1 : goal.shape_of-square-then-number-ne1
-shape_of-square-then-number-ne1 c = c.write_front-number.auto.1.1.1.1.1.0 ∙ ap length c.loop-version.invariant.1
+shape_of-square-then-number-ne1 c = c.write_front-number.auto.square ∙ ap length c.loop-version.invariant.1
 
 pub returns-then-number-ne1 : goal.returns-then-number-ne1
 returns-then-number-ne1 c =
