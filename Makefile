@@ -49,7 +49,7 @@ all: $(archive) $(shared) $(addprefix $(BUILD)/lib/,$(links)) $(program)
 # is built can be installed where there is no rt, or as root. Another build of the proved functions may be older than what was made
 # from a third one, so with PROVED it is called each time.
 ifeq ($(PROVED),)
-$(archive): $(shell find crates -name '*.rt' -o -name '*.antt') crates.txt include/han_xin.h c/words.c c/library
+$(archive): $(shell find crates -name out -prune -o -name '*.rt' -print -o -name '*.antt' -print) crates.txt include/han_xin.h c/words.c c/library
 	c/library $(if $(filter-out target,$(BUILD)),&& mkdir -p $(@D) && cp target/lib/libhan_xin.a $@)
 else
 $(archive): always

@@ -1,6 +1,6 @@
 //! Copies the two original Rust files, byte for byte, into OUT_DIR, each followed by accessors for what is private in it,
-//! and links the static libraries that `rt staticlib` made of the crates `comparison` and `han_xin`.
-//! HAN_XIN_RUST names the folder of the originals, HAN_XIN_LIB that of the static libraries.
+//! and links the static libraries that `rt lib` made of the crates `comparison` and `han_xin`.
+//! HAN_XIN_RUST names the folder of the originals, HAN_XIN_LIB one that has both static libraries, if not each crate's own.
 use std::{env, fs, path::Path};
 
 const LIBRARIES: [&str; 2] = ["comparison", "han_xin"];
@@ -52,7 +52,6 @@ fn main() {
     let here = env::var("CARGO_MANIFEST_DIR").unwrap();
     let rust = env::var("HAN_XIN_RUST")
         .unwrap_or(format!("{here}/../../shared/docs/src/multiformat/src"));
-    let lib = env::var("HAN_XIN_LIB").unwrap_or(format!("{here}/../target/staticlib"));
     let out = env::var("OUT_DIR").unwrap();
     println!("cargo:rerun-if-env-changed=HAN_XIN_RUST");
     println!("cargo:rerun-if-env-changed=HAN_XIN_LIB");
@@ -65,8 +64,9 @@ fn main() {
         modules += &format!("#[path = \"{out}/{name}.rs\"]\npub mod {name};\n");
     }
     fs::write(Path::new(&out).join("original.rs"), modules).unwrap();
-    println!("cargo:rustc-link-search=native={lib}");
     for name in LIBRARIES {
+        let lib = env::var("HAN_XIN_LIB").unwrap_or(format!("{here}/../crates/{name}/out"));
+        println!("cargo:rustc-link-search=native={lib}");
         println!("cargo:rerun-if-changed={lib}/lib{name}.a");
         println!("cargo:rustc-link-lib=static={name}");
     }
