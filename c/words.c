@@ -7,7 +7,7 @@ const char *hx_refusal_words(hx_status status)
     switch (status) {
     case HX_OK: return "no refusal";
     case HX_REFUSED_RANGE: return "side, version, level or mask is out of range";
-    case HX_REFUSED_LENGTH: return "receipt or queue not 12 bytes long, square not side x side, or too short for the mark";
+    case HX_REFUSED_LENGTH: return "the receipt is not 12 bytes long, or the square not side x side, or too short for the mark";
     case HX_REFUSED_MODULE: return "a byte of the square is above 2";
     case HX_REFUSED_INFORMATION: return "more than 10 information modules differ from those of every level and mask";
     case HX_REFUSED_BLOCK: return "a block has more wrong codewords than can be repaired";
