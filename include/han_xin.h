@@ -167,7 +167,7 @@ typedef struct {
 enum hx_refusal {
     HX_OK = 0,                   /* no refusal */
     HX_REFUSED_RANGE = 1,        /* side, version, level or mask is out of range */
-    HX_REFUSED_LENGTH = 2,       /* receipt or queue not 12 bytes long, square not side x side, or too short for the mark */
+    HX_REFUSED_LENGTH = 2,       /* the receipt is not 12 bytes long, or the square not side x side, or too short for the mark */
     HX_REFUSED_MODULE = 3,       /* a byte of the square is above 2 */
     HX_REFUSED_INFORMATION = 4,  /* more than 10 information modules differ from those of every level and mask */
     HX_REFUSED_BLOCK = 6,        /* a block has more wrong codewords than can be repaired */
