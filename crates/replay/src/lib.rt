@@ -1,14 +1,15 @@
 // What the programs that replay recorded answers share: a list read whole, and bytes in hexadecimal.
 #![tactic(auto)]
 
-ghost use Rattle.std.specs.Prelude.{◌≤◌, length, IfOk};
+ghost use Rattle.std.specs.Prelude.{◌≡◌, ◌≤◌, length, IfOk, OnErr};
 
 use std::io::{self, Read, Write};
 
 // Reads until the buffer is full or the input ends, and returns how many bytes it put at the start of the buffer. An error is the input's own,
 // and leaves there what was read before it; a read that a signal interrupts counts as one that failed.
 pub fn read_full<R: Read>(input: &mut R, buffer: &mut [u8]) -> io::Result<usize>
-    ensures { IfOk result (λ n. n ≤ length buffer.new) }
+    ensures ok { IfOk result (λ n. n ≤ length buffer.new) }
+    ensures err { OnErr result (length buffer.new ≡ length buffer.old) }
 {
     let mut done = 0;
     while done < buffer.len() {

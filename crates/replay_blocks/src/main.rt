@@ -3,7 +3,7 @@
 // Rust's answers.
 #![tactic(auto)]
 
-ghost use Rattle.std.specs.Prelude.{◌≤◌, ◌<◌, length, IfOk};
+ghost use Rattle.std.specs.Prelude.{◌≡◌, ◌≤◌, ◌<◌, length, IfOk, OnErr};
 
 use corrector::Correction;
 use std::io::{self, Write};
@@ -45,7 +45,8 @@ fn one<W: Write>(out: &mut W, block: &mut [u8], parity: usize) -> io::Result<()>
 // the record's block is as it was corrected.
 fn next<W: Write>(out: &mut W, list: &mut [u8], at: usize) -> io::Result<usize>
     requires { (at < length list.old) × (length list.old ≤ 65536) }
-    ensures { IfOk result (λ to. (at < to) × (to ≤ length list.old)) }
+    ensures ok { IfOk result (λ to. (at < to) × (to ≤ length list.old)) }
+    ensures err { OnErr result (length list.new ≡ length list.old) }
 {
     let n = list.len();
     if n - at < 4 {
