@@ -7,7 +7,7 @@ use Rattle.blocks.proofs.Corrects.{without_flags}
 use Rattle.blocks.proofs.correct_batch.Goals as goal
 
 pub correct_many_flagged-requires : goal.correct_many_flagged-requires
-correct_many_flagged-requires c = (c.requires.2, c.requires.3.enough (omega (arith, c.if-flags-ne0.true)))
+correct_many_flagged-requires c = (c.requires.2, c.requires.3.enough (omega arith))
 
 pub correct_one-requires : goal.correct_one-requires
 correct_one-requires c = let b = c.args.b in
@@ -17,7 +17,7 @@ correct_one-requires c = let b = c.args.b in
 pub returns-then-is_one_short : goal.returns-then-is_one_short
 returns-then-is_one_short c =
     rw (only_is c.args.b (c.is_one_short.ensures c.if-is_one_short.true))
-    (without_flags _ c.if-flags-ne0.false c.correct_one.ensures)
+    (without_flags _ (omega arith) c.correct_one.ensures)
 
 pub returns : goal.returns
-returns c = without_flags _ c.if-flags-ne0.false c.correct_many.ensures
+returns c = without_flags _ (omega arith) c.correct_many.ensures
