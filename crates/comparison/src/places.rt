@@ -75,6 +75,7 @@ fn search_often(
 // The values of a locator f of length l at the degrees from 0 up, one for each byte of e. 2, and nothing written, where the locator has not 256
 // bytes, its length is above 255 or e has more than 256 bytes. They are found again so many times, so that a benchmark can tell the search from
 // the copy of the field's table.
+#[tactic(auto, unfolding(crate::specs::Places::search_of))]
 #[unsafe(no_mangle)]
 pub extern "C" fn hx_places(f: &[u8], l: usize, e: &mut [u8], afresh: usize, again: usize) -> usize
     ensures { searched result e.new ≡ search_of f.now l e.old }

@@ -76,3 +76,8 @@ module _ (sq : List ℕ) (side : ℕ) where
   pub right_square : length sq ≡ side * side → are_modules sq ≡ true → 0 ≡ first_refusal (unless (eqb (length sq) (side * side)) 2 ∷ rest)
   unfolding first_refusal
   right_square e f = sym (sized e ∙ first_skips (unless (are_modules sq) 3) [] (unless_true (are_modules sq) 3 f))
+
+-- the refusal 3, by the greatest byte
+pub high_byte : (sq : List ℕ) (side r : ℕ) → GreatestByte sq r → length sq ≡ side * side → 2 < r →
+    3 ≡ first_refusal (unless (eqb (length sq) (side * side)) 2 ∷ unless (are_modules sq) 3 ∷ [])
+high_byte sq side r G e h = wrong_byte sq side e (not_modules sq r G h)

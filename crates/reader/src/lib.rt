@@ -39,6 +39,7 @@ pub struct Looked {
 }
 
 // 2 if the square has not side × side bytes, 3 if a byte is above 2, else 0.
+#[tactic(auto, using(crate::proofs::Bytes::high_byte, crate::proofs::Bytes::told))]
 fn look_at(square: &[u8], side: usize) -> Looked
     requires { side ≤ 189 }
     ensures { (result.refusal ≡ first_refusal (unless (eqb (length square.now) (side * side)) 2 ∷ unless (are_modules square.now) 3 ∷ []))

@@ -43,6 +43,7 @@ fn read_span(out: &mut [u8], square: &[u8], mask: usize, to: usize, first: Run) 
 }
 
 // How many modules at either end of a row are no data, where there are no alignment patterns.
+#[tactic(auto, using(crate::proofs::Margins::margin_near, crate::proofs::Margins::margin_far, crate::proofs::Margins::margin_none))]
 fn margin(side: usize, row: usize) -> usize
     requires { row < 189 }
     ensures { Margin side row result }

@@ -2,6 +2,7 @@
 ghost use Rattle.std.specs.Prelude.{◌≡◌, [], ◌∷◌, ◌+◌, ◌<◌, ◌≤◌, length, take};
 ghost use Rattle.symbol.specs.Layout.{data_modules};
 
+#[tactic(auto, using(crate::proofs::DataModules::module_hit, crate::proofs::DataModules::module_miss), unfolding(crate::specs::Layout::data_modules))]
 fn data_module(kind: u8) -> u8
     ensures { (result ≡ data_modules (kind ∷ [])) × (result ≤ 1) }
 {

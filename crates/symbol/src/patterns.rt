@@ -81,6 +81,7 @@ fn line_module(grid: &mut [u8], side: usize, x: i64, y: i64)
 }
 
 // What a place holds after a kind was drawn there: what is no longer data stays.
+#[tactic(auto, unfolding(crate::specs::Inner::drawn))]
 fn drawn(old: u8, kind: u8) -> u8
     ensures { result ≡ drawn old kind }
 {

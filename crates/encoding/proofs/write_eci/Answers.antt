@@ -17,7 +17,7 @@ put-at-requires c = (omega arith, first_room 4 8 _ _ _ c.requires.1, omega arith
 pub put-requires : goal.put-requires
 put-requires c =
     let v = c.args.v in
-    let r = rw (eci_7 v c.if-v-lt128.true, length_low) at (room (goal.at.put-requires c).After-put-at) in
+    let r = rw (eci_7 v (omega arith), length_low) at (room (goal.at.put-requires c).After-put-at) in
     (omega arith, omega arith, omega arith)
 
 pub returns-then-v-lt128 : goal.returns-then-v-lt128
@@ -26,17 +26,17 @@ returns-then-v-lt128 c = rw (eci_7 _ c.if-v-lt128.true) (written_both c.put-at.e
 pub put-requires-then-v-lt16384 : goal.put-requires-then-v-lt16384
 put-requires-then-v-lt16384 c =
     let v = c.args.v in
-    let r = rw (eci_14 v c.if-v-lt128.false c.if-v-lt16384.true, length_low) at (room (goal.at.put-requires-then-v-lt16384 c).After-put-at) in
+    let r = rw (eci_14 v (omega arith) c.if-v-lt16384.true, length_low) at (room (goal.at.put-requires-then-v-lt16384 c).After-put-at) in
     (omega arith, omega arith, omega arith)
 
 pub returns-then-v-lt16384 : goal.returns-then-v-lt16384
-returns-then-v-lt16384 c = rw (eci_14 _ c.if-v-lt128.false c.if-v-lt16384.true) (written_both c.put-at.ensures c.put-then-v-lt16384.ensures)
+returns-then-v-lt16384 c = rw (eci_14 _ (omega arith) c.if-v-lt16384.true) (written_both c.put-at.ensures c.put-then-v-lt16384.ensures)
 
 pub put-requires-2 : goal.put-requires-2
 put-requires-2 c =
     let v = c.args.v in
-    let r = rw (eci_21 v c.if-v-lt128.false c.if-v-lt16384.false, length_low) at (room (goal.at.put-requires-2 c).After-put-at) in
+    let r = rw (eci_21 v (omega arith) c.if-v-lt16384.false, length_low) at (room (goal.at.put-requires-2 c).After-put-at) in
     (omega arith, omega arith, omega arith)
 
 pub returns : goal.returns
-returns c = rw (eci_21 _ c.if-v-lt128.false c.if-v-lt16384.false) (written_both c.put-at.ensures c.put-2.ensures)
+returns c = rw (eci_21 _ (omega arith) c.if-v-lt16384.false) (written_both c.put-at.ensures c.put-2.ensures)

@@ -28,6 +28,6 @@ pub returns : goal.returns
 returns c =
     let up_to_lem = c.requires.0 in
     rw (c.mark.ensures, number (goal.at.returns c).After-run_modules) (
-      flags_marked up_to_lem c.requires.3 c.if-kinds-i-ne0.false (omega (arith, up_to_lem.given.modules c.args.i)),
+      flags_marked up_to_lem c.requires.3 (omega arith) (omega (arith, up_to_lem.given.modules c.args.i)),
       length-set c.args.flags.now _ _,
     )

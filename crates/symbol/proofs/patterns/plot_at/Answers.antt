@@ -35,4 +35,4 @@ bounds-grid-i-2 c = omega (arith, inside (goal.at.bounds-grid-i-2 c).Start)
 
 pub returns : goal.returns
 unfolding plot_all
-returns c = record { is = plot_set _ _ _ _ _ _ (place (goal.at.returns c).Start) (inside (goal.at.returns c).Start) c.if-grid-i-ne0.false }
+returns c = record { is = plot_set _ _ _ _ _ _ (place (goal.at.returns c).Start) (inside (goal.at.returns c).Start) (omega arith) }
