@@ -79,16 +79,27 @@ static size_t touched(void *(*run)(void *))
     return SIZE - untouched;
 }
 
-/* Measures a call, whose answer must be `expected`; answers 1 if it needs more than the header says. */
-static int measure(const char *name, void *(*run)(void *), hx_status expected)
+/* Says what a call needed, whose answer must be `expected`; answers 1 if that is more than the header says. */
+static int report(const char *name, size_t bytes, hx_status expected)
 {
-    size_t with = touched(run), without = touched(nothing);
-    size_t bytes = with > without ? with - without : 0; /* a byte that is written may have the colour of the paint */
     printf("  %-64s %7zu bytes of stack\n", name, bytes);
     if (answer == expected && bytes <= HX_SIZE_STACK)
         return 0;
     printf("failed: it answers %zu, not %zu, or needs more than %u bytes\n", answer, expected, HX_SIZE_STACK);
     return 1;
+}
+
+/* Measures a call. */
+static int measure(const char *name, void *(*run)(void *), hx_status expected)
+{
+    return report(name, touched(run) - touched(nothing), expected);
+}
+
+/* Measures a call that needs hardly more than none: a byte that is written may have the colour of the paint. */
+static int measure_small(const char *name, void *(*run)(void *), hx_status expected)
+{
+    size_t with = touched(run), without = touched(nothing);
+    return report(name, with > without ? with - without : 0, expected);
 }
 
 /* Data of region one in which every word is a switch to the other region: the two functions call each other each time. */
@@ -156,7 +167,7 @@ int main(void)
     failed |= measure("hx_write_square, 1,087 switches of region", writes_square, HX_OK);
     failed |= measure("hx_write_smallest, the same", writes_smallest, HX_OK);
     failed |= measure("hx_read_square, what was written", reads_square, HX_OK);
-    failed |= measure("hx_queue_hand_in, five wait", hands_in, HX_OK);
-    failed |= measure("hx_queue_turn, six wait", turns, HX_OK);
+    failed |= measure_small("hx_queue_hand_in, five wait", hands_in, HX_OK);
+    failed |= measure_small("hx_queue_turn, six wait", turns, HX_OK);
     return failed;
 }
